@@ -1,0 +1,4 @@
+//! Registers: the words that bits are addressed in.
+#![tactic(auto)]
+
+pub mod mem;
