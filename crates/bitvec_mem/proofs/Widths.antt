@@ -4,7 +4,7 @@ use Rattle.std.specs.Int.Count.{ones}
 use Rattle.std.proofs.lemmas.Nat.{or_lt, xor_lt}
 use Rattle.std.specs.Int.Bits.{bit_or, bit_xor}
 use Rattle.bitvec_mem.specs.Digit.{digit, count_below}
-use Rattle.bitvec_mem.proofs.Digits.{digit_rules, digit-not, digit-shl_low, digit-shl_high, digit-shr, digit_above, ones-count_below}
+use Rattle.bitvec_mem.proofs.DigitLemmas.{digit_rules, digit-not, digit-shl_low, digit-shl_high, digit-shr, digit_above, ones-count_below}
 
 pub or_below_8 : (a b : ℕ) → a < 256 → b < 256 → bit_or a b < 256
 or_below_8 = or_lt 8

@@ -1,4 +1,5 @@
-//! Registers: the words that bits are addressed in.
+//! Registers, the words that bits are addressed in, and the digits that texts print.
 #![tactic(auto)]
 
+pub mod digits;
 pub mod mem;

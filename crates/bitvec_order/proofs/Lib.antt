@@ -1,0 +1,3 @@
+pub mod MaskLemmas
+pub mod Ranges
+pub mod Steps

@@ -1,0 +1,4 @@
+pub mod Index
+pub mod Order
+pub mod OrderLemmas
+pub use Rattle.bitvec_mem.specs.Digit

@@ -1,0 +1,471 @@
+//! Indices, ends, positions, selectors and masks of a register's bits.
+//!
+//! An index is a place in an order, from 0 to before the width; an order takes it to a position, the
+//! place of a digit in the number. A selector is the power of two of a position, and a mask is a set
+//! of positions, each as a number of the register.
+
+ghost use Rattle.std.specs.Prelude.{pos, ◌+ℤ◌, ◌≡◌, ℕ, ◌+◌, ◌-◌, ◌*◌, ◌/◌, ◌%◌, ◌^◌, ◌<◌, ◌≤◌, ◌↔◌, ◌||◌, IsOk, IsErr, IsSome, IsNone, IfOk, IfErr, IfSome, IsTrue};
+ghost use Rattle.std.specs.Int.{w64, int_wrap, int_div_euclid, int_rem_euclid};
+ghost use Rattle.bitvec_order.specs.Index.{HasOneDigit};
+ghost use Rattle.bitvec_mem.specs.Digit.{digit};
+
+use bitvec_mem::mem::BitRegister;
+use std::alloc::AllocError;
+use std::marker::{Model, PhantomData};
+
+pub mod range;
+
+/// The least and the greatest value of a type.
+///
+/// A constant of a generic type can say its value in a contract only as the item of a trait, so
+/// `BitIdx::MIN` and the like are read with this trait in scope.
+pub trait Limits: Sized {
+    /// The least value.
+    const MIN: Self;
+
+    /// The greatest value.
+    const MAX: Self;
+
+    ghost MIN: { Self };
+
+    ghost MAX: { Self };
+}
+
+/// The index of a bit in a register, from 0 to `MASK`.
+#[derive(Clone, Copy, PartialEq, Eq, PartialOrd, Ord, Hash, Default)]
+pub struct BitIdx<R: BitRegister = usize> {
+    idx: u8,
+    register: PhantomData<R>,
+}
+
+impl<R: BitRegister> Model for BitIdx<R> {
+    ghost Value = { ℕ };
+
+    ghost view = { λ s. s.idx };
+
+    ghost invariant = { λ s. s.idx < R.BITS };
+
+    ghost inverse = { λ n. record { idx = n; register = record {} } };
+}
+
+impl<R: BitRegister> Limits for BitIdx<R> {
+    const MIN: Self = BitIdx {
+        idx: 0,
+        register: PhantomData,
+    };
+
+    const MAX: Self = BitIdx {
+        idx: R::MASK,
+        register: PhantomData,
+    };
+
+    ghost MIN = { 0 };
+
+    ghost MAX = { R.BITS - 1 };
+}
+
+impl<R: BitRegister> BitIdx<R> {
+    /// The index `idx`; refuses a number that is not below the width, and the error holds it.
+    ///
+    /// As in the Rust crate.
+    pub fn new(idx: u8) -> Result<Self, BitIdxError<R>>
+        ensures accepted { IsOk result ↔ (idx < R.BITS) }
+        ensures refused { IsErr result ↔ (R.BITS ≤ idx) }
+        ensures value { IfOk result (λ index. index ≡ idx) }
+        ensures error { IfErr result (λ error. error ≡ idx) }
+    {
+        if idx < R::BITS {
+            Ok(BitIdx {
+                idx,
+                register: PhantomData,
+            })
+        } else {
+            Err(BitIdxError {
+                err: idx,
+                register: PhantomData,
+            })
+        }
+    }
+
+    /// The index `idx`, which is below the width: `new` is the test.
+    pub fn new_unchecked(idx: u8) -> Self
+        requires { idx < R.BITS }
+        ensures { result ≡ idx }
+    {
+        BitIdx {
+            idx,
+            register: PhantomData,
+        }
+    }
+
+    /// The number of the index.
+    pub fn into_inner(self) -> u8
+        ensures value { result ≡ self }
+        ensures below { self < R.BITS }
+    {
+        self.idx
+    }
+
+    /// How many registers `len` bits from this one on meet, and where they end in the last.
+    ///
+    /// For no bits that is no register, and this index as the end. As in the Rust crate, but with no
+    /// sum that could pass the type, for any `len`.
+    #[tactic(auto, using(crate::proofs::Steps::tails))]
+    pub fn span(self, len: usize) -> (usize, BitEnd<R>)
+        ensures empty { len ≡ 0 → (result.0 ≡ 0) × (result.1 ≡ self) }
+        ensures elements { 0 < len → result.0 ≡ (self + len + (R.BITS - 1)) / R.BITS }
+        ensures tail { 0 < len → result.1 ≡ (self + len - 1) % R.BITS + 1 }
+    {
+        if len == 0 {
+            return (0, BitEnd::new_unchecked(self.idx));
+        }
+        let width = usize::from(R::BITS);
+        let whole = len / width;
+        let over = usize::from(self.idx) + len % width;
+        if over == 0 {
+            (whole, BitEnd::new_unchecked(R::BITS))
+        } else if over <= width {
+            (whole + 1, BitEnd::new_unchecked(over as u8))
+        } else {
+            (whole + 2, BitEnd::new_unchecked((over - width) as u8))
+        }
+    }
+}
+
+/// A number that is no index of a register, since it is at least the width.
+#[derive(Clone, Copy, PartialEq, Eq, PartialOrd, Ord, Hash)]
+pub struct BitIdxError<R: BitRegister = usize> {
+    err: u8,
+    register: PhantomData<R>,
+}
+
+impl<R: BitRegister> Model for BitIdxError<R> {
+    ghost Value = { ℕ };
+
+    ghost view = { λ s. s.err };
+
+    ghost invariant = { λ s. R.BITS ≤ s.err };
+
+    ghost inverse = { λ n. record { err = n; register = record {} } };
+}
+
+impl<R: BitRegister> BitIdxError<R> {
+    /// The number that was refused.
+    pub fn into_inner(self) -> u8
+        ensures value { result ≡ self }
+        ensures above { R.BITS ≤ self }
+    {
+        self.err
+    }
+}
+
+/// The end of a run of indices of a register, from 0 to the width inclusive.
+#[derive(Clone, Copy, PartialEq, Eq, PartialOrd, Ord, Hash, Default)]
+pub struct BitEnd<R: BitRegister = usize> {
+    end: u8,
+    register: PhantomData<R>,
+}
+
+impl<R: BitRegister> Model for BitEnd<R> {
+    ghost Value = { ℕ };
+
+    ghost view = { λ s. s.end };
+
+    ghost invariant = { λ s. s.end ≤ R.BITS };
+
+    ghost inverse = { λ n. record { end = n; register = record {} } };
+}
+
+impl<R: BitRegister> Limits for BitEnd<R> {
+    const MIN: Self = BitEnd {
+        end: 0,
+        register: PhantomData,
+    };
+
+    const MAX: Self = BitEnd {
+        end: R::BITS,
+        register: PhantomData,
+    };
+
+    ghost MIN = { 0 };
+
+    ghost MAX = { R.BITS };
+}
+
+impl<R: BitRegister> BitEnd<R> {
+    /// The end `end`; `None` where it passes the width.
+    ///
+    /// As in the Rust crate.
+    pub fn new(end: u8) -> Option<Self>
+        ensures accepted { IsSome result ↔ (end ≤ R.BITS) }
+        ensures refused { IsNone result ↔ (R.BITS < end) }
+        ensures value { IfSome result (λ made. made ≡ end) }
+    {
+        if end <= R::BITS {
+            Some(BitEnd {
+                end,
+                register: PhantomData,
+            })
+        } else {
+            None
+        }
+    }
+
+    /// The end `end`, which does not pass the width: `new` is the test.
+    pub fn new_unchecked(end: u8) -> Self
+        requires { end ≤ R.BITS }
+        ensures { result ≡ end }
+    {
+        BitEnd {
+            end,
+            register: PhantomData,
+        }
+    }
+
+    /// The number of the end.
+    pub fn into_inner(self) -> u8
+        ensures value { result ≡ self }
+        ensures below { self ≤ R.BITS }
+    {
+        self.end
+    }
+
+    /// How many registers `len` bits from this end on meet, and where they end in the last.
+    ///
+    /// An end at the width is the start of the next register. For no bits that is no register, and
+    /// this end. As in the Rust crate, but with no sum that could pass the type, for any `len`.
+    pub fn span(self, len: usize) -> (usize, BitEnd<R>)
+        ensures empty { len ≡ 0 → (result.0 ≡ 0) × (result.1 ≡ self) }
+        ensures elements { 0 < len → result.0 ≡ (self % R.BITS + len + (R.BITS - 1)) / R.BITS }
+        ensures tail { 0 < len → result.1 ≡ (self % R.BITS + len - 1) % R.BITS + 1 }
+    {
+        if len == 0 {
+            return (0, self);
+        }
+        BitIdx::new_unchecked(self.end % R::BITS).span(len)
+    }
+}
+
+/// The position of a digit in a register, from 0 to `MASK`.
+#[derive(Clone, Copy, PartialEq, Eq, PartialOrd, Ord, Hash, Default)]
+pub struct BitPos<R: BitRegister = usize> {
+    pos: u8,
+    register: PhantomData<R>,
+}
+
+impl<R: BitRegister> Model for BitPos<R> {
+    ghost Value = { ℕ };
+
+    ghost view = { λ s. s.pos };
+
+    ghost invariant = { λ s. s.pos < R.BITS };
+
+    ghost inverse = { λ n. record { pos = n; register = record {} } };
+}
+
+impl<R: BitRegister> Limits for BitPos<R> {
+    const MIN: Self = BitPos {
+        pos: 0,
+        register: PhantomData,
+    };
+
+    const MAX: Self = BitPos {
+        pos: R::MASK,
+        register: PhantomData,
+    };
+
+    ghost MIN = { 0 };
+
+    ghost MAX = { R.BITS - 1 };
+}
+
+impl<R: BitRegister> BitPos<R> {
+    /// The position `pos`; `None` where it is not below the width.
+    ///
+    /// As in the Rust crate.
+    pub fn new(pos: u8) -> Option<Self>
+        ensures accepted { IsSome result ↔ (pos < R.BITS) }
+        ensures refused { IsNone result ↔ (R.BITS ≤ pos) }
+        ensures value { IfSome result (λ made. made ≡ pos) }
+    {
+        if pos < R::BITS {
+            Some(BitPos {
+                pos,
+                register: PhantomData,
+            })
+        } else {
+            None
+        }
+    }
+
+    /// The position `pos`, which is below the width: `new` is the test.
+    pub fn new_unchecked(pos: u8) -> Self
+        requires { pos < R.BITS }
+        ensures { result ≡ pos }
+    {
+        BitPos {
+            pos,
+            register: PhantomData,
+        }
+    }
+
+    /// The number of the position.
+    pub fn into_inner(self) -> u8
+        ensures value { result ≡ self }
+        ensures below { self < R.BITS }
+    {
+        self.pos
+    }
+
+    /// The selector of the position, two to its power.
+    pub fn select(self) -> BitSel<R>
+        ensures value { result ≡ 2 ^ self }
+        ensures below { self < R.BITS }
+    {
+        BitSel {
+            sel: R::ONE.shl(self.pos),
+        }
+    }
+}
+
+/// A number of a register with one digit set: the selector of a position.
+#[derive(Copy, PartialEq, Eq, PartialOrd, Ord, Hash)]
+pub struct BitSel<R: BitRegister = usize> {
+    sel: R,
+}
+
+impl<R: BitRegister> Model for BitSel<R> {
+    ghost Value = { ℕ };
+
+    ghost view = { λ s. R.number s.sel };
+
+    ghost invariant = { λ s. (R.number s.sel < 2 ^ R.BITS) × HasOneDigit R.BITS (R.number s.sel) };
+
+    ghost inverse = { λ n. record { sel = R.from_number n } };
+
+    ghost inverse_ok = { λ a h i. record { sel = R.number_back a.sel i } };
+}
+
+impl<R: BitRegister> Clone for BitSel<R> {
+    ghost is_clone = { λ a b. b ≡ a };
+
+    fn clone(&self) -> Result<Self, AllocError> {
+        Ok(*self)
+    }
+}
+
+impl<R: BitRegister> BitSel<R> {
+    /// The selector `sel`; `None` where the count of its ones is not 1.
+    ///
+    /// As in the Rust crate.
+    pub fn new(sel: R) -> Option<Self>
+        ensures accepted { IsSome result ↔ HasOneDigit R.BITS (R.number sel) }
+        ensures value { IfSome result (λ made. made ≡ R.number sel) }
+    {
+        if sel.count_ones() == 1 {
+            Some(BitSel { sel })
+        } else {
+            None
+        }
+    }
+
+    /// The selector `sel`, which has one digit set: `new` is the test.
+    pub fn new_unchecked(sel: R) -> Self
+        requires { HasOneDigit R.BITS (R.number sel) }
+        ensures { result ≡ R.number sel }
+    {
+        // The call says that the number is one of the register's, and costs nothing.
+        let _number = sel.to_u128();
+        BitSel { sel }
+    }
+
+    /// The number of the selector.
+    pub fn into_inner(self) -> R
+        ensures value { R.number result ≡ self }
+        ensures below { self < 2 ^ R.BITS }
+        ensures one { HasOneDigit R.BITS self }
+        ensures position { (p : ℕ) × (p < R.BITS) × (self ≡ 2 ^ p) }
+    {
+        self.sel
+    }
+}
+
+/// A set of positions of a register, as the number whose ones stand there.
+#[derive(Copy, PartialEq, Eq, PartialOrd, Ord, Hash, Default)]
+pub struct BitMask<R: BitRegister = usize> {
+    mask: R,
+}
+
+impl<R: BitRegister> Model for BitMask<R> {
+    ghost Value = { ℕ };
+
+    ghost view = { λ s. R.number s.mask };
+
+    ghost invariant = { λ s. R.number s.mask < 2 ^ R.BITS };
+
+    ghost inverse = { λ n. record { mask = R.from_number n } };
+
+    ghost inverse_ok = { λ a h i. record { mask = R.number_back a.mask i } };
+}
+
+/// The mask with no position and the mask with all.
+///
+/// `BitMask::ZERO` and `BitMask::ALL` are read with this trait in scope, as those of [`Limits`].
+pub trait MaskLimits: Sized {
+    /// The mask with no position.
+    const ZERO: Self;
+
+    /// The mask with all positions.
+    const ALL: Self;
+
+    ghost ZERO: { Self };
+
+    ghost ALL: { Self };
+}
+
+impl<R: BitRegister> MaskLimits for BitMask<R> {
+    const ZERO: Self = BitMask { mask: R::ZERO };
+
+    const ALL: Self = BitMask { mask: R::ALL };
+
+    ghost ZERO = { 0 };
+
+    ghost ALL = { 2 ^ R.BITS - 1 };
+}
+
+impl<R: BitRegister> Clone for BitMask<R> {
+    ghost is_clone = { λ a b. b ≡ a };
+
+    fn clone(&self) -> Result<Self, AllocError> {
+        Ok(*self)
+    }
+}
+
+impl<R: BitRegister> BitMask<R> {
+    /// The mask `mask`: any number of the register is one.
+    pub fn new(mask: R) -> Self
+        ensures { result ≡ R.number mask }
+    {
+        // The call says that the number is one of the register's, and costs nothing.
+        let _number = mask.to_u128();
+        BitMask { mask }
+    }
+
+    /// The number of the mask.
+    pub fn into_inner(self) -> R
+        ensures value { R.number result ≡ self }
+        ensures below { self < 2 ^ R.BITS }
+    {
+        self.mask
+    }
+
+    /// The mask with the selector's position added.
+    pub fn combine(self, sel: BitSel<R>) -> Self
+        ensures below { result < 2 ^ R.BITS }
+        ensures digits { (p : ℕ) → p < R.BITS → digit result p ≡ (digit self p || digit sel p) }
+    {
+        BitMask {
+            mask: self.mask.or(sel.sel),
+        }
+    }
+}
