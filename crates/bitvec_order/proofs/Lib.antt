@@ -1,3 +1,4 @@
+pub mod IndexLemmas
 pub mod MaskLemmas
 pub mod Ranges
 pub mod Steps
