@@ -1,0 +1,136 @@
+-- The items of a span's parts are the words of its list.
+use Rattle.std.proofs.Common.{◌≡◌, ◌⊎◌, ℕ, suc, ◌+◌, ◌-◌, ◌<◌, ◌≤◌, ◌^◌, ◌==◌, Bool, true, false, ◌&&◌, nat_le, nat_lt, if◌then◌else◌, List, [], ◌∷◌, ◌++◌, length, map, take, drop, Some, None, refl, sym, ap, ◌∙◌, inl, inr, arith, append-nil}
+use Rattle.std.specs.Prelude.{nat_abs, slice_index, slice_range}
+use Rattle.std.specs.List.{range_with_len}
+use Rattle.std.proofs.lemmas.List.{same_lists, length-map, get_or-map, get_or-take, get_or-drop}
+use Rattle.std.proofs.lemmas.List.FromFn.{length-map-range_with_len, get_or-map-range_with_len, map-range_with_len_more}
+use Rattle.std.proofs.Common.{length-drop, length-take-le}
+use Rattle.std.proofs.lemmas.Bool.{cases_eq, eq-eqb, ne_eqb, eqb-true, eqb-false, le-leb, lt-ltb}
+use Rattle.bitvec_mem.specs.Digit.{digit}
+use Rattle.bitvec_order.specs.Order.{IsOneToOne}
+use Rattle.bitvec_order.proofs.IndexLemmas.{number_of-from_digits}
+use Rattle.bitvec_ptr.specs.Memory.{tabulate}
+use Rattle.bitvec_ptr.specs.Place.{words_met, tail_of}
+use Rattle.bitvec_ptr.proofs.PlaceLemmas.{words_met-none, words_met-some}
+use Rattle.bitvec_ptr.proofs.MemoryLemmas.{tabulate_same}
+use Rattle.bitvec_domain.specs.Span.{Span, Fits, list_of, word_of, words_of}
+use Rattle.bitvec_domain.specs.Domain.{Part, Parts, enclave, region, whole, value_of, part_head, part_tail, part_of, parts_of, items}
+use Rattle.bitvec_domain.proofs.PartLemmas.{part_same, value_of-part_of, length-list_of}
+
+-- a whole word is its own value
+pub value_of-whole : (bits : ℕ) (at : ℕ → ℕ) (w : ℕ) → IsOneToOne bits at → w < 2 ^ bits → value_of bits at (whole bits w) ≡ w
+value_of-whole bits at w law small =
+    sym (number_of-from_digits bits at (λ i. nat_le 0 i && nat_lt i bits && digit w (at i)) w law small (λ i h. sym (rw (le-leb 0 i (omega arith), lt-ltb i bits h) refl)))
+
+-- what holds of each row of a table, where it is the first that applies, holds of the table
+table_cases : (P : Parts → Type 0) (empty begins ends one : Bool) (r0 r1 r2 r3 r4 r5 : Parts) → (empty ≡ true → P r0) → (empty ≡ false → begins ≡ true → ends ≡ true → P r1) → (empty ≡ false → begins ≡ false → ends ≡ true → P r2) → (empty ≡ false → begins ≡ true → ends ≡ false → P r3) → (empty ≡ false → begins ≡ false → ends ≡ false → one ≡ true → P r4) → (empty ≡ false → begins ≡ false → ends ≡ false → one ≡ false → P r5) → P (if empty then r0 else (if begins && ends then r1 else (if ends then r2 else (if begins then r3 else (if one then r4 else r5)))))
+table_cases P true begins ends one r0 r1 r2 r3 r4 r5 p0 p1 p2 p3 p4 p5 = p0 refl
+table_cases P false true true one r0 r1 r2 r3 r4 r5 p0 p1 p2 p3 p4 p5 = p1 refl refl refl
+table_cases P false false true one r0 r1 r2 r3 r4 r5 p0 p1 p2 p3 p4 p5 = p2 refl refl refl
+table_cases P false true false one r0 r1 r2 r3 r4 r5 p0 p1 p2 p3 p4 p5 = p3 refl refl refl
+table_cases P false false false true r0 r1 r2 r3 r4 r5 p0 p1 p2 p3 p4 p5 = p4 refl refl refl refl
+table_cases P false false false false r0 r1 r2 r3 r4 r5 p0 p1 p2 p3 p4 p5 = p5 refl refl refl refl
+
+length_slice : (xs : List ℕ) (i n : ℕ) → i + n ≤ length xs → length (take n (drop i xs)) ≡ n
+length_slice xs i n h = length-take-le n (drop i xs) (omega (arith, length-drop i xs))
+
+-- a slice through a function is a table of its elements
+map-slice_range : (f v : ℕ → ℕ) (xs : List ℕ) (i a n : ℕ) → i + n ≤ length xs → ((k : ℕ) → k < n → f (slice_index xs (i + k)) ≡ v (a + k)) → map f (slice_range xs i (i + n)) ≡ map v (range_with_len a n)
+map-slice_range f v xs i a n within same =
+    ap (λ m. map f (take m (drop i xs))) (let e : i + n - i ≡ n = omega arith in e)
+    ∙ (let long = length_slice xs i n within in
+    same_lists (map f (take n (drop i xs))) (map v (range_with_len a n)) (length-map (take n (drop i xs)) f ∙ long ∙ sym (length-map-range_with_len v a n)) (λ k d h.
+    let below : k < n = (let e = length-map (take n (drop i xs)) f in omega arith) in
+    get_or-map f (take n (drop i xs)) k 0 d (omega arith)
+    ∙ ap f (get_or-take n (drop i xs) k 0 below ∙ get_or-drop i xs k 0)
+    ∙ same k below
+    ∙ sym (get_or-map-range_with_len v a n k (a + k) d below refl)))
+
+module _ (bits : ℕ) (at : ℕ → ℕ) (span : Span) (words : List ℕ) (in_head : span.head < bits) (within : nat_abs span.word + words_met bits span.head span.len ≤ length words) where
+  -- the value of the k-th part
+  abbrev value_at : ℕ → ℕ
+  value_at k = value_of bits at (part_of bits span words k)
+
+  first_bound : (k : ℕ) → (0 < k) ⊎ (span.head ≡ 0) → 0 ≡ part_head span.head k
+  first_bound k h =
+      elim (cases_eq k 0) [
+        | inl e ↦ rw (eq-eqb k 0 e) (elim h [ inl some ↦ absurd (omega arith) | inr none ↦ sym none ])
+        | inr differ ↦ rw (ne_eqb k 0 differ) refl
+      ]
+
+  last_bound : (k : ℕ) → (k + 1 < words_met bits span.head span.len) ⊎ (tail_of bits span.head span.len ≡ bits) → bits ≡ part_tail bits span.head span.len k
+  last_bound k h =
+      elim (cases_eq (k + 1) (words_met bits span.head span.len)) [
+        | inl e ↦ rw (eq-eqb (k + 1) (words_met bits span.head span.len) e) (elim h [ inl before ↦ absurd (omega arith) | inr full ↦ sym full ])
+        | inr differ ↦ rw (ne_eqb (k + 1) (words_met bits span.head span.len) differ) refl
+      ]
+
+  after : (a k : ℕ) → (0 < a) ⊎ (span.head ≡ 0) → (0 < a + k) ⊎ (span.head ≡ 0)
+  after a k h = elim h [ inl some ↦ inl (omega arith) | inr none ↦ inr none ]
+
+  before : (a n k : ℕ) → k < n → (a + n < words_met bits span.head span.len) ⊎ (tail_of bits span.head span.len ≡ bits) → a + n ≤ words_met bits span.head span.len → (a + k + 1 < words_met bits span.head span.len) ⊎ (tail_of bits span.head span.len ≡ bits)
+  before a n k h end most = elim end [ inl less ↦ inl (omega arith) | inr full ↦ inr full ]
+
+  -- whole words, from the a-th that the span meets on
+  body : (a n from upto : ℕ) → from ≡ nat_abs span.word + a → upto ≡ nat_abs span.word + a + n → a + n ≤ words_met bits span.head span.len → (0 < a) ⊎ (span.head ≡ 0) → (a + n < words_met bits span.head span.len) ⊎ (tail_of bits span.head span.len ≡ bits) → map (λ w. value_of bits at (whole bits w)) (slice_range words from upto) ≡ map value_at (range_with_len a n)
+  body a n from upto e f most begin end =
+      ap (λ i. map (λ w. value_of bits at (whole bits w)) (slice_range words i upto)) e
+      ∙ ap (λ i. map (λ w. value_of bits at (whole bits w)) (slice_range words (nat_abs span.word + a) i)) f
+      ∙ map-slice_range (λ w. value_of bits at (whole bits w)) value_at words (nat_abs span.word + a) a n (omega arith) (λ k h.
+      ap (value_of bits at) (part_same _ _ _ _ _ _ (ap (slice_index words) (let g : nat_abs span.word + a + k ≡ nat_abs span.word + (a + k) = omega arith in g))
+      (first_bound (a + k) (after a k begin)) (last_bound (a + k) (before a n k h end most))))
+
+  some_word : (span.len == 0) ≡ false → 0 < words_met bits span.head span.len
+  some_word some = let differ = eqb-false span.len 0 some in let is = words_met-some bits span.head span.len (omega arith) in omega arith
+
+  -- one value first, and the others
+  values_first : (n : ℕ) → words_met bits span.head span.len ≡ suc n → map value_at (range_with_len 0 (words_met bits span.head span.len)) ≡ value_at 0 ∷ map value_at (range_with_len 1 n)
+  values_first n e = ap (λ m. map value_at (range_with_len 0 m)) e
+
+  -- the values before the last, and the last
+  values_last : (a n j : ℕ) → a + n ≡ j → map value_at (range_with_len a (suc n)) ≡ map value_at (range_with_len a n) ++ (value_at j ∷ [])
+  values_last a n j e = ap (λ m. map value_at (range_with_len a m)) (let f : suc n ≡ n + 1 = omega arith in f) ∙ map-range_with_len_more value_at a n j e
+
+  -- the items of the parts are the values of the words met, in order
+  items-values : items bits at (parts_of bits span words) ≡ map value_at (range_with_len 0 (words_met bits span.head span.len))
+  items-values =
+      let first : ℕ = nat_abs span.word in
+      let e : ℕ = words_met bits span.head span.len in
+      let P : Parts → Type 0 = λ parts. items bits at parts ≡ map value_at (range_with_len 0 (words_met bits span.head span.len)) in
+      let head_part : Part = part_of bits span words 0 in
+      let tail_part : Part = part_of bits span words (words_met bits span.head span.len - 1) in
+      table_cases P (span.len == 0) (span.head == 0) (tail_of bits span.head span.len == bits) (words_met bits span.head span.len == 1)
+      (region None [] None)
+      (region None (slice_range words first (first + e)) None)
+      (region (Some head_part) (slice_range words (first + 1) (first + e)) None)
+      (region None (slice_range words first (first + e - 1)) (Some tail_part))
+      (enclave head_part)
+      (region (Some head_part) (slice_range words (first + 1) (first + e - 1)) (Some tail_part))
+      (λ empty. ap (λ n. map value_at (range_with_len 0 n)) (sym (words_met-none bits span.head span.len (eqb-true span.len 0 empty))))
+      (λ some begins ends. append-nil _ ∙ body 0 e first (first + e) (omega arith) (omega arith) (omega arith) (inr (eqb-true span.head 0 begins)) (inr (eqb-true _ bits ends)))
+      (λ some begins ends.
+      let more = some_word some in
+      ap (λ xs. value_at 0 ∷ xs) (append-nil _ ∙ body 1 (e - 1) (first + 1) (first + e) (omega arith) (omega arith) (omega arith) (inl (omega arith)) (inr (eqb-true _ bits ends)))
+      ∙ sym (values_first (e - 1) (omega arith)))
+      (λ some begins ends.
+      let more = some_word some in
+      ap (λ xs. xs ++ (value_at (e - 1) ∷ [])) (body 0 (e - 1) first (first + e - 1) (omega arith) (omega arith) (omega arith) (inr (eqb-true span.head 0 begins)) (inl (omega arith)))
+      ∙ sym (ap (λ n. map value_at (range_with_len 0 n)) (let f : words_met bits span.head span.len ≡ suc (words_met bits span.head span.len - 1) = omega arith in f) ∙ values_last 0 (e - 1) (e - 1) (omega arith)))
+      (λ some begins ends one. sym (values_first 0 (eqb-true _ 1 one)))
+      (λ some begins ends one.
+      let more = some_word some in
+      let differ = eqb-false (words_met bits span.head span.len) 1 one in
+      ap (λ xs. value_at 0 ∷ (xs ++ (value_at (e - 1) ∷ []))) (body 1 (e - 2) (first + 1) (first + e - 1) (omega arith) (omega arith) (omega arith) (inl (omega arith)) (inl (omega arith)))
+      ∙ sym (values_first (suc (e - 2)) (omega arith) ∙ ap (λ xs. value_at 0 ∷ xs) (values_last 1 (e - 2) (e - 1) (omega arith))))
+
+  -- they are the words of the span's list
+  pub items-parts_of : items bits at (parts_of bits span words) ≡ words_of bits at span.head (list_of bits at span words)
+  items-parts_of =
+      items-values
+      ∙ tabulate_same (words_met bits span.head span.len) value_at (word_of bits at span.head (list_of bits at span words)) 0 (λ k h. value_of-part_of bits at span words k in_head h)
+      ∙ ap (λ n. tabulate (words_met bits span.head n) (word_of bits at span.head (list_of bits at span words))) (sym (length-list_of bits at span words))
+
+-- the same, of parts that are known to be the span's in a memory
+pub items-words_of : {X : Type 0} (bits : ℕ) (at : ℕ → ℕ) (span : Span) (number : X → ℕ) (memory : List X) (parts : Parts) → span.head < bits → Fits bits span (length memory) → parts ≡ parts_of bits span (map number memory) → items bits at parts ≡ words_of bits at span.head (list_of bits at span (map number memory))
+items-words_of bits at span number memory parts in_head fits is =
+    ap (items bits at) is ∙ items-parts_of bits at span (map number memory) in_head (let within = fits.1 in omega (arith, length-map memory number))

@@ -1,0 +1,4 @@
+pub mod ItemLemmas
+pub mod PartLemmas
+pub mod SliceLemmas
+pub mod TextLemmas

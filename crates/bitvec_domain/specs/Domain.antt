@@ -1,0 +1,62 @@
+-- The parts that a span has in the words of a memory, and their values.
+use Rattle.std.specs.Prelude.{ℕ, nat_abs, ◌+◌, ◌-◌, ◌&&◌, ◌==◌, if◌then◌else◌, List, [], ◌∷◌, ◌++◌, Option, Some, None, map, nat_le, nat_lt, slice_index, slice_range}
+use Rattle.bitvec_mem.specs.Digit.{digit}
+use Rattle.bitvec_order.specs.Order.{number_of}
+use Rattle.bitvec_ptr.specs.Place.{words_met, tail_of}
+use Rattle.bitvec_domain.specs.Span.{Span}
+
+-- the bits of a word with indices from `head` to before `tail`
+pub record Part : Type 0 where
+  pub word : ℕ
+  pub head : ℕ
+  pub tail : ℕ
+
+-- a whole word as a part
+abbrev pub whole : ℕ → ℕ → Part
+whole bits word = record { word = word; head = 0; tail = bits }
+
+-- the value of a part: the word's digits at the positions of its indices, and all others zero
+abbrev pub value_of : ℕ → (ℕ → ℕ) → Part → ℕ
+value_of bits at part = number_of at (λ i. nat_le part.head i && nat_lt i part.tail && digit part.word (at i)) bits
+
+-- the first index of the k-th word met that lies in the interval
+abbrev pub part_head : ℕ → ℕ → ℕ
+part_head head k = if k == 0 then head else 0
+
+-- one past the last
+abbrev pub part_tail : ℕ → ℕ → ℕ → ℕ → ℕ
+part_tail bits head len k = if k + 1 == words_met bits head len then tail_of bits head len else bits
+
+-- the part of the k-th word that a span meets
+abbrev pub part_of : ℕ → Span → List ℕ → ℕ → Part
+part_of bits span words k = record { word = slice_index words (nat_abs span.word + k); head = part_head span.head k; tail = part_tail bits span.head span.len k }
+
+-- one part of a word, or perhaps a part, whole words and perhaps a part
+pub data Parts : Type 0 where
+  enclave : Part → Parts
+  region : Option Part → List ℕ → Option Part → Parts
+
+-- the parts of a span in a memory: the first row that applies decides
+abbrev pub parts_of : ℕ → Span → List ℕ → Parts
+parts_of bits span words =
+    let first = nat_abs span.word in
+    let elements = words_met bits span.head span.len in
+    let tail = tail_of bits span.head span.len in
+    let head_part = part_of bits span words 0 in
+    let tail_part = part_of bits span words (elements - 1) in
+    if span.len == 0 then region None [] None
+    else if span.head == 0 && tail == bits then region None (slice_range words first (first + elements)) None
+    else if tail == bits then region (Some head_part) (slice_range words (first + 1) (first + elements)) None
+    else if span.head == 0 then region None (slice_range words first (first + elements - 1)) (Some tail_part)
+    else if elements == 1 then enclave head_part
+    else region (Some head_part) (slice_range words (first + 1) (first + elements - 1)) (Some tail_part)
+
+-- the value of a part, if there is one
+abbrev pub part_items : ℕ → (ℕ → ℕ) → Option Part → List ℕ
+part_items bits at (Some part) = value_of bits at part ∷ []
+part_items bits at None = []
+
+-- the values of the parts and the whole words, in order
+abbrev pub items : ℕ → (ℕ → ℕ) → Parts → List ℕ
+items bits at (enclave part) = value_of bits at part ∷ []
+items bits at (region head body tail) = part_items bits at head ++ (map (λ w. value_of bits at (whole bits w)) body ++ part_items bits at tail)

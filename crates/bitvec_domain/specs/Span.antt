@@ -1,0 +1,37 @@
+-- Spans as intervals of places, and their lists in a memory. `bits` is the width of a word, and a memory is the list of
+-- its words' numbers.
+use Rattle.std.specs.Prelude.{ℕ, ℤ, pos, nat_abs, ◌+◌, ◌-◌, ◌*◌, ◌≤◌, ◌≤ℤ◌, ◌&&◌, Bool, false, List, length, slice_index_or, nat_le}
+use Rattle.bitvec_order.specs.Order.{number_of}
+use Rattle.bitvec_ptr.specs.Memory.{bit_of, tabulate}
+use Rattle.bitvec_ptr.specs.Place.{words_met}
+
+-- a span by its numbers: the interval of `len` places from the bit `head` of a word on
+pub record Span : Type 0 where
+  pub word : ℤ
+  pub head : ℕ
+  pub len : ℕ
+
+-- the greatest length of a span
+abbrev pub region_max_bits : ℕ
+region_max_bits = 2305843009213693951
+
+-- the span lies within a memory of so many words
+abbrev pub Fits : ℕ → Span → ℕ → Type 0
+Fits bits span words = (pos 0 ≤ℤ span.word) × (nat_abs span.word + words_met bits span.head span.len ≤ words)
+
+-- the bits of a span in a memory, in order
+abbrev pub list_of : ℕ → (ℕ → ℕ) → Span → List ℕ → List Bool
+list_of bits at span words = tabulate span.len (λ j. bit_of bits at words (nat_abs span.word * bits + span.head + j))
+
+-- bit j of a list, and false past its end
+abbrev pub element : List Bool → ℕ → Bool
+element xs j = slice_index_or xs j false
+
+-- word k of a list under a head: the number whose digit at(i) is the list's element k * bits + i - head where there is
+-- one, and whose other digits are zero
+abbrev pub word_of : ℕ → (ℕ → ℕ) → ℕ → List Bool → ℕ → ℕ
+word_of bits at head xs k = number_of at (λ i. nat_le head (k * bits + i) && element xs (k * bits + i - head)) bits
+
+-- the words of a list under a head, one for each word that it meets
+abbrev pub words_of : ℕ → (ℕ → ℕ) → ℕ → List Bool → List ℕ
+words_of bits at head xs = tabulate (words_met bits head (length xs)) (word_of bits at head xs)

@@ -1,0 +1,296 @@
+//! The words and parts of words that a span meets.
+
+ghost use Rattle.std.specs.Prelude.{◌≡◌, ⊤, ℕ, ◌+◌, ◌-◌, ◌<◌, ◌≤◌, ◌^◌, ◌⊎◌, ◌==◌, if◌then◌else◌, Some, None, nat_abs, length, map, slice_index, slice_range};
+ghost use Rattle.bitvec_order.specs.Order.{IsMaskOf};
+ghost use Rattle.bitvec_ptr.specs.Place.{words_met, tail_of};
+ghost use Rattle.bitvec_domain.specs.Span.{Fits, list_of, word_of, words_of};
+ghost use Rattle.bitvec_domain.specs.Domain.{part_of, parts_of, value_of, items};
+
+use crate::ptr::span::BitSpan;
+use bitvec_mem::mem::BitRegister;
+use bitvec_order::index::{BitEnd, BitIdx, BitMask, Limits};
+use bitvec_order::order::{BitOrder, Lsb0};
+use std::alloc::AllocError;
+use std::marker::PhantomData;
+
+/// Some bits of one word: those with indices from a head to before a tail.
+pub struct PartialElement<'a, R: BitRegister, O> {
+    elem: &'a [R],
+    head: u8,
+    tail: u8,
+    order: PhantomData<O>,
+    pub ghost single: { length elem.now ≡ 1 },
+    pub ghost head_in: { head < R.BITS },
+    pub ghost tail_in: { tail ≤ R.BITS },
+    pub ghost ordered: { head ≤ tail },
+}
+
+impl<'a, R: BitRegister, O> Clone for PartialElement<'a, R, O> {
+    ghost is_clone = { λ it copy. copy ≡ it };
+
+    ghost is_infallible = { λ _. ⊤ };
+
+    fn clone(&self) -> Result<Self, AllocError> {
+        Ok(*self)
+    }
+}
+
+impl<'a, R: BitRegister, O> Copy for PartialElement<'a, R, O> {}
+
+impl<'a, R: BitRegister, O> PartialElement<'a, R, O> {
+    ghost use Rattle.bitvec_domain.specs.DomainView.{element_part};
+
+    // The bits of a word of a memory with indices from `head` to before `tail`.
+    fn of_word(memory: &'a [R], at: usize, head: BitIdx<R>, tail: BitEnd<R>) -> Self
+        requires at { at < length memory.now }
+        requires ordered { head ≤ tail }
+        ensures { element_part R.number result ≡ record { word = slice_index (map R.number memory.now) at; head = head; tail = tail } }
+    {
+        PartialElement {
+            elem: &memory[at..at + 1],
+            head: head.into_inner(),
+            tail: tail.into_inner(),
+            order: PhantomData,
+        }
+    }
+
+    /// The index of the first bit.
+    pub fn head(&self) -> BitIdx<R>
+        ensures { result ≡ (element_part R.number self.now).head }
+    {
+        BitIdx::new_unchecked(self.head)
+    }
+
+    /// One past the index of the last bit.
+    pub fn tail(&self) -> BitEnd<R>
+        ensures { result ≡ (element_part R.number self.now).tail }
+    {
+        BitEnd::new_unchecked(self.tail)
+    }
+
+    /// The head and the tail.
+    pub fn bounds(&self) -> (BitIdx<R>, BitEnd<R>)
+        ensures head { result.0 ≡ (element_part R.number self.now).head }
+        ensures tail { result.1 ≡ (element_part R.number self.now).tail }
+    {
+        (self.head(), self.tail())
+    }
+}
+
+impl<'a, R: BitRegister, O: BitOrder<R>> PartialElement<'a, R, O> {
+    ghost use Rattle.bitvec_domain.specs.DomainView.{element_part};
+
+    /// The positions of the bits.
+    pub fn mask(&self) -> BitMask<R>
+        ensures { IsMaskOf R.BITS O.at_of (element_part R.number self.now).head (element_part R.number self.now).tail result }
+    {
+        O::mask(Some(self.head()), Some(self.tail()))
+    }
+
+    /// The digits of the word at the positions of the bits, where they stand in it, and all others
+    /// zero.
+    pub fn load_value(&self) -> R
+        ensures { R.number result ≡ value_of R.BITS O.at_of (element_part R.number self.now) }
+    {
+        self.elem[0].and(self.mask().into_inner())
+    }
+}
+
+/// The words that a span meets: one part of a word, or whole words with perhaps a part before them
+/// and perhaps a part behind them.
+pub enum Domain<'a, R: BitRegister = usize, O = Lsb0> {
+    /// Some bits of one word, with neither its first nor its last.
+    Enclave(PartialElement<'a, R, O>),
+    /// Perhaps the last bits of a word, whole words, and perhaps the first bits of a word.
+    Region {
+        /// The last bits of the first word, where the span does not begin with its first bit.
+        head: Option<PartialElement<'a, R, O>>,
+        /// The whole words.
+        body: &'a [R],
+        /// The first bits of the last word, where the span does not end with its last bit.
+        tail: Option<PartialElement<'a, R, O>>,
+    },
+}
+
+impl<'a, R: BitRegister, O> Clone for Domain<'a, R, O> {
+    ghost is_clone = { λ it copy. copy ≡ it };
+
+    ghost is_infallible = { λ _. ⊤ };
+
+    fn clone(&self) -> Result<Self, AllocError> {
+        Ok(*self)
+    }
+}
+
+impl<'a, R: BitRegister, O> Copy for Domain<'a, R, O> {}
+
+impl<'a, R: BitRegister, O> Default for Domain<'a, R, O> {
+    ghost use Rattle.std.specs.Prelude.{[], None, ◌≡◌};
+    ghost use Rattle.bitvec_domain.specs.Domain.{region};
+    ghost use Rattle.bitvec_domain.specs.DomainView.{domain_parts};
+
+    ghost is_default = { λ d. domain_parts R.number d ≡ region None [] None };
+
+    fn default() -> Self {
+        Domain::Region {
+            head: None,
+            body: &[],
+            tail: None,
+        }
+    }
+}
+
+impl<R: BitRegister, O: BitOrder<R>> BitSpan<R, O> {
+    ghost use Rattle.bitvec_domain.specs.BitSpan.{span_of};
+    ghost use Rattle.bitvec_domain.specs.DomainView.{element_part, optional_part, domain_parts};
+
+    /// The part of the `k`-th word that the span meets, counted from 0.
+    ///
+    /// Its head is the span's in the first word, else the least; its tail is the span's in the last
+    /// word, else the greatest. Our own.
+    pub fn part<'a>(self, memory: &'a [R], k: usize) -> PartialElement<'a, R, O>
+        requires fits { Fits R.BITS (span_of self) (length memory.now) }
+        requires met { k < words_met R.BITS (span_of self).head (span_of self).len }
+        ensures part { element_part R.number result ≡ part_of R.BITS (span_of self) (map R.number memory.now) k }
+        ensures word { value_of R.BITS O.at_of (element_part R.number result)
+            ≡ word_of R.BITS O.at_of (span_of self).head (list_of R.BITS O.at_of (span_of self) (map R.number memory.now)) k }
+    {
+        let at = self.address() as usize + k;
+        let head = if k == 0 { self.head() } else { BitIdx::MIN };
+        let tail = if k + 1 == self.elements() {
+            self.tail()
+        } else {
+            BitEnd::MAX
+        };
+        PartialElement::of_word(memory, at, head, tail)
+    }
+
+    // The part of the first word, where the span does not begin with the word's first bit.
+    fn head_part<'a>(self, memory: &'a [R]) -> Option<PartialElement<'a, R, O>>
+        requires fits { Fits R.BITS (span_of self) (length memory.now) }
+        requires met { 0 < words_met R.BITS (span_of self).head (span_of self).len }
+        ensures { optional_part R.number result
+            ≡ (if (span_of self).head == 0 then None else Some (part_of R.BITS (span_of self) (map R.number memory.now) 0)) }
+    {
+        if self.head().into_inner() == 0 {
+            return None;
+        }
+        Some(self.part(memory, 0))
+    }
+
+    // The part of the last word, where the span does not end with the word's last bit.
+    fn tail_part<'a>(self, memory: &'a [R]) -> Option<PartialElement<'a, R, O>>
+        requires fits { Fits R.BITS (span_of self) (length memory.now) }
+        requires met { 0 < words_met R.BITS (span_of self).head (span_of self).len }
+        ensures { let span = span_of self in
+            optional_part R.number result
+            ≡ (if tail_of R.BITS span.head span.len == R.BITS then None else Some (part_of R.BITS span (map R.number memory.now) (words_met R.BITS span.head span.len - 1))) }
+    {
+        if self.tail().into_inner() == R::BITS {
+            return None;
+        }
+        Some(self.part(memory, self.elements() - 1))
+    }
+
+    // The whole words, where the span is not within one word with neither its first nor its last bit.
+    fn body<'a>(self, memory: &'a [R]) -> &'a [R]
+        requires fits { Fits R.BITS (span_of self) (length memory.now) }
+        requires met { 0 < words_met R.BITS (span_of self).head (span_of self).len }
+        requires region { let span = span_of self in
+            words_met R.BITS span.head span.len ≡ 1 → (span.head ≡ 0) ⊎ (tail_of R.BITS span.head span.len ≡ R.BITS) }
+        ensures { let span = span_of self in
+            let first = nat_abs span.word in
+            let end = first + words_met R.BITS span.head span.len in
+            map R.number result.now
+            ≡ slice_range (map R.number memory.now) (if span.head == 0 then first else first + 1) (if tail_of R.BITS span.head span.len == R.BITS then end else end - 1) }
+    {
+        let first = self.address() as usize;
+        let end = first + self.elements();
+        let from = if self.head().into_inner() == 0 {
+            first
+        } else {
+            first + 1
+        };
+        let upto = if self.tail().into_inner() == R::BITS {
+            end
+        } else {
+            end - 1
+        };
+        &memory[from..upto]
+    }
+
+    /// The words and parts of words of a memory that the span meets.
+    ///
+    /// An empty span has the empty domain; there the Rust crate may answer an enclave.
+    pub fn domain<'a>(self, memory: &'a [R]) -> Domain<'a, R, O>
+        requires { Fits R.BITS (span_of self) (length memory.now) }
+        ensures parts { domain_parts R.number result ≡ parts_of R.BITS (span_of self) (map R.number memory.now) }
+        ensures items { items R.BITS O.at_of (domain_parts R.number result)
+            ≡ words_of R.BITS O.at_of (span_of self).head (list_of R.BITS O.at_of (span_of self) (map R.number memory.now)) }
+    {
+        let elements = self.elements();
+        if elements == 0 {
+            return Domain::default();
+        }
+        let head = self.head_part(memory);
+        let tail = self.tail_part(memory);
+        if elements == 1 && head.is_some() && tail.is_some() {
+            return Domain::Enclave(self.part(memory, 0));
+        }
+        let body = self.body(memory);
+        Domain::Region { head, body, tail }
+    }
+}
+
+impl<'a, R: BitRegister, O: BitOrder<R>> Iterator for Domain<'a, R, O> {
+    type Item = R;
+
+    ghost use Rattle.std.specs.Iterator.{YieldsFirstBy, item_count};
+    ghost use Rattle.bitvec_domain.specs.Domain.{items};
+    ghost use Rattle.bitvec_domain.specs.DomainView.{domain_parts};
+
+    ghost next_gives = { YieldsFirstBy R.number (λ d. items R.BITS O.at_of (domain_parts R.number d)) };
+
+    ghost remaining = { item_count (λ d. items R.BITS O.at_of (domain_parts R.number d)) };
+
+    fn next(&mut self) -> Option<R> {
+        match *self {
+            Domain::Enclave(part) => {
+                *self = Domain::default();
+                Some(part.load_value())
+            }
+            Domain::Region {
+                head: Some(part),
+                body,
+                tail,
+            } => {
+                *self = Domain::Region {
+                    head: None,
+                    body,
+                    tail,
+                };
+                Some(part.load_value())
+            }
+            Domain::Region {
+                head: None,
+                body,
+                tail,
+            } => match body.split_first() {
+                Some((word, body)) => {
+                    *self = Domain::Region {
+                        head: None,
+                        body,
+                        tail,
+                    };
+                    // The call says that the number is one of the register's, and costs nothing.
+                    let _number = word.to_u128();
+                    Some(*word)
+                }
+                None => {
+                    *self = Domain::default();
+                    tail.map(|part| part.load_value())
+                }
+            },
+        }
+    }
+}

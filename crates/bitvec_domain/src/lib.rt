@@ -1,0 +1,5 @@
+//! Spans of bits, and the words and parts of words that they meet.
+#![tactic(auto)]
+
+pub mod domain;
+pub mod ptr;

@@ -1,0 +1,3 @@
+//! Spans of bits.
+
+pub mod span;

@@ -1,0 +1,72 @@
+-- Words that an interval of places meets, and the word in which it ends.
+use Rattle.std.proofs.Common.{◌≡◌, ℕ, ℤ, pos, negsuc, ◌+◌, ◌*◌, ◌-◌, ◌<◌, ◌≤◌, ◌/◌, ◌%◌, ◌+ℤ◌, ◌*ℤ◌, refl, sym, ◌∙◌, ap, inl, inr, arith}
+use Rattle.std.specs.Int.{int_div_euclid}
+use Rattle.std.proofs.lemmas.Int.{ints}
+use Rattle.std.proofs.lemmas.Bool.{cases_eq, eq-eqb, ne_eqb}
+use Rattle.std.proofs.lemmas.Nat.{div-add-mod', mod_below}
+use Rattle.std.proofs.Math.Nat.{lt_of_mul-lt-mul_right, div-eq_of_lt-le}
+use borrow.Author.Differences.{sum_is_lem, product_is, up, down}
+use Rattle.bitvec_ptr.specs.Place.{words_met, tail_of}
+
+pub words_met-none : (bits head count : ℕ) → count ≡ 0 → words_met bits head count ≡ 0
+words_met-none bits head count e = rw (eq-eqb count 0 e) refl
+
+pub words_met-some : (bits head count : ℕ) → 0 < count → words_met bits head count ≡ (head + count - 1) / bits + 1
+words_met-some bits head count h = rw (ne_eqb count 0 (λ e. omega arith)) refl
+
+pub tail_of-none : (bits head count : ℕ) → count ≡ 0 → tail_of bits head count ≡ head
+tail_of-none bits head count e = rw (eq-eqb count 0 e) refl
+
+pub tail_of-some : (bits head count : ℕ) → 0 < count → tail_of bits head count ≡ (head + count - 1) % bits + 1
+tail_of-some bits head count h = rw (ne_eqb count 0 (λ e. omega arith)) refl
+
+-- a quotient rounded up
+div_up : (bits n : ℕ) → 0 < bits → 0 < n → (n + (bits - 1)) / bits ≡ (n - 1) / bits + 1
+div_up bits n some h =
+    let parts = div-add-mod' (n - 1) bits in
+    let rest = mod_below (n - 1) bits some in
+    div-eq_of_lt-le bits (omega arith) (omega arith)
+
+-- the words met, from the count of words and the tail that an index tells for so many bits
+pub words_met-from_span : (bits head count n : ℕ) → 0 < bits → (count ≡ 0 → n ≡ 0) → (0 < count → n ≡ (head + count + (bits - 1)) / bits) → n ≡ words_met bits head count
+words_met-from_span bits head count n some empty elements =
+    elim (cases_eq count 0) [
+      | inl e ↦ empty e ∙ sym (words_met-none bits head count e)
+      | inr other ↦ (let h : 0 < count = omega arith in elements h ∙ div_up bits (head + count) some (omega arith) ∙ sym (words_met-some bits head count h))
+    ]
+
+pub tail_of-from_span : (bits head count n : ℕ) → (count ≡ 0 → n ≡ head) → (0 < count → n ≡ (head + count - 1) % bits + 1) → n ≡ tail_of bits head count
+tail_of-from_span bits head count n empty tail =
+    elim (cases_eq count 0) [
+      | inl e ↦ empty e ∙ sym (tail_of-none bits head count e)
+      | inr other ↦ (let h : 0 < count = omega arith in tail h ∙ sym (tail_of-some bits head count h))
+    ]
+
+-- the quotient is the only number that close
+close_products : (a b k : ℕ) → a * k < b * k + k → b * k < a * k + k → a ≡ b
+close_products a b k p q =
+    let l : a * k < (b + 1) * k = omega arith in
+    let r : b * k < (a + 1) * k = omega arith in
+    let l' : a < b + 1 = lt_of_mul-lt-mul_right k l in
+    let r' : b < a + 1 = lt_of_mul-lt-mul_right k r in
+    omega arith
+
+quotient_bounds : (a : ℤ) (k : ℕ) → 0 < k → (up (int_div_euclid a (pos k)) * k + down a ≤ down (int_div_euclid a (pos k)) * k + up a) × (down (int_div_euclid a (pos k)) * k + up a < up (int_div_euclid a (pos k)) * k + down a + k)
+quotient_bounds (pos a) k h = omega arith
+quotient_bounds (negsuc a) k h = omega arith
+
+-- the word in which the place `n` places on from a bit of a word lies
+pub floor_place : (bits : ℕ) (word : ℤ) (h n : ℕ) → 0 < bits → int_div_euclid (((word *ℤ pos bits) +ℤ pos h) +ℤ pos n) (pos bits) ≡ word +ℤ pos ((h + n) / bits)
+floor_place bits word h n some =
+    let z = ((word *ℤ pos bits) +ℤ pos h) +ℤ pos n in
+    let q = int_div_euclid z (pos bits) in
+    let r = word +ℤ pos ((h + n) / bits) in
+    let bounds = quotient_bounds z bits some in
+    let parts = div-add-mod' (h + n) bits in
+    let rest = mod_below (h + n) bits some in
+    let sum = ap (λ x. x * bits) (sum_is_lem word (pos ((h + n) / bits))) in
+    let product = product_is word (pos bits) in
+    let one = sum_is_lem (word *ℤ pos bits) (pos h) in
+    let two = sum_is_lem ((word *ℤ pos bits) +ℤ pos h) (pos n) in
+    let same : up q + down r ≡ down q + up r = close_products (up q + down r) (down q + up r) bits (omega (arith, bounds, parts, rest, sum, product, one, two)) (omega (arith, bounds, parts, rest, sum, product, one, two)) in
+    omega (arith, ints, same)

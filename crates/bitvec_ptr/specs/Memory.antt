@@ -1,0 +1,17 @@
+-- The bits of a memory. A memory is the list of its words' numbers, `bits` is the width of a word, and `at` takes an
+-- index in a word to its position in the number.
+use Rattle.std.specs.Prelude.{ℕ, ◌*◌, ◌/◌, ◌%◌, Bool, List, length, map, slice_index}
+use Rattle.std.specs.List.{range_with_len}
+use Rattle.bitvec_mem.specs.Digit.{digit}
+
+-- the list of f 0, f 1, .. up to before f n
+abbrev pub tabulate : {A : Type 0} → ℕ → (ℕ → A) → List A
+tabulate n f = map f (range_with_len 0 n)
+
+-- the bit at a place: the digit at(i) of word w, where the place is w * bits + i
+abbrev pub bit_of : ℕ → (ℕ → ℕ) → List ℕ → ℕ → Bool
+bit_of bits at words place = digit (slice_index words (place / bits)) (at (place % bits))
+
+-- all bits of a memory, by rising place
+abbrev pub memory_bits : ℕ → (ℕ → ℕ) → List ℕ → List Bool
+memory_bits bits at words = tabulate (length words * bits) (bit_of bits at words)

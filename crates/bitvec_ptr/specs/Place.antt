@@ -1,0 +1,14 @@
+-- Places of bits. `bits` is the width of a word.
+use Rattle.std.specs.Prelude.{ℕ, ℤ, pos, ◌+ℤ◌, ◌*ℤ◌, ◌+◌, ◌-◌, ◌/◌, ◌%◌, ◌==◌, if◌then◌else◌}
+
+-- the place of the bit at an index of a word, as a whole number
+abbrev pub place_at : ℕ → ℤ → ℕ → ℤ
+place_at bits word bit = (word *ℤ pos bits) +ℤ pos bit
+
+-- how many words the interval of `count` places meets that starts at the bit `head` of a word
+abbrev pub words_met : ℕ → ℕ → ℕ → ℕ
+words_met bits head count = if count == 0 then 0 else (head + count - 1) / bits + 1
+
+-- one past the index of the last of these places in its word; for no places the head
+abbrev pub tail_of : ℕ → ℕ → ℕ → ℕ
+tail_of bits head count = if count == 0 then head else (head + count - 1) % bits + 1
