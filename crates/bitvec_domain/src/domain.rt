@@ -92,7 +92,9 @@ impl<'a, R: BitRegister, O: BitOrder<R>> PartialElement<'a, R, O> {
     pub fn load_value(&self) -> R
         ensures { R.number result ≡ value_of R.BITS O.at_of (element_part R.number self.now) }
     {
-        self.elem[0].and(self.mask().into_inner())
+        let word = self.elem[0];
+        let mask = self.mask().into_inner();
+        word.and(mask)
     }
 }
 

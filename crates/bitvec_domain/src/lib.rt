@@ -3,3 +3,5 @@
 
 pub mod domain;
 pub mod ptr;
+#[cfg(test)]
+mod tests;

@@ -19,7 +19,7 @@ returns-then-word-met-clause-too_high g c =
     let some : 0 < width = omega (arith, g.met.R.BitRegister.eight_law) in
     let met : (c.from.result + c.args.bits) / c.from-2.result ≡ (c.args.head + c.args.bits) / width =
     ap (λ v. (v + c.args.bits) / c.from-2.result) (c.from.ensures ∙ c.into_inner-head.ensures.value) ∙ ap (λ v. (c.args.head + c.args.bits) / v) (c.from-2.ensures ∙ c.BITS.ensures) in
-    rw (floor_place width c.args.word c.args.head c.args.bits some) (λ _. (c.if-bits-gt-MAX_BITS.false, omega (arith, ints, met)), λ _. (let same : to_z w64 (of_z w64 c.args.word) ≡ c.args.word = omega (arith, ints) in rw same refl))
+    rw (floor_place width c.args.word c.args.head c.args.bits some) (λ _. (omega arith, omega (arith, ints, met)), λ _. (let same : to_z w64 (of_z w64 c.args.word) ≡ c.args.word = omega (arith, ints) in rw same refl))
 
 pub invariant_of-result-clause-low : goal.invariant_of-result-clause-low
 invariant_of-result-clause-low g c =

@@ -1,0 +1,100 @@
+//! The lines of `bits domain`: the items of a span's domain in a memory.
+
+use crate::answer::Fault;
+use crate::number::number;
+use crate::words::words_of;
+use bitvec::domain::Domain;
+use bitvec::index::BitIdx;
+use bitvec::mem::BitRegister;
+use bitvec::order::{BitOrder, Lsb0};
+use bitvec::ptr::span::BitSpan;
+use std::alloc::{AllocError, Allocator};
+use std::fmt::Write as _;
+
+/// The text of the answer to `bits domain`.
+pub fn text<'a, A: Allocator>(
+    alloc: &'a A,
+    order: &str,
+    register: &str,
+    words: &str,
+    start: &str,
+    len: &str,
+) -> Result<String<&'a A>, Fault<&'a A>> {
+    match (order, register) {
+        ("lsb0", "u8") => items::<u8, Lsb0, A>(alloc, words, start, len),
+        _ => Err(Fault::Usage),
+    }
+}
+
+// One line an item, and the number of items.
+fn items<'a, R: BitRegister, O: BitOrder<R>, A: Allocator>(
+    alloc: &'a A,
+    words: &str,
+    start: &str,
+    len: &str,
+) -> Result<String<&'a A>, Fault<&'a A>> {
+    let memory = words_of::<R, A>(alloc, words)?;
+    let span = span_of::<R, O, A>(alloc, start, len)?;
+    if !span.fits(memory.len()) {
+        return Err(Fault::line(alloc, &"span does not fit")?);
+    }
+    // Word numbers and counts as u128, in which no sum of two of them passes the type.
+    let first = span.address() as u128;
+    let mut text = String::new(alloc);
+    let total = match span.domain(&memory) {
+        Domain::Enclave(part) => {
+            write_item(&mut text, "enclave", first, part.load_value())?;
+            1
+        }
+        Domain::Region { head, body, tail } => {
+            let heads = u128::from(head.is_some());
+            let tails = u128::from(tail.is_some());
+            let bodies = body.len() as u128;
+            if let Some(part) = head {
+                write_item(&mut text, "head", first, part.load_value())?;
+            }
+            for (k, word) in body.iter().enumerate() {
+                write_item(&mut text, "body", first + heads + k as u128, *word)?;
+            }
+            if let Some(part) = tail {
+                write_item(&mut text, "tail", first + heads + bodies, part.load_value())?;
+            }
+            heads + bodies + tails
+        }
+    };
+    writeln!(text, "total {total}")?;
+    Ok(text)
+}
+
+// The line of an item: which part it is, its word, and its value in hexadecimal.
+fn write_item<R: BitRegister, A: Allocator>(
+    text: &mut String<A>,
+    part: &str,
+    word: u128,
+    value: R,
+) -> Result<(), AllocError> {
+    let value = value.to_u128();
+    writeln!(text, "{part} {word} {value:x}")
+}
+
+// The span of `len` bits from a place on.
+fn span_of<'a, R: BitRegister, O, A: Allocator>(
+    alloc: &'a A,
+    start: &str,
+    len: &str,
+) -> Result<BitSpan<R, O>, Fault<&'a A>> {
+    let start = place(start).ok_or(Fault::Usage)?;
+    let len = place(len).ok_or(Fault::Usage)?;
+    let width = u64::from(R::BITS);
+    let head = BitIdx::new_unchecked((start % width) as u8);
+    match BitSpan::new((start / width) as isize, head, len as usize) {
+        Ok(span) => Ok(span),
+        Err(error) => Err(Fault::line(alloc, &error)?),
+    }
+}
+
+// A decimal number of 64 bits.
+fn place(text: &str) -> Option<u64> {
+    let n = number(text, 10, u64::MAX as u128)?;
+    Some(n as u64)
+}

@@ -1,0 +1,33 @@
+//! Bit addressing from the command line.
+#![tactic(auto)]
+
+mod answer;
+mod domain;
+mod number;
+#[cfg(test)]
+mod tests;
+mod words;
+
+use std::env::{self, Env};
+use std::io;
+use std::process::ExitCode;
+
+fn main(rt: HostRuntime) -> ExitCode {
+    ExitCode::from(run(&rt))
+}
+
+// The exit status. Arguments that cannot be read are answered as want of memory is.
+fn run<R: Env + AllocGlobal + Print>(rt: &R) -> u8 {
+    let alloc = rt.alloc();
+    let mut out = io::writer(rt);
+    let Ok(all) = env::args(rt) else {
+        return answer::out_of_memory(&mut out);
+    };
+    let mut args: Vec<String> = Vec::new(alloc);
+    for arg in all.skip(1) {
+        if args.push(arg).is_err() {
+            return answer::out_of_memory(&mut out);
+        }
+    }
+    answer::answer(&alloc, &args, &mut out)
+}

@@ -1,0 +1,131 @@
+//! Answers of the program, and writers that fail.
+
+use crate::answer::answer;
+use std::alloc::{AllocError, Global};
+use std::io;
+use std::io::Write;
+use std::test::Fail;
+
+// A writer that takes at most `step` bytes a call, and fails once it has taken `limit`.
+#[derive(Drop)]
+struct Slow {
+    taken: Vec<u8>,
+    step: usize,
+    limit: usize,
+    flushes: usize,
+    flush_fails: bool,
+}
+
+impl Slow {
+    fn new(alloc: Global, step: usize, limit: usize) -> Slow {
+        Slow {
+            taken: Vec::new(alloc),
+            step,
+            limit,
+            flushes: 0,
+            flush_fails: false,
+        }
+    }
+}
+
+impl Write for Slow {
+    fn write(&mut self, buf: &[u8]) -> io::Result<usize> {
+        if self.taken.len() >= self.limit {
+            return Err(io::Error::from(io::ErrorKind::BrokenPipe));
+        }
+        let n = buf.len().min(self.step).min(self.limit - self.taken.len());
+        self.taken.extend_from_slice(&buf[..n])?;
+        Ok(n)
+    }
+
+    fn flush(&mut self) -> io::Result<()> {
+        if self.flush_fails {
+            return Err(io::Error::from(io::ErrorKind::BrokenPipe));
+        }
+        self.flushes = self.flushes.saturating_add(1);
+        Ok(())
+    }
+}
+
+// The arguments of a line.
+fn words(alloc: Global, line: &str) -> Result<Vec<String>, AllocError> {
+    let mut all = Vec::new(alloc);
+    for word in line.split_whitespace() {
+        all.push(String::from_str(alloc, word)?)?;
+    }
+    Ok(all)
+}
+
+const USAGE: &str =
+    "usage: bits domain ORDER REG WORDS START LEN | mask ORDER REG FROM UPTO | verify CANDIDATE | run ORDER REG WORDS SPANS COMMANDS\n";
+
+const FIRST: &str = "domain lsb0 u8 12,34,56 4 8";
+
+#[test]
+fn answers(rt: HostRuntime) -> Result<(), Fail> {
+    for (line, status, want) in [
+        (FIRST, 0, "head 0 10\ntail 1 4\ntotal 2\n"),
+        (
+            "domain lsb0 u8 12,34,56 4 16",
+            0,
+            "head 0 10\nbody 1 34\ntail 2 6\ntotal 3\n",
+        ),
+        ("domain lsb0 u8 12,34,56 18 4", 0, "enclave 2 14\ntotal 1\n"),
+        (
+            "domain lsb0 u8 12,fF,056 000 016",
+            0,
+            "body 0 12\nbody 1 ff\ntotal 2\n",
+        ),
+        ("domain lsb0 u8 - 0 0", 0, "total 0\n"),
+        ("domain lsb0 u8 12 4 8", 2, "fault: span does not fit\n"),
+        (
+            "domain lsb0 u8 - 0 2305843009213693952",
+            2,
+            "fault: Length 2305843009213693952 is too long to encode in a bit-slice, which can only accept 2305843009213693951 bits\n",
+        ),
+        ("", 2, USAGE),
+        ("domain lsb0 u8 12 4", 2, USAGE),
+        ("domain lsb0 u8 12 4 8 9", 2, USAGE),
+        ("domains lsb0 u8 12 4 8", 2, USAGE),
+        ("domain msb1 u8 12 4 8", 2, USAGE),
+        ("domain lsb0 u7 12 4 8", 2, USAGE),
+        ("domain lsb0 u8 100 4 8", 2, USAGE),
+        ("domain lsb0 u8 1,,2 4 8", 2, USAGE),
+        ("domain lsb0 u8 +1 4 8", 2, USAGE),
+        ("domain lsb0 u8 12 -4 8", 2, USAGE),
+        ("domain lsb0 u8 12 4 18446744073709551616", 2, USAGE),
+    ] {
+        let args = words(rt.alloc(), line)?;
+        let mut out = Slow::new(rt.alloc(), 1, 1000);
+        assert_eq!(rt; answer(&rt.alloc(), &args, &mut out), status, "at {line}");
+        assert_eq!(rt; out.taken.as_slice(), want.as_bytes(), "at {line}");
+        assert_eq!(rt; out.flushes, 1, "at {line}");
+    }
+    Ok(())
+}
+
+// The first answer is 27 bytes long.
+const FIRST_LEN: usize = 27;
+
+#[test]
+fn a_write_may_fail(rt: HostRuntime) -> Result<(), Fail> {
+    let args = words(rt.alloc(), FIRST)?;
+    for limit in 0..FIRST_LEN {
+        let mut out = Slow::new(rt.alloc(), 3, limit);
+        assert_eq!(rt; answer(&rt.alloc(), &args, &mut out), 4, "at {limit}");
+        assert_eq!(rt; out.taken.len(), limit);
+        assert_eq!(rt; out.flushes, 0);
+    }
+    let mut out = Slow::new(rt.alloc(), 3, FIRST_LEN);
+    assert_eq!(rt; answer(&rt.alloc(), &args, &mut out), 0);
+    Ok(())
+}
+
+#[test]
+fn a_flush_may_fail(rt: HostRuntime) -> Result<(), Fail> {
+    let args = words(rt.alloc(), FIRST)?;
+    let mut out = Slow::new(rt.alloc(), 3, FIRST_LEN);
+    out.flush_fails = true;
+    assert_eq!(rt; answer(&rt.alloc(), &args, &mut out), 4);
+    Ok(())
+}

@@ -1,0 +1,11 @@
+pub use Rattle.bitvec_mem.specs.Digit
+pub use Rattle.bitvec_mem.specs.Numeral
+pub use Rattle.bitvec_order.specs.Index
+pub use Rattle.bitvec_order.specs.Order
+pub use Rattle.bitvec_order.specs.OrderLemmas
+pub use Rattle.bitvec_ptr.specs.Memory
+pub use Rattle.bitvec_ptr.specs.Place
+pub use Rattle.bitvec_domain.specs.BitSpan
+pub use Rattle.bitvec_domain.specs.Domain
+pub use Rattle.bitvec_domain.specs.DomainView
+pub use Rattle.bitvec_domain.specs.Span
