@@ -260,6 +260,327 @@ impl BitRegister for u8 {
     ghost default_law = { λ a h. h };
 }
 
+#[tactic(auto, using(crate::proofs::Widths::digits_16))]
+impl BitRegister for u16 {
+    const BITS: u8 = 16;
+
+    const INDX: u8 = 4;
+
+    const MASK: u8 = 15;
+
+    const ZERO: u16 = 0;
+
+    const ONE: u16 = 1;
+
+    const ALL: u16 = u16::MAX;
+
+    const NAME: &'static str = "u16";
+
+    ghost BITS = { 16 };
+
+    ghost INDX = { 4 };
+
+    ghost MASK = { 15 };
+
+    ghost ZERO = { 0 };
+
+    ghost ONE = { 1 };
+
+    ghost ALL = { 65535 };
+
+    ghost name = { codes "u16" };
+
+    ghost number = { λ x. x };
+
+    ghost from_number = { λ n. n };
+
+    ghost number_back = { λ a. refl };
+
+    fn name_text() -> &'static str {
+        Self::NAME
+    }
+
+    fn and(self, with: u16) -> u16 {
+        self & with
+    }
+
+    fn or(self, with: u16) -> u16 {
+        self | with
+    }
+
+    fn xor(self, with: u16) -> u16 {
+        self ^ with
+    }
+
+    fn not(self) -> u16 {
+        !self
+    }
+
+    fn shl(self, n: u8) -> u16 {
+        self << n
+    }
+
+    fn shr(self, n: u8) -> u16 {
+        self >> n
+    }
+
+    fn count_ones(self) -> u32 {
+        u16::count_ones(self)
+    }
+
+    fn to_u128(self) -> u128 {
+        u128::from(self)
+    }
+
+    fn from_u128(n: u128) -> Option<u16> {
+        u16::try_from(n).ok()
+    }
+
+    ghost width_law = { refl };
+
+    ghost least_law = { lit≤ tt };
+
+    ghost most_law = { lit≤ tt };
+
+    ghost eight_law = { lit≤ tt };
+
+    ghost limit_law = { lit≤ tt };
+
+    ghost mask_law = { refl };
+
+    ghost zero_law = { refl };
+
+    ghost one_law = { refl };
+
+    ghost all_law = { refl };
+
+    ghost from_number_law = { λ n h. refl };
+
+    ghost same_law = { λ a b h. h };
+
+    ghost digits_law = { same_from_digits 16 };
+
+    ghost eq_law = { λ a b. refl };
+
+    ghost order_law = { λ a b. refl };
+
+    ghost default_law = { λ a h. h };
+}
+
+#[tactic(auto, using(crate::proofs::Widths::digits_32))]
+impl BitRegister for u32 {
+    const BITS: u8 = 32;
+
+    const INDX: u8 = 5;
+
+    const MASK: u8 = 31;
+
+    const ZERO: u32 = 0;
+
+    const ONE: u32 = 1;
+
+    const ALL: u32 = u32::MAX;
+
+    const NAME: &'static str = "u32";
+
+    ghost BITS = { 32 };
+
+    ghost INDX = { 5 };
+
+    ghost MASK = { 31 };
+
+    ghost ZERO = { 0 };
+
+    ghost ONE = { 1 };
+
+    ghost ALL = { 4294967295 };
+
+    ghost name = { codes "u32" };
+
+    ghost number = { λ x. x };
+
+    ghost from_number = { λ n. n };
+
+    ghost number_back = { λ a. refl };
+
+    fn name_text() -> &'static str {
+        Self::NAME
+    }
+
+    fn and(self, with: u32) -> u32 {
+        self & with
+    }
+
+    fn or(self, with: u32) -> u32 {
+        self | with
+    }
+
+    fn xor(self, with: u32) -> u32 {
+        self ^ with
+    }
+
+    fn not(self) -> u32 {
+        !self
+    }
+
+    fn shl(self, n: u8) -> u32 {
+        self << n
+    }
+
+    fn shr(self, n: u8) -> u32 {
+        self >> n
+    }
+
+    fn count_ones(self) -> u32 {
+        u32::count_ones(self)
+    }
+
+    fn to_u128(self) -> u128 {
+        u128::from(self)
+    }
+
+    fn from_u128(n: u128) -> Option<u32> {
+        u32::try_from(n).ok()
+    }
+
+    ghost width_law = { refl };
+
+    ghost least_law = { lit≤ tt };
+
+    ghost most_law = { lit≤ tt };
+
+    ghost eight_law = { lit≤ tt };
+
+    ghost limit_law = { lit≤ tt };
+
+    ghost mask_law = { refl };
+
+    ghost zero_law = { refl };
+
+    ghost one_law = { refl };
+
+    ghost all_law = { refl };
+
+    ghost from_number_law = { λ n h. refl };
+
+    ghost same_law = { λ a b h. h };
+
+    ghost digits_law = { same_from_digits 32 };
+
+    ghost eq_law = { λ a b. refl };
+
+    ghost order_law = { λ a b. refl };
+
+    ghost default_law = { λ a h. h };
+}
+
+#[tactic(auto, using(crate::proofs::Widths::digits_64))]
+impl BitRegister for u64 {
+    const BITS: u8 = 64;
+
+    const INDX: u8 = 6;
+
+    const MASK: u8 = 63;
+
+    const ZERO: u64 = 0;
+
+    const ONE: u64 = 1;
+
+    const ALL: u64 = u64::MAX;
+
+    const NAME: &'static str = "u64";
+
+    ghost BITS = { 64 };
+
+    ghost INDX = { 6 };
+
+    ghost MASK = { 63 };
+
+    ghost ZERO = { 0 };
+
+    ghost ONE = { 1 };
+
+    ghost ALL = { 18446744073709551615 };
+
+    ghost name = { codes "u64" };
+
+    ghost number = { λ x. x };
+
+    ghost from_number = { λ n. n };
+
+    ghost number_back = { λ a. refl };
+
+    fn name_text() -> &'static str {
+        Self::NAME
+    }
+
+    fn and(self, with: u64) -> u64 {
+        self & with
+    }
+
+    fn or(self, with: u64) -> u64 {
+        self | with
+    }
+
+    fn xor(self, with: u64) -> u64 {
+        self ^ with
+    }
+
+    fn not(self) -> u64 {
+        !self
+    }
+
+    fn shl(self, n: u8) -> u64 {
+        self << n
+    }
+
+    fn shr(self, n: u8) -> u64 {
+        self >> n
+    }
+
+    fn count_ones(self) -> u32 {
+        u64::count_ones(self)
+    }
+
+    fn to_u128(self) -> u128 {
+        u128::from(self)
+    }
+
+    fn from_u128(n: u128) -> Option<u64> {
+        u64::try_from(n).ok()
+    }
+
+    ghost width_law = { refl };
+
+    ghost least_law = { lit≤ tt };
+
+    ghost most_law = { lit≤ tt };
+
+    ghost eight_law = { lit≤ tt };
+
+    ghost limit_law = { lit≤ tt };
+
+    ghost mask_law = { refl };
+
+    ghost zero_law = { refl };
+
+    ghost one_law = { refl };
+
+    ghost all_law = { refl };
+
+    ghost from_number_law = { λ n h. refl };
+
+    ghost same_law = { λ a b h. h };
+
+    ghost digits_law = { same_from_digits 64 };
+
+    ghost eq_law = { λ a b. refl };
+
+    ghost order_law = { λ a b. refl };
+
+    ghost default_law = { λ a h. h };
+}
+
 #[tactic(auto, using(crate::proofs::Widths::digits_64))]
 impl BitRegister for usize {
     const BITS: u8 = 64;
@@ -367,6 +688,17 @@ impl BitRegister for usize {
     ghost default_law = { λ a h. h };
 }
 
+/// The width of a register in bits.
+///
+/// As in the Rust crate.
+pub fn bits_of<R: BitRegister>() -> usize
+    ensures value { result ≡ R.BITS }
+    ensures least { 8 ≤ result }
+    ensures greatest { result ≤ 128 }
+{
+    R::BITS as usize
+}
+
 /// How many registers hold so many bits: `bits / BITS`, and one more where a remainder is left.
 ///
 /// As in the Rust crate.
@@ -374,4 +706,94 @@ pub fn elts<R: BitRegister>(bits: usize) -> usize
     ensures { result ≡ bits / R.BITS + (if bits % R.BITS == 0 then 0 else 1) }
 {
     bits.div_ceil(usize::from(R::BITS))
+}
+
+/// One register, as a memory of a single word.
+///
+/// It is copied, compared, hashed and made by default as its `elem` is. As in the Rust crate, where
+/// it stands for atomic and shared words too.
+#[derive(Clone, Copy, PartialEq, Eq, PartialOrd, Ord, Hash, Default, Debug)]
+pub struct BitElement<R: BitRegister = usize> {
+    /// The word.
+    pub elem: R,
+}
+
+impl<R: BitRegister> BitElement<R> {
+    /// The memory of the word `elem`.
+    pub fn new(elem: R) -> Self
+        ensures { result.elem ≡ elem }
+    {
+        BitElement { elem }
+    }
+}
+
+#[cfg(test)]
+mod tests {
+    use super::*;
+    use std::process::Abort;
+    use std::test::Fail;
+
+    // The constants of a register.
+    fn has_constants<R: BitRegister>(rt: &impl Abort, numbers: [u8; 3], name: &str) {
+        assert_eq!(rt; [R::BITS, R::INDX, R::MASK], numbers);
+        assert_eq!(rt; R::NAME, name);
+        assert_eq!(rt; R::name_text(), name);
+        assert_eq!(rt; R::ZERO.to_u128(), 0);
+        assert_eq!(rt; R::ONE.to_u128(), 1);
+        assert_eq!(rt; R::default(), R::ZERO);
+    }
+
+    // Its functions, on the digits 1100 and 1010; `past` is the least number that it has no room for.
+    fn has_functions<R: BitRegister>(rt: &impl Abort, past: u128) -> Result<(), Fail> {
+        let a = R::from_u128(12).ok_or("12 is a number of each register")?;
+        let b = R::from_u128(10).ok_or("10 is a number of each register")?;
+        assert_eq!(rt; a.and(b).to_u128(), 8);
+        assert_eq!(rt; a.or(b).to_u128(), 14);
+        assert_eq!(rt; a.xor(b).to_u128(), 6);
+        assert_eq!(rt; a.not().and(b).to_u128(), 2);
+        assert_eq!(rt; a.not().or(a), R::ALL);
+        assert_eq!(rt; a.shl(1).to_u128(), 24);
+        assert_eq!(rt; a.shr(2).to_u128(), 3);
+        assert_eq!(rt; a.count_ones(), 2);
+        assert_eq!(rt; R::from_u128(past), None);
+        assert!(rt; b < a);
+        Ok(())
+    }
+
+    #[test]
+    fn constants(rt: HostRuntime) {
+        has_constants::<u8>(&rt, [8, 3, 7], "u8");
+        has_constants::<u16>(&rt, [16, 4, 15], "u16");
+        has_constants::<u32>(&rt, [32, 5, 31], "u32");
+        has_constants::<u64>(&rt, [64, 6, 63], "u64");
+        has_constants::<usize>(&rt, [64, 6, 63], "usize");
+    }
+
+    #[test]
+    fn functions(rt: HostRuntime) -> Result<(), Fail> {
+        has_functions::<u8>(&rt, 0x100)?;
+        has_functions::<u16>(&rt, 0x1_0000)?;
+        has_functions::<u32>(&rt, 0x1_0000_0000)?;
+        has_functions::<u64>(&rt, 0x1_0000_0000_0000_0000)?;
+        has_functions::<usize>(&rt, 0x1_0000_0000_0000_0000)?;
+        Ok(())
+    }
+
+    #[test]
+    fn widths_and_counts(rt: HostRuntime) {
+        assert_eq!(rt; bits_of::<u16>(), 16);
+        for (bits, want) in [(0, 0), (16, 1), (17, 2)] {
+            assert_eq!(rt; elts::<u16>(bits), want, "{bits} bits");
+        }
+    }
+
+    #[test]
+    fn elements(rt: HostRuntime) {
+        let one = BitElement::<u16>::new(1);
+        let two = BitElement::<u16>::new(2);
+        assert_eq!(rt; one.elem, 1);
+        assert!(rt; one < two);
+        assert_ne!(rt; one, two);
+        assert_eq!(rt; BitElement::<u16>::default().elem, 0);
+    }
 }

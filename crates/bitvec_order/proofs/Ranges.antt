@@ -4,6 +4,13 @@ use Rattle.std.specs.List.{range_with_len}
 use Rattle.std.specs.Iterator.{MakesProgress, item_count, YieldsLast}
 use Rattle.std.proofs.Common.{Some, None, Option, map, ◌^◌}
 use Rattle.std.proofs.lemmas.List.{map-append}
+use Rattle.std.proofs.lemmas.List.FromFn.{length-range_with_len}
+
+-- how many numbers a run has
+pub length-run : (a b : ℕ) → length (range_with_len a (b - a)) ≡ b - a
+length-run a b = length-range_with_len a (b - a)
+
+pub ruleset run_lengths = (length-run)
 
 -- the first number, and the others
 pub range_first : (a b : ℕ) → a < b → range_with_len a (b - a) ≡ a ∷ range_with_len (a + 1) (b - (a + 1))

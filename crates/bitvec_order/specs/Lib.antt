@@ -1,4 +1,5 @@
 pub mod Index
 pub mod Order
 pub mod OrderLemmas
+pub mod Text
 pub use Rattle.bitvec_mem.specs.Digit

@@ -14,6 +14,9 @@ use std::alloc::AllocError;
 use std::marker::{Model, PhantomData};
 
 pub mod range;
+#[cfg(test)]
+mod tests;
+pub mod text;
 
 /// The least and the greatest value of a type.
 ///
@@ -104,6 +107,50 @@ impl<R: BitRegister> BitIdx<R> {
         ensures below { self < R.BITS }
     {
         self.idx
+    }
+
+    /// The index one further, and whether that crosses into the next register, at its first index.
+    ///
+    /// As in the Rust crate.
+    pub fn next(self) -> (Self, bool)
+        ensures moved { result.0 ≡ (self + 1) % R.BITS }
+        ensures crossed { IsTrue result.1 ↔ (self ≡ R.BITS - 1) }
+    {
+        if self.idx == R::MASK {
+            (Self::MIN, true)
+        } else {
+            (Self::new_unchecked(self.idx + 1), false)
+        }
+    }
+
+    /// The index one back, and whether that crosses into the register before, at its last index.
+    ///
+    /// As in the Rust crate.
+    pub fn prev(self) -> (Self, bool)
+        ensures moved { result.0 ≡ (self + R.BITS - 1) % R.BITS }
+        ensures crossed { IsTrue result.1 ↔ (self ≡ 0) }
+    {
+        if self.idx == 0 {
+            (Self::MAX, true)
+        } else {
+            (Self::new_unchecked(self.idx - 1), false)
+        }
+    }
+
+    /// How many registers on the index lies that is `by` bits further, and that index.
+    ///
+    /// The sum of this index and `by` wraps at the end of `isize`; the registers are its floor by the
+    /// width, below zero for a step back, and the index is its remainder. As in the Rust crate, which
+    /// keeps it private.
+    pub fn offset(self, by: isize) -> (isize, Self)
+        ensures carried { result.0 ≡ int_div_euclid (int_wrap w64 (pos self +ℤ by)) (pos R.BITS) }
+        ensures index { pos result.1 ≡ int_rem_euclid (int_wrap w64 (pos self +ℤ by)) (pos R.BITS) }
+    {
+        let far = (self.idx as isize).wrapping_add(by);
+        let width = isize::from(R::BITS);
+        let carried = far.div_euclid(width);
+        let index = far.rem_euclid(width) as u8;
+        (carried, Self::new_unchecked(index))
     }
 
     /// How many registers `len` bits from this one on meet, and where they end in the last.
@@ -326,6 +373,16 @@ impl<R: BitRegister> BitPos<R> {
             sel: R::ONE.shl(self.pos),
         }
     }
+
+    /// The mask with this position alone.
+    ///
+    /// As in the Rust crate.
+    pub fn mask(self) -> BitMask<R>
+        ensures value { result ≡ 2 ^ self }
+        ensures below { self < R.BITS }
+    {
+        self.select().mask()
+    }
 }
 
 /// A number of a register with one digit set: the selector of a position.
@@ -387,6 +444,18 @@ impl<R: BitRegister> BitSel<R> {
         ensures position { (p : ℕ) × (p < R.BITS) × (self ≡ 2 ^ p) }
     {
         self.sel
+    }
+
+    /// The mask with the selector's position alone.
+    ///
+    /// As in the Rust crate.
+    pub fn mask(self) -> BitMask<R>
+        ensures value { result ≡ self }
+        ensures position { (p : ℕ) × (p < R.BITS) × (self ≡ 2 ^ p) }
+    {
+        BitMask {
+            mask: self.into_inner(),
+        }
     }
 }
 
