@@ -1,6 +1,6 @@
 -- What a lawful order's numbers have at the position of each index. The layers above cite these, and open no mask.
-use Rattle.std.proofs.Common.{◌≡◌, ◌≢◌, ◌⊎◌, ℕ, zero, suc, ◌<◌, ◌≤◌, ◌^◌, Bool, true, false, cond, eqb, ◌&&◌, ltb, nat_le, nat_lt, refl, sym, ap, ◌∙◌, subst, inl, inr, ⊎_elim, arith}
-use Rattle.std.proofs.lemmas.Bool.{cases_eq, cases_lt, cases_Bool, true_from_ne_false, false_from_ne_true, le-leb, lt-leb, leb-true, ltb-true, le-ltb, lt-ltb}
+use Rattle.std.proofs.Common.{◌≡◌, ◌≢◌, ◌⊎◌, ℕ, zero, suc, ◌<◌, ◌≤◌, ◌^◌, Bool, true, false, cond, eqb, ◌&&◌, nat_le, nat_lt, refl, sym, ap, ◌∙◌, subst, inl, inr, ⊎_elim, arith}
+use Rattle.std.proofs.lemmas.Bool.{cases_eq, cases_lt, cases_Bool, false_from_ne_true, le-leb, lt-leb, le-ltb}
 use Rattle.std.proofs.lemmas.Bool.Decides.{nat_tests}
 use Rattle.bitvec_mem.specs.Digit.{digit}
 use Rattle.bitvec_mem.specs.SameDigits.{same_from_digits}
@@ -100,11 +100,11 @@ both from upto i h k = grind (arith, nat_tests)
 not_both : (from upto i : ℕ) → (from ≤ i → i < upto → ⊥) → (nat_le from i && nat_lt i upto) ≡ false
 not_both from upto i h =
     elim (cases_lt i from) [
-        inl below ↦ (rw (lt-leb from i below) refl)
+      | inl below ↦ (rw (lt-leb from i below) refl)
       | inr from_on ↦ elim (cases_lt i upto) [
-            inl inside ↦ absurd (h from_on inside)
-          | inr past ↦ (rw (le-leb from i from_on, le-ltb i upto past) refl)
-        ]
+        | inl inside ↦ absurd (h from_on inside)
+        | inr past ↦ (rw (le-leb from i from_on, le-ltb i upto past) refl)
+      ]
     ]
 
 -- a mask has the position of an index exactly where it takes the index
@@ -112,7 +112,7 @@ pub digit-mask_at : (width : ℕ) (at : ℕ → ℕ) (from upto n i : ℕ) → I
 digit-mask_at width at from upto n i law within mask h =
     let ones = mask.ones (at i) (law.below i h) in
     elim (cases_Bool (digit n (at i))) [
-        inl one ↦ (
+      | inl one ↦ (
           let r = ones.0 one in
           let below : r.0 < width = (let u = r.2 in omega arith) in
           let same : r.0 ≡ i = law.apart r.0 i below h r.3 in
@@ -124,7 +124,7 @@ digit-mask_at width at from upto n i law within mask h =
 pub digit-number_of_at : (width : ℕ) (at : ℕ → ℕ) (test : ℕ → Bool) (i : ℕ) → IsOneToOne width at → i < width → digit (number_of at test width) (at i) ≡ test i
 digit-number_of_at width at test i law h =
     elim (cases_Bool (digit (number_of at test width) (at i))) [
-        inl one ↦ (
+      | inl one ↦ (
           let r = chosen-from_digit at test width (at i) one in
           one ∙ sym (ap test (sym (law.apart r.0 i r.1 h r.3)) ∙ r.2))
       | inr none ↦ (none ∙ sym (false_from_ne_true (test i) (λ passes. let one = digit-from_chosen at test width (at i) (i, h, passes, refl) in cc)))

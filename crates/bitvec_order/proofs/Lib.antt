@@ -1,4 +1,5 @@
 pub mod IndexLemmas
 pub mod MaskLemmas
 pub mod Ranges
+pub mod ShiftedMasks
 pub mod Steps

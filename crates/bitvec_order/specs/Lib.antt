@@ -1,4 +1,5 @@
 pub mod Index
+pub mod Masks
 pub mod Order
 pub mod OrderLemmas
 pub mod Text

@@ -1,10 +1,10 @@
 -- Numbers made from positions, and the laws of an order whose selectors and masks are the plain ones.
-use Rattle.std.proofs.Common.{◌≡◌, ℕ, zero, suc, ◌<◌, ◌≤◌, ◌^◌, ◌==◌, Bool, true, false, ◌&&◌, ◌||◌, if◌then◌else◌, nat_le, refl, sym, ap, ◌∙◌, inl, inr, arith}
+use Rattle.std.proofs.Common.{◌≡◌, ℕ, zero, suc, ◌-◌, ◌<◌, ◌≤◌, ◌^◌, ◌==◌, Bool, true, false, ◌&&◌, ◌||◌, if◌then◌else◌, nat_le, refl, sym, ap, ◌∙◌, inl, inr, arith}
 use Rattle.std.proofs.lemmas.Nat.{or_lt, pow_pos, pow_below}
 use Rattle.std.proofs.lemmas.Bool.{cases_eq, cases_Bool, or_cases, eqb-true, eq-eqb, leb-true, le-leb}
 use Rattle.bitvec_mem.specs.Digit.{digit}
 use Rattle.bitvec_mem.proofs.DigitLemmas.{digit-or, digit-zero, digit-pow}
-use Rattle.bitvec_order.specs.Order.{mask_start, mask_end, IsMaskOf, SelectsPositions, MasksPositions, number_of, plain_mask_of}
+use Rattle.bitvec_order.specs.Order.{mask_start, mask_end, IsMaskOf, IsOneToOne, SelectsPositions, MasksPositions, number_of, plain_mask_of}
 
 -- index i is below n, passes the test and has position p
 abbrev pub IsChosenAt : (ℕ → ℕ) → (ℕ → Bool) → ℕ → ℕ → Type 0
@@ -89,3 +89,10 @@ pub plain_masks : (width : ℕ) (at : ℕ → ℕ) → ((i : ℕ) → i < width 
 plain_masks width at below = record {
   sets = λ from upto a b c. plain_mask_is_mask width at (mask_start from) (mask_end width upto) (λ i h k. below i (omega arith));
 }
+
+-- the numbers of the indices as their positions are different, and so are those counted down from the highest
+pub low_one_to_one : (width : ℕ) → IsOneToOne width (λ i. i)
+low_one_to_one width = record { below = λ i h. h; apart = λ i j h k e. e }
+
+pub high_one_to_one : (width top : ℕ) → 8 ≤ width → top ≡ width - 1 → IsOneToOne width (λ i. top - i)
+high_one_to_one width top some e = record { below = λ i h. omega arith; apart = λ i j h k d. omega arith }

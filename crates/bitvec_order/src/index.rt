@@ -11,7 +11,9 @@ ghost use Rattle.bitvec_mem.specs.Digit.{digit};
 
 use bitvec_mem::mem::BitRegister;
 use std::alloc::AllocError;
+use std::iter::Sum;
 use std::marker::{Model, PhantomData};
+use std::ops::{BitAnd, BitOr, Not};
 
 pub mod range;
 #[cfg(test)]
@@ -511,6 +513,10 @@ impl<R: BitRegister> Clone for BitMask<R> {
 }
 
 impl<R: BitRegister> BitMask<R> {
+    ghost use Rattle.std.specs.Iterator.{IsFinite};
+    ghost use Rattle.std.specs.Iterator.Runs.{WholeRun};
+    ghost use Rattle.bitvec_order.specs.Masks.{HasDigits, is_in_some};
+
     /// The mask `mask`: any number of the register is one.
     pub fn new(mask: R) -> Self
         ensures { result ≡ R.number mask }
@@ -528,6 +534,21 @@ impl<R: BitRegister> BitMask<R> {
         self.mask
     }
 
+    /// Whether the selector's position is in the mask.
+    pub fn test(&self, sel: BitSel<R>) -> bool
+        ensures { (p : ℕ) → sel ≡ 2 ^ p → result ≡ digit self.now p }
+    {
+        self.mask.and(sel.sel) != R::ZERO
+    }
+
+    /// Adds the selector's position to the mask.
+    pub fn insert(&mut self, sel: BitSel<R>)
+        ensures below { self.new < 2 ^ R.BITS }
+        ensures digits { (p : ℕ) → p < R.BITS → digit self.new p ≡ (digit self.old p || digit sel p) }
+    {
+        self.mask = self.mask.or(sel.sel);
+    }
+
     /// The mask with the selector's position added.
     pub fn combine(self, sel: BitSel<R>) -> Self
         ensures below { result < 2 ^ R.BITS }
@@ -536,5 +557,78 @@ impl<R: BitRegister> BitMask<R> {
         BitMask {
             mask: self.mask.or(sel.sel),
         }
+    }
+
+    /// The mask with the positions of all the selectors: their union, so a repeat counts once.
+    ///
+    /// For any iterator that ends. The Rust crate has this as `Sum` alone.
+    pub fn sum<I: Iterator<Item = BitSel<R>>>(iter: I) -> Self
+        requires can { I.can_next iter }
+        requires ends { IsFinite (I.remaining iter) }
+        ensures union { WholeRun I.next_gives iter (λ p. HasDigits R.BITS result (is_in_some p.items)) }
+    {
+        iter.sum()
+    }
+}
+
+/// The positions that are in the mask and are ones of `rhs`.
+impl<R: BitRegister> BitAnd<R> for BitMask<R> {
+    type Output = Self;
+
+    ghost use Rattle.std.specs.Prelude.{◌&&◌};
+    ghost use Rattle.bitvec_order.specs.Masks.{HasDigits};
+
+    ghost bitand_gives = { λ m v r. HasDigits R.BITS r (λ p. digit m p && digit (R.number v) p) };
+
+    fn bitand(self, rhs: R) -> Self {
+        BitMask {
+            mask: self.mask.and(rhs),
+        }
+    }
+}
+
+/// The positions that are in the mask or are ones of `rhs`.
+impl<R: BitRegister> BitOr<R> for BitMask<R> {
+    type Output = Self;
+
+    ghost use Rattle.bitvec_order.specs.Masks.{HasDigits};
+
+    ghost bitor_gives = { λ m v r. HasDigits R.BITS r (λ p. digit m p || digit (R.number v) p) };
+
+    fn bitor(self, rhs: R) -> Self {
+        BitMask {
+            mask: self.mask.or(rhs),
+        }
+    }
+}
+
+/// The positions below the width that are not in the mask.
+impl<R: BitRegister> Not for BitMask<R> {
+    type Output = Self;
+
+    ghost use Rattle.std.specs.Prelude.{not};
+    ghost use Rattle.bitvec_order.specs.Masks.{HasDigits};
+
+    ghost not_gives = { λ m r. HasDigits R.BITS r (λ p. not (digit m p)) };
+
+    fn not(self) -> Self {
+        BitMask {
+            mask: self.mask.not(),
+        }
+    }
+}
+
+/// The union of the selectors, as [`BitMask::sum`].
+impl<R: BitRegister> Sum<BitSel<R>> for BitMask<R> {
+    ghost use Rattle.bitvec_order.specs.Masks.{HasDigits, is_in_some};
+
+    ghost sum_gives = { λ sels r. HasDigits R.BITS r (is_in_some sels) };
+
+    fn sum<I: Iterator<Item = BitSel<R>>>(iter: I) -> Self {
+        let mut all = Self::ZERO;
+        for sel in iter {
+            all.insert(sel);
+        }
+        all
     }
 }

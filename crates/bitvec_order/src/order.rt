@@ -1,9 +1,11 @@
 //! Orders of the bits of a register: which position in the number each index has.
 
-ghost use Rattle.std.specs.Prelude.{◌≡◌, ◌↔◌, ℕ, ◌+◌, ◌-◌, ◌*◌, ◌/◌, ◌%◌, ◌^◌, ◌<◌, ◌≤◌, Option};
+ghost use Rattle.std.specs.Prelude.{◌≡◌, ◌↔◌, ℕ, ◌+◌, ◌-◌, ◌*◌, ◌/◌, ◌%◌, ◌^◌, ◌<◌, ◌≤◌, Option, nat_le, nat_lt};
+ghost use Rattle.bitvec_mem.specs.Digit.{digit};
 ghost use Rattle.bitvec_order.specs.Order.{mask_start, mask_end, plain_mask_of, IsMaskOf, IsOneToOne, SelectsPositions, MasksPositions};
 ghost use Rattle.bitvec_order.specs.Index.{HasOneDigit};
-ghost use Rattle.bitvec_order.specs.OrderLemmas.{plain_selects, plain_masks};
+ghost use Rattle.bitvec_order.specs.Masks.{HasDisjointMasks};
+ghost use Rattle.bitvec_order.specs.OrderLemmas.{plain_selects, plain_masks, low_one_to_one, high_one_to_one};
 
 use crate::index::{BitEnd, BitIdx, BitMask, BitPos, BitSel, Limits, MaskLimits};
 use bitvec_mem::mem::BitRegister;
@@ -90,6 +92,46 @@ pub trait BitOrder<R: BitRegister>: OrderCandidate<R> {
     ghost masks: { MasksPositions R.BITS Self.at_of Self.mask_of };
 }
 
+impl<R: BitRegister> BitIdx<R> {
+    /// The position of the index in the order.
+    ///
+    /// As in the Rust crate.
+    pub fn position<O: BitOrder<R>>(self) -> BitPos<R>
+        ensures { result ≡ O.at_of self }
+    {
+        O::at(self)
+    }
+
+    /// The selector of the index in the order, two to the power of its position.
+    ///
+    /// As in the Rust crate.
+    pub fn select<O: BitOrder<R>>(self) -> BitSel<R>
+        ensures value { result ≡ 2 ^ O.at_of self }
+        ensures below { self < R.BITS }
+    {
+        // The call says that the index is below the width, and costs nothing.
+        let _number = self.into_inner();
+        O::select(self)
+    }
+
+    /// The selector of the index in the order, as a mask.
+    ///
+    /// As in the Rust crate.
+    pub fn mask<O: BitOrder<R>>(self) -> BitMask<R>
+        ensures value { result ≡ 2 ^ O.at_of self }
+        ensures below { self < R.BITS }
+    {
+        BitMask::new(self.select::<O>().into_inner())
+    }
+}
+
+/// A law: where two ranges of indices do not meet, their masks have no position in common.
+///
+/// It takes and answers nothing; its contract is the law, which any order keeps. Our own.
+pub fn masks_are_disjoint<R: BitRegister, O: BitOrder<R>>()
+    ensures { HasDisjointMasks R.BITS O.mask_of }
+{}
+
 /// The selector of an index, computed from its position alone.
 ///
 /// The Rust crate has this as the default body of `BitOrder::select`.
@@ -141,6 +183,29 @@ pub fn plain_mask_between<R: BitRegister, P: BitAt<R>>(from: Option<u8>, upto: O
     plain_mask::<R, P>(from, upto).into_inner()
 }
 
+/// The number whose ones are its `count` lowest digits.
+fn low_ones<R: BitRegister>(count: u8) -> R
+    requires { count ≤ R.BITS }
+    ensures below { R.number result < 2 ^ R.BITS }
+    ensures digits { (p : ℕ) → p < R.BITS → digit (R.number result) p ≡ nat_lt p count }
+{
+    // A shift asks for less than the width.
+    if count == R::BITS {
+        R::ALL
+    } else {
+        R::ALL.shl(count).not()
+    }
+}
+
+/// The number whose ones are its `count` highest digits.
+fn high_ones<R: BitRegister>(count: u8) -> R
+    requires { count ≤ R.BITS }
+    ensures below { R.number result < 2 ^ R.BITS }
+    ensures digits { (p : ℕ) → p < R.BITS → digit (R.number result) p ≡ nat_le (R.BITS - count) p }
+{
+    low_ones::<R>(R::BITS - count).not()
+}
+
 /// The order from the least significant digit: the position of an index is its number.
 #[derive(Clone, Copy, Debug, Default, PartialEq, Eq, PartialOrd, Ord, Hash)]
 pub struct Lsb0;
@@ -159,18 +224,62 @@ impl<R: BitRegister> OrderCandidate<R> for Lsb0 {
     ghost mask_of = { λ from upto. plain_mask_of (λ i. i) (mask_start from) (mask_end R.BITS upto) };
 
     fn selector(index: u8) -> R {
-        plain_selector::<R, Lsb0>(index)
+        R::ONE.shl(index)
     }
 
     fn mask_between(from: Option<u8>, upto: Option<u8>) -> R {
-        plain_mask_between::<R, Lsb0>(from, upto)
+        let from = from.unwrap_or(0);
+        let upto = upto.unwrap_or(R::BITS);
+        low_ones::<R>(upto - from).shl(from)
     }
 }
 
 impl<R: BitRegister> BitOrder<R> for Lsb0 {
-    ghost one_to_one = { record { below = λ i h. h; apart = λ i j h k e. e } };
+    ghost one_to_one = { low_one_to_one R.BITS };
 
     ghost selects = { plain_selects R.BITS (λ i. i) };
 
-    ghost masks = { plain_masks R.BITS (λ i. i) (λ i h. h) };
+    ghost masks = { plain_masks R.BITS (λ i. i) (low_one_to_one R.BITS).below };
 }
+
+/// The order from the most significant digit: index 0 has the highest position.
+#[derive(Clone, Copy, Debug, Default, PartialEq, Eq, PartialOrd, Ord, Hash)]
+pub struct Msb0;
+
+impl<R: BitRegister> BitAt<R> for Msb0 {
+    ghost at_of = { λ i. R.MASK - i };
+
+    fn position(index: u8) -> u8 {
+        R::MASK - index
+    }
+}
+
+impl<R: BitRegister> OrderCandidate<R> for Msb0 {
+    ghost select_of = { λ i. 2 ^ (R.MASK - i) };
+
+    ghost mask_of = { λ from upto. plain_mask_of (λ i. R.MASK - i) (mask_start from) (mask_end R.BITS upto) };
+
+    fn selector(index: u8) -> R {
+        R::ONE.shl(R::MASK - index)
+    }
+
+    fn mask_between(from: Option<u8>, upto: Option<u8>) -> R {
+        let from = from.unwrap_or(0);
+        let upto = upto.unwrap_or(R::BITS);
+        high_ones::<R>(upto - from).shr(from)
+    }
+}
+
+impl<R: BitRegister> BitOrder<R> for Msb0 {
+    ghost one_to_one = { high_one_to_one R.BITS R.MASK R.eight_law R.mask_law };
+
+    ghost selects = { plain_selects R.BITS (λ i. R.MASK - i) };
+
+    ghost masks = { plain_masks R.BITS (λ i. R.MASK - i) (high_one_to_one R.BITS R.MASK R.eight_law R.mask_law).below };
+}
+
+/// The order of this machine's own bits, always [`Lsb0`].
+pub type LocalBits = Lsb0;
+
+#[cfg(test)]
+mod tests;
