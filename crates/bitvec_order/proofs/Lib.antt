@@ -1,3 +1,4 @@
+pub mod DisjointMasks
 pub mod IndexLemmas
 pub mod MaskLemmas
 pub mod Ranges

@@ -535,6 +535,8 @@ impl<R: BitRegister> BitMask<R> {
     }
 
     /// Whether the selector's position is in the mask.
+    ///
+    /// As in the Rust crate.
     pub fn test(&self, sel: BitSel<R>) -> bool
         ensures { (p : ℕ) → sel ≡ 2 ^ p → result ≡ digit self.now p }
     {
@@ -542,6 +544,8 @@ impl<R: BitRegister> BitMask<R> {
     }
 
     /// Adds the selector's position to the mask.
+    ///
+    /// As in the Rust crate.
     pub fn insert(&mut self, sel: BitSel<R>)
         ensures below { self.new < 2 ^ R.BITS }
         ensures digits { (p : ℕ) → p < R.BITS → digit self.new p ≡ (digit self.old p || digit sel p) }
@@ -561,7 +565,7 @@ impl<R: BitRegister> BitMask<R> {
 
     /// The mask with the positions of all the selectors: their union, so a repeat counts once.
     ///
-    /// For any iterator that ends. The Rust crate has this as `Sum` alone.
+    /// It takes any iterator that ends. The Rust crate has this as `Sum` alone.
     pub fn sum<I: Iterator<Item = BitSel<R>>>(iter: I) -> Self
         requires can { I.can_next iter }
         requires ends { IsFinite (I.remaining iter) }

@@ -191,10 +191,9 @@ fn low_ones<R: BitRegister>(count: u8) -> R
 {
     // A shift asks for less than the width.
     if count == R::BITS {
-        R::ALL
-    } else {
-        R::ALL.shl(count).not()
+        return R::ALL;
     }
+    R::ALL.shl(count).not()
 }
 
 /// The number whose ones are its `count` highest digits.
@@ -207,6 +206,8 @@ fn high_ones<R: BitRegister>(count: u8) -> R
 }
 
 /// The order from the least significant digit: the position of an index is its number.
+///
+/// As in the Rust crate.
 #[derive(Clone, Copy, Debug, Default, PartialEq, Eq, PartialOrd, Ord, Hash)]
 pub struct Lsb0;
 
@@ -243,6 +244,8 @@ impl<R: BitRegister> BitOrder<R> for Lsb0 {
 }
 
 /// The order from the most significant digit: index 0 has the highest position.
+///
+/// As in the Rust crate.
 #[derive(Clone, Copy, Debug, Default, PartialEq, Eq, PartialOrd, Ord, Hash)]
 pub struct Msb0;
 
@@ -278,7 +281,9 @@ impl<R: BitRegister> BitOrder<R> for Msb0 {
     ghost masks = { plain_masks R.BITS (λ i. R.MASK - i) (high_one_to_one R.BITS R.MASK R.eight_law R.mask_law).below };
 }
 
-/// The order of this machine's own bits, always [`Lsb0`].
+/// The order of a machine's own bits, here always [`Lsb0`].
+///
+/// In the Rust crate it is `Msb0` where the highest byte of a number comes first in memory.
 pub type LocalBits = Lsb0;
 
 #[cfg(test)]

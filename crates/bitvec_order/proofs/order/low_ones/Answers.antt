@@ -7,7 +7,7 @@ returns-then-count-BITS-clause-digits g c p h =
     digit-all_ones g.R.BitRegister.BITS c.args.count (g.R.BitRegister.number c.ALL.result) p (ap g.R.BitRegister.number c.ALL.ensures ∙ g.met.R.BitRegister.all_law)
     (c.if-count-BITS.true ∙ c.BITS.ensures) h
 
-pub returns-else-count-BITS-clause-digits : goal.returns-else-count-BITS-clause-digits
-returns-else-count-BITS-clause-digits g c p h =
-    digit-low_ones g.R.BitRegister.BITS c.args.count (g.R.BitRegister.number c.ALL-else-count-BITS.result) (g.R.BitRegister.number c.shl.result) (g.R.BitRegister.number c.not.result) p
-    (ap g.R.BitRegister.number c.ALL-else-count-BITS.ensures ∙ g.met.R.BitRegister.all_law) c.shl.ensures.low c.shl.ensures.moved c.not.ensures.digits h
+pub returns-clause-digits : goal.returns-clause-digits
+returns-clause-digits g c p h =
+    digit-low_ones g.R.BitRegister.BITS c.args.count (g.R.BitRegister.number c.ALL-2.result) (g.R.BitRegister.number c.shl.result) (g.R.BitRegister.number c.not.result) p
+    (ap g.R.BitRegister.number c.ALL-2.ensures ∙ g.met.R.BitRegister.all_law) c.shl.ensures.low c.shl.ensures.moved c.not.ensures.digits h
