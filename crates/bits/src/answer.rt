@@ -2,7 +2,9 @@
 
 ghost use Rattle.std.specs.Prelude.{◌≡◌, ◌⊎◌};
 
-use crate::domain;
+use crate::domain::DomainCall;
+use crate::mask::MaskCall;
+use crate::names;
 use std::alloc::{AllocError, Allocator};
 use std::fmt::{self, Write as _};
 use std::io::Write;
@@ -71,14 +73,21 @@ pub fn answer<A: Allocator, W: Write>(alloc: &A, args: &[String], out: &mut W) -
 // The whole text of an answer.
 fn text<'a, A: Allocator>(alloc: &'a A, args: &[String]) -> Result<String<&'a A>, Fault<&'a A>> {
     match args {
-        [call, order, register, words, start, len] if call.as_str() == "domain" => domain::text(
-            alloc,
-            order.as_str(),
-            register.as_str(),
-            words.as_str(),
-            start.as_str(),
-            len.as_str(),
-        ),
+        [call, order, register, words, start, len] if call.as_str() == "domain" => {
+            let call = DomainCall {
+                words: words.as_str(),
+                start: start.as_str(),
+                len: len.as_str(),
+            };
+            names::text(alloc, order.as_str(), register.as_str(), &call)
+        }
+        [call, order, register, from, upto] if call.as_str() == "mask" => {
+            let call = MaskCall {
+                from: from.as_str(),
+                upto: upto.as_str(),
+            };
+            names::text(alloc, order.as_str(), register.as_str(), &call)
+        }
         _ => Err(Fault::Usage),
     }
 }

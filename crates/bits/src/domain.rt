@@ -1,72 +1,81 @@
 //! The lines of `bits domain`: the items of a span's domain in a memory.
 
+ghost use Rattle.std.specs.Prelude.{◌^◌, ◌<◌};
+
 use crate::answer::Fault;
+use crate::names::Call;
 use crate::number::number;
 use crate::words::words_of;
 use bitvec::domain::Domain;
 use bitvec::index::BitIdx;
 use bitvec::mem::BitRegister;
-use bitvec::order::{BitOrder, Lsb0};
+use bitvec::order::BitOrder;
 use bitvec::ptr::span::BitSpan;
 use std::alloc::{AllocError, Allocator};
 use std::fmt::Write as _;
 
-/// The text of the answer to `bits domain`.
-pub fn text<'a, A: Allocator>(
-    alloc: &'a A,
-    order: &str,
-    register: &str,
-    words: &str,
-    start: &str,
-    len: &str,
-) -> Result<String<&'a A>, Fault<&'a A>> {
-    match (order, register) {
-        ("lsb0", "u8") => items::<u8, Lsb0, A>(alloc, words, start, len),
-        _ => Err(Fault::Usage),
+/// The call `bits domain` with its words, start and length.
+#[derive(Clone, Copy)]
+pub struct DomainCall<'a> {
+    /// The memory.
+    pub words: &'a str,
+    /// The span's first place.
+    pub start: &'a str,
+    /// The span's length.
+    pub len: &'a str,
+}
+
+impl Call for DomainCall<'_> {
+    // One line an item, and the number of items.
+    fn text<'a, R: BitRegister, O: BitOrder<R>, A: Allocator>(
+        &self,
+        alloc: &'a A,
+    ) -> Result<String<&'a A>, Fault<&'a A>> {
+        let memory = words_of::<R, A>(alloc, self.words)?;
+        let span = span_of::<R, O, A>(alloc, self.start, self.len)?;
+        if !span.fits(memory.len()) {
+            return Err(Fault::line(alloc, &"span does not fit")?);
+        }
+        let mut text = String::new(alloc);
+        let total = write_items(&mut text, span.address() as u128, span.domain(&memory))?;
+        writeln!(text, "total {total}")?;
+        Ok(text)
     }
 }
 
-// One line an item, and the number of items.
-fn items<'a, R: BitRegister, O: BitOrder<R>, A: Allocator>(
-    alloc: &'a A,
-    words: &str,
-    start: &str,
-    len: &str,
-) -> Result<String<&'a A>, Fault<&'a A>> {
-    let memory = words_of::<R, A>(alloc, words)?;
-    let span = span_of::<R, O, A>(alloc, start, len)?;
-    if !span.fits(memory.len()) {
-        return Err(Fault::line(alloc, &"span does not fit")?);
-    }
-    // Word numbers and counts as u128, in which no sum of two of them passes the type.
-    let first = span.address() as u128;
-    let mut text = String::new(alloc);
-    let total = match span.domain(&memory) {
+// Writes a line an item, and gives their number. Word numbers and counts are u128, in which no sum of
+// two of them passes the type.
+fn write_items<R: BitRegister, O: BitOrder<R>, A: Allocator>(
+    text: &mut String<A>,
+    first: u128,
+    domain: Domain<R, O>,
+) -> Result<u128, AllocError>
+    requires { first < 2 ^ 64 }
+{
+    match domain {
         Domain::Enclave(part) => {
-            write_item(&mut text, "enclave", first, part.load_value())?;
-            1
+            write_item(text, "enclave", first, part.load_value())?;
+            Ok(1)
         }
         Domain::Region { head, body, tail } => {
             let heads = u128::from(head.is_some());
             let tails = u128::from(tail.is_some());
             let bodies = body.len() as u128;
             if let Some(part) = head {
-                write_item(&mut text, "head", first, part.load_value())?;
+                write_item(text, "head", first, part.load_value())?;
             }
             for (k, word) in body.iter().enumerate() {
-                write_item(&mut text, "body", first + heads + k as u128, *word)?;
+                write_item(text, "body", first + heads + k as u128, *word)?;
             }
             if let Some(part) = tail {
-                write_item(&mut text, "tail", first + heads + bodies, part.load_value())?;
+                write_item(text, "tail", first + heads + bodies, part.load_value())?;
             }
-            heads + bodies + tails
+            Ok(heads + bodies + tails)
         }
-    };
-    writeln!(text, "total {total}")?;
-    Ok(text)
+    }
 }
 
-// The line of an item: which part it is, its word, and its value in hexadecimal.
+// Writes the line of an item: which part it is, its word, and its value in hexadecimal.
 fn write_item<R: BitRegister, A: Allocator>(
     text: &mut String<A>,
     part: &str,

@@ -3,6 +3,9 @@
 
 mod answer;
 mod domain;
+mod hilo;
+mod mask;
+mod names;
 mod number;
 #[cfg(test)]
 mod tests;
