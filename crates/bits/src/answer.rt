@@ -4,7 +4,7 @@ ghost use Rattle.std.specs.Prelude.{◌≡◌, ◌⊎◌};
 
 use crate::domain::DomainCall;
 use crate::mask::MaskCall;
-use crate::names;
+use crate::{names, verify};
 use std::alloc::{AllocError, Allocator};
 use std::fmt::{self, Write as _};
 use std::io::Write;
@@ -88,6 +88,7 @@ fn text<'a, A: Allocator>(alloc: &'a A, args: &[String]) -> Result<String<&'a A>
             };
             names::text(alloc, order.as_str(), register.as_str(), &call)
         }
+        [call, candidate] if call.as_str() == "verify" => verify::text(alloc, candidate.as_str()),
         _ => Err(Fault::Usage),
     }
 }

@@ -2,6 +2,7 @@
 #![tactic(auto)]
 
 mod answer;
+mod candidate;
 mod domain;
 mod hilo;
 mod mask;
@@ -9,6 +10,7 @@ mod names;
 mod number;
 #[cfg(test)]
 mod tests;
+mod verify;
 mod words;
 
 use std::env::{self, Env};
