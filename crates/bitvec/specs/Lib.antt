@@ -1,11 +1,17 @@
 pub use Rattle.bitvec_mem.specs.Digit
 pub use Rattle.bitvec_mem.specs.Numeral
 pub use Rattle.bitvec_order.specs.Index
+pub use Rattle.bitvec_order.specs.Masks
 pub use Rattle.bitvec_order.specs.Order
 pub use Rattle.bitvec_order.specs.OrderLemmas
+pub use Rattle.bitvec_order.specs.Scan
+pub use Rattle.bitvec_order.specs.Text
+pub use Rattle.bitvec_order.specs.Verified
 pub use Rattle.bitvec_ptr.specs.Memory
 pub use Rattle.bitvec_ptr.specs.Place
 pub use Rattle.bitvec_domain.specs.BitSpan
 pub use Rattle.bitvec_domain.specs.Domain
 pub use Rattle.bitvec_domain.specs.DomainView
+pub use Rattle.bitvec_domain.specs.Refusals
 pub use Rattle.bitvec_domain.specs.Span
+pub use Rattle.bitvec_domain.specs.SpanText

@@ -1,11 +1,12 @@
 pub mod BitSpan
 pub mod Domain
 pub mod DomainView
+pub mod Refusals
 pub mod Span
 pub mod SpanText
-pub mod Text
 pub use Rattle.bitvec_mem.specs.Digit
 pub use Rattle.bitvec_mem.specs.Numeral
 pub use Rattle.bitvec_order.specs.Order
+pub use Rattle.bitvec_order.specs.Text
 pub use Rattle.bitvec_ptr.specs.Memory
 pub use Rattle.bitvec_ptr.specs.Place

@@ -31,7 +31,7 @@ div_up bits n some h =
 pub words_met-from_span : (bits index head count n : ℕ) → 0 < bits → index ≡ head → (count ≡ 0 → n ≡ 0) → (0 < count → n ≡ (index + count + (bits - 1)) / bits) → n ≡ words_met bits head count
 words_met-from_span bits index head count n some same empty elements =
     elim (cases_eq count 0) [
-        inl e ↦ empty e ∙ sym (words_met-none bits head count e)
+      | inl e ↦ empty e ∙ sym (words_met-none bits head count e)
       | inr other ↦ (
           let h : 0 < count = omega arith in
           elements h ∙ ap (λ i. (i + count + (bits - 1)) / bits) same ∙ div_up bits (head + count) some (omega arith) ∙ sym (words_met-some bits head count h))
@@ -40,7 +40,7 @@ words_met-from_span bits index head count n some same empty elements =
 pub tail_of-from_span : (bits index head count n : ℕ) → index ≡ head → (count ≡ 0 → n ≡ index) → (0 < count → n ≡ (index + count - 1) % bits + 1) → n ≡ tail_of bits head count
 tail_of-from_span bits index head count n same empty tail =
     elim (cases_eq count 0) [
-        inl e ↦ empty e ∙ same ∙ sym (tail_of-none bits head count e)
+      | inl e ↦ empty e ∙ same ∙ sym (tail_of-none bits head count e)
       | inr other ↦ (let h : 0 < count = omega arith in tail h ∙ ap (λ i. (i + count - 1) % bits + 1) same ∙ sym (tail_of-some bits head count h))
     ]
 

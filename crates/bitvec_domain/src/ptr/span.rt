@@ -5,7 +5,7 @@ ghost use Rattle.std.specs.Int.{int_div_euclid};
 ghost use Rattle.bitvec_ptr.specs.Place.{place_at, words_met, tail_of};
 ghost use Rattle.std.specs.Fmt.{WritesStyledOnOk};
 ghost use Rattle.bitvec_domain.specs.Span.{region_max_bits, Fits};
-ghost use Rattle.bitvec_domain.specs.Text.{signed_text, too_long_text, too_high_text};
+ghost use Rattle.bitvec_domain.specs.Refusals.{signed_text, too_long_text, too_high_text};
 
 use bitvec_mem::digits::write_numeral;
 use bitvec_mem::mem::BitRegister;

@@ -1,11 +1,7 @@
--- Numbers in texts, and why there is no span.
-use Rattle.std.specs.Prelude.{ℕ, suc, ℤ, pos, negsuc, false, List, ◌++◌, codes}
-use Rattle.bitvec_mem.specs.Numeral.{numeral}
+-- Why there is no span, as text.
+use Rattle.std.specs.Prelude.{ℕ, suc, ℤ, pos, negsuc, List, ◌++◌, codes}
+use Rattle.bitvec_order.specs.Text.{decimal_text}
 use Rattle.bitvec_domain.specs.Span.{region_max_bits}
-
--- a number in decimal
-abbrev pub decimal_text : ℕ → List ℕ
-decimal_text n = numeral 10 false 1 n
 
 -- a number in decimal, after a minus sign where it is negative
 abbrev pub signed_text : ℤ → List ℕ
