@@ -7,8 +7,10 @@ pub use Rattle.bitvec_order.specs.OrderLemmas
 pub use Rattle.bitvec_order.specs.Scan
 pub use Rattle.bitvec_order.specs.Text
 pub use Rattle.bitvec_order.specs.Verified
+pub use Rattle.bitvec_ptr.specs.BitPtr
 pub use Rattle.bitvec_ptr.specs.Memory
 pub use Rattle.bitvec_ptr.specs.Place
+pub use Rattle.bitvec_ptr.specs.Steps
 pub use Rattle.bitvec_domain.specs.BitSpan
 pub use Rattle.bitvec_domain.specs.Domain
 pub use Rattle.bitvec_domain.specs.DomainView

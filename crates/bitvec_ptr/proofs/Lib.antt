@@ -1,2 +1,3 @@
 pub mod MemoryLemmas
 pub mod PlaceLemmas
+pub mod StepLemmas

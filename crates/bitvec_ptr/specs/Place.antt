@@ -5,6 +5,15 @@ use Rattle.std.specs.Prelude.{ℕ, ℤ, pos, ◌+ℤ◌, ◌*ℤ◌, ◌+◌, �
 abbrev pub place_at : ℕ → ℤ → ℕ → ℤ
 place_at bits word bit = (word *ℤ pos bits) +ℤ pos bit
 
+-- a pointer by its numbers: the bit at an index of a word
+pub record Ptr : Type 0 where
+  pub word : ℤ
+  pub bit : ℕ
+
+-- the place of a pointer, as a whole number
+abbrev pub place_of : ℕ → Ptr → ℤ
+place_of bits ptr = place_at bits ptr.word ptr.bit
+
 -- how many words the interval of `count` places meets that starts at the bit `head` of a word
 abbrev pub words_met : ℕ → ℕ → ℕ → ℕ
 words_met bits head count = if count == 0 then 0 else (head + count - 1) / bits + 1

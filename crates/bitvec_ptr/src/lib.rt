@@ -1,2 +1,4 @@
-//! Places of bits in a memory: the definitions that pointers, spans and runs stand on.
+//! Places of bits in a memory, pointers to them, and ranges of pointers.
 #![tactic(auto)]
+
+pub mod ptr;

@@ -1,0 +1,7 @@
+-- What a `BitPtr` shows.
+use Rattle.bitvec_ptr.specs.declared.ptr.single.BitPtr.{BitPtr}
+use Rattle.bitvec_ptr.specs.Place.{Ptr}
+
+-- the word and the bit of a pointer
+abbrev pub ptr_of : {R O : Type 0} {a b c d e f g : _} → BitPtr R O a b c d e f g → Ptr
+ptr_of ptr = record { word = ptr.word; bit = ptr.bit }

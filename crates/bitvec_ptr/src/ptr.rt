@@ -1,0 +1,3 @@
+//! Pointers to bits.
+
+pub mod single;

@@ -1,0 +1,294 @@
+//! Pointers to single bits: a word of a memory and the index of a bit in it.
+
+ghost use Rattle.std.specs.Prelude.{◌≡◌, ⊤, ℕ, ℤ, pos, neg_ℤ, ◌+◌, ◌-◌, ◌<◌, ◌≤◌, ◌+ℤ◌, ◌≤ℤ◌, ◌↔◌, IsTrue, FitsSigned};
+ghost use Rattle.std.specs.Int.{w64, int_wrap, int_div_euclid, int_rem_euclid};
+ghost use Rattle.std.proofs.Common.{zero-le};
+ghost use Rattle.bitvec_ptr.specs.Place.{place_of, words_met};
+ghost use Rattle.bitvec_ptr.specs.Steps.{CanOffset, wrapped, distance, IsIn, RunsIn};
+
+use bitvec_mem::mem::BitRegister;
+use bitvec_order::index::BitIdx;
+use bitvec_order::order::Lsb0;
+use std::alloc::AllocError;
+use std::marker::PhantomData;
+
+/// A pointer to a bit: the index of a word, and the index of the bit in that word.
+///
+/// A pointer names a bit and holds no memory: it is handed one to each call that reads or writes.
+/// Its word index may be negative or past any memory; [`is_in`](BitPtr::is_in) tests that it lies
+/// in one. Its place is the whole number of its word times the width, plus its bit, and pointers
+/// compare as their places do.
+#[derive_where(Copy, PartialEq, Eq, PartialOrd, Ord, Hash, Debug)]
+pub struct BitPtr<R: BitRegister = usize, O = Lsb0> {
+    word: isize,
+    bit: u8,
+    of: PhantomData<(R, O)>,
+    pub ghost in_word: { bit ≤ R.BITS - 1 },
+}
+
+impl<R: BitRegister, O> Clone for BitPtr<R, O> {
+    ghost is_clone = { λ it copy. copy ≡ it };
+
+    ghost is_infallible = { λ _. ⊤ };
+
+    fn clone(&self) -> Result<Self, AllocError> {
+        Ok(*self)
+    }
+}
+
+/// The pointer that nothing needs.
+///
+/// `BitPtr::DANGLING` is read with this trait in scope: a constant of a generic type can say its
+/// value in a contract only as the item of a trait.
+pub trait Dangling: Sized {
+    /// The first bit of the first word.
+    const DANGLING: Self;
+
+    ghost DANGLING: { Self };
+}
+
+impl<R: BitRegister, O> Dangling for BitPtr<R, O> {
+    const DANGLING: Self = BitPtr {
+        word: 0,
+        bit: 0,
+        of: PhantomData,
+    };
+
+    ghost DANGLING = { record { word = pos 0; bit = 0; of = record {}; in_word = zero-le } };
+}
+
+// The words and the index in the last that a number of bits makes up, rounded down.
+fn split_far<R: BitRegister>(far: isize) -> (isize, BitIdx<R>)
+    ensures word { result.0 ≡ int_div_euclid far (pos R.BITS) }
+    ensures bit { pos result.1 ≡ int_rem_euclid far (pos R.BITS) }
+{
+    let width = isize::from(R::BITS);
+    let word = far.div_euclid(width);
+    let bit = far.rem_euclid(width);
+    (word, BitIdx::new_unchecked(bit as u8))
+}
+
+impl<R: BitRegister, O> BitPtr<R, O> {
+    ghost use Rattle.bitvec_ptr.specs.BitPtr.{ptr_of};
+
+    /// The pointer to the bit `bit` of the word `word`, which may be any word. Our own.
+    pub fn new(word: isize, bit: BitIdx<R>) -> Self
+        ensures { ptr_of result ≡ record { word = word; bit = bit } }
+    {
+        BitPtr {
+            word,
+            bit: bit.into_inner(),
+            of: PhantomData,
+        }
+    }
+
+    /// The first bit of a word, taken as a memory of one.
+    pub fn from_ref(_word: &R) -> Self
+        ensures { ptr_of result ≡ record { word = pos 0; bit = 0 } }
+    {
+        Self::DANGLING
+    }
+
+    /// The same of a word that may be written, which stays as it is.
+    pub fn from_mut(word: &mut R) -> Self
+        ensures first { ptr_of result ≡ record { word = pos 0; bit = 0 } }
+        ensures same { word.new ≡ word.old }
+    {
+        Self::from_ref(word)
+    }
+
+    /// The first bit of a memory.
+    pub fn from_slice(_words: &[R]) -> Self
+        ensures { ptr_of result ≡ record { word = pos 0; bit = 0 } }
+    {
+        Self::DANGLING
+    }
+
+    /// The same of a memory that may be written, which stays as it is.
+    pub fn from_mut_slice(words: &mut [R]) -> Self
+        ensures first { ptr_of result ≡ record { word = pos 0; bit = 0 } }
+        ensures same { words.new ≡ words.old }
+    {
+        Self::from_slice(words)
+    }
+
+    /// Another name of [`from_mut_slice`](BitPtr::from_mut_slice), as in the Rust crate.
+    pub fn from_slice_mut(words: &mut [R]) -> Self
+        ensures first { ptr_of result ≡ record { word = pos 0; bit = 0 } }
+        ensures same { words.new ≡ words.old }
+    {
+        Self::from_mut_slice(words)
+    }
+
+    /// The index of the word.
+    pub fn address(self) -> isize
+        ensures { result ≡ (ptr_of self).word }
+    {
+        self.word
+    }
+
+    /// The index of the bit in its word.
+    pub fn bit(self) -> BitIdx<R>
+        ensures value { result ≡ (ptr_of self).bit }
+        ensures below { (ptr_of self).bit < R.BITS }
+    {
+        BitIdx::new_unchecked(self.bit)
+    }
+
+    /// The index of the word, and that of the bit in it.
+    pub fn raw_parts(self) -> (isize, BitIdx<R>)
+        ensures word { result.0 ≡ (ptr_of self).word }
+        ensures bit { result.1 ≡ (ptr_of self).bit }
+    {
+        (self.word, self.bit())
+    }
+
+    /// Another name of [`raw_parts`](BitPtr::raw_parts), as in the Rust crate.
+    pub fn to_raw_parts(self) -> (isize, BitIdx<R>)
+        ensures word { result.0 ≡ (ptr_of self).word }
+        ensures bit { result.1 ≡ (ptr_of self).bit }
+    {
+        self.raw_parts()
+    }
+
+    // The place, which is far from the ends of the type.
+    pub(crate) fn place(self) -> i128
+        ensures value { result ≡ place_of R.BITS (ptr_of self) }
+        ensures least { neg_ℤ (pos 2361183241434822606848) ≤ℤ result }
+        ensures greatest { result ≤ℤ pos 2361183241434822606848 }
+    {
+        self.word as i128 * i128::from(R::BITS) + i128::from(self.bit)
+    }
+
+    /// Whether a step by `count` bits stays in range.
+    ///
+    /// It does exactly where the bit and `count` have a sum that is an `isize`, and the word on which
+    /// the step ends is one too. Our own.
+    pub fn can_offset(self, count: isize) -> bool
+        ensures { IsTrue result ↔ CanOffset R.BITS (ptr_of self) count }
+    {
+        let Some(far) = isize::from(self.bit).checked_add(count) else {
+            return false;
+        };
+        let (words, _) = split_far::<R>(far);
+        self.word.checked_add(words).is_some()
+    }
+
+    /// The pointer `count` bits on, or back where `count` is negative:
+    /// [`can_offset`](BitPtr::can_offset) is the test.
+    pub fn offset(self, count: isize) -> Self
+        requires { CanOffset R.BITS (ptr_of self) count }
+        ensures { place_of R.BITS (ptr_of result) ≡ place_of R.BITS (ptr_of self) +ℤ count }
+    {
+        let (words, bit) = split_far::<R>(isize::from(self.bit) + count);
+        Self::new(self.word + words, bit)
+    }
+
+    /// The pointer `count` bits on, where `count` is an `isize` and
+    /// [`can_offset`](BitPtr::can_offset) holds of it.
+    pub fn add(self, count: usize) -> Self
+        requires count { pos count ≤ℤ isize.MAX }
+        requires inside { CanOffset R.BITS (ptr_of self) (pos count) }
+        ensures { place_of R.BITS (ptr_of result) ≡ place_of R.BITS (ptr_of self) +ℤ pos count }
+    {
+        self.offset(count as isize)
+    }
+
+    /// The pointer `count` bits back, where `count` is an `isize` and
+    /// [`can_offset`](BitPtr::can_offset) holds of its negative.
+    pub fn sub(self, count: usize) -> Self
+        requires count { pos count ≤ℤ isize.MAX }
+        requires inside { CanOffset R.BITS (ptr_of self) (neg_ℤ (pos count)) }
+        ensures { place_of R.BITS (ptr_of result) +ℤ pos count ≡ place_of R.BITS (ptr_of self) }
+    {
+        self.offset(-(count as isize))
+    }
+
+    /// The pointer `count` bits on, for any `count`: the sum of bit and `count` wraps at the ends of
+    /// `isize`, and so does that of the words.
+    pub fn wrapping_offset(self, count: isize) -> Self
+        ensures { ptr_of result ≡ wrapped R.BITS (ptr_of self) count }
+    {
+        let (words, bit) = split_far::<R>(isize::from(self.bit).wrapping_add(count));
+        Self::new(self.word.wrapping_add(words), bit)
+    }
+
+    /// [`wrapping_offset`](BitPtr::wrapping_offset) by `count`, which wraps to an `isize`.
+    pub fn wrapping_add(self, count: usize) -> Self
+        ensures { ptr_of result ≡ wrapped R.BITS (ptr_of self) (int_wrap w64 (pos count)) }
+    {
+        self.wrapping_offset(count.cast_signed())
+    }
+
+    /// [`wrapping_offset`](BitPtr::wrapping_offset) by the negative of `count`, which wraps to an
+    /// `isize`.
+    ///
+    /// It undoes [`wrapping_add`](BitPtr::wrapping_add) where the bit and `count` have a sum that is
+    /// an `isize`.
+    pub fn wrapping_sub(self, count: usize) -> Self
+        ensures { ptr_of result ≡ wrapped R.BITS (ptr_of self) (int_wrap w64 (neg_ℤ (pos count))) }
+    {
+        self.wrapping_offset(count.cast_signed().wrapping_neg())
+    }
+
+    /// Whether the distance from `origin` is an `isize`. Our own.
+    pub fn can_offset_from(self, origin: Self) -> bool
+        ensures { IsTrue result ↔ FitsSigned w64 (distance R.BITS (ptr_of self) (ptr_of origin)) }
+    {
+        isize::try_from(self.place() - origin.place()).is_ok()
+    }
+
+    /// How many bits this pointer is past `origin`, negative where it is before:
+    /// [`can_offset_from`](BitPtr::can_offset_from) is the test.
+    pub fn offset_from(self, origin: Self) -> isize
+        requires { FitsSigned w64 (distance R.BITS (ptr_of self) (ptr_of origin)) }
+        ensures { result ≡ distance R.BITS (ptr_of self) (ptr_of origin) }
+    {
+        (self.place() - origin.place()) as isize
+    }
+
+    /// Whether the pointer's word is one of `words` words. Our own.
+    pub fn is_in(self, words: usize) -> bool
+        ensures { IsTrue result ↔ IsIn (ptr_of self) words }
+    {
+        0 <= self.word && (self.word as usize) < words
+    }
+
+    // How many words `count` bits from this one on meet.
+    fn elements(self, count: usize) -> usize
+        ensures { result ≡ words_met R.BITS (ptr_of self).bit count }
+    {
+        self.bit().span(count).0
+    }
+
+    /// Whether the words that `count` bits from this one on meet are among the first `words` of a
+    /// memory. For no bits that is no word. Our own.
+    pub fn run_in(self, words: usize, count: usize) -> bool
+        ensures { IsTrue result ↔ RunsIn R.BITS (ptr_of self) words count }
+    {
+        let elements = self.elements(count);
+        0 <= self.word && elements <= words && self.word as usize <= words - elements
+    }
+}
+
+/// The first bit of a word, as [`from_ref`](BitPtr::from_ref).
+impl<'a, R: BitRegister, O> From<&'a R> for BitPtr<R, O> {
+    ghost use Rattle.bitvec_ptr.specs.BitPtr.{ptr_of};
+
+    ghost from_gives = { λ _ ptr. ptr_of ptr ≡ record { word = pos 0; bit = 0 } };
+
+    fn from(word: &'a R) -> Self {
+        Self::from_ref(word)
+    }
+}
+
+/// The first bit of a word, as [`from_mut`](BitPtr::from_mut).
+impl<'a, R: BitRegister, O> From<&'a mut R> for BitPtr<R, O> {
+    ghost use Rattle.bitvec_ptr.specs.BitPtr.{ptr_of};
+
+    ghost from_gives = { λ _ ptr. ptr_of ptr ≡ record { word = pos 0; bit = 0 } };
+
+    fn from(word: &'a mut R) -> Self {
+        Self::from_mut(word)
+    }
+}
