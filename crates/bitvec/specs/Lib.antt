@@ -8,8 +8,11 @@ pub use Rattle.bitvec_order.specs.Scan
 pub use Rattle.bitvec_order.specs.Text
 pub use Rattle.bitvec_order.specs.Verified
 pub use Rattle.bitvec_ptr.specs.BitPtr
+pub use Rattle.bitvec_ptr.specs.BitPtrRange
 pub use Rattle.bitvec_ptr.specs.Memory
 pub use Rattle.bitvec_ptr.specs.Place
+pub use Rattle.bitvec_ptr.specs.PtrRange
+pub use Rattle.bitvec_ptr.specs.PtrRangeLemmas
 pub use Rattle.bitvec_ptr.specs.Steps
 pub use Rattle.bitvec_domain.specs.BitSpan
 pub use Rattle.bitvec_domain.specs.Domain

@@ -1,5 +1,5 @@
-//! Pointers to bits, and spans of bits.
+//! Pointers to bits, ranges of them, and spans of bits.
 
-pub use bitvec_ptr::ptr::single;
+pub use bitvec_ptr::ptr::{range, single};
 
 pub mod span;

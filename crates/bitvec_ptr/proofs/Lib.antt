@@ -1,3 +1,5 @@
 pub mod MemoryLemmas
 pub mod PlaceLemmas
+pub mod PlaceOrder
+pub mod RangeLemmas
 pub mod StepLemmas

@@ -5,9 +5,9 @@ use Rattle.std.specs.Int.{w64, w128, int_wrap, cast_signed, int_wrapping_neg, in
 use Rattle.std.specs.Option.{SomeIff, is_some}
 use Rattle.std.specs.Result.{OkIff, is_ok}
 use Rattle.std.proofs.lemmas.Int.{ints, int_wrap_fits, wrapping_neg_is, int_wrap-sub_right, fits_signed_mul, to_z-of_z}
-use Rattle.std.proofs.lemmas.Nat.{div-add-mod', mod_below}
-use Rattle.std.proofs.Math.Nat.{mul-le-mul}
-use borrow.Author.Differences.{sum_is_lem, product_is, up, down}
+use Rattle.std.proofs.lemmas.Nat.{div-add-mod'}
+use Rattle.std.proofs.Math.Nat.{mul-le-mul, mul-le-mul_left}
+use borrow.Author.Differences.{sum_is_lem, product_is}
 use Rattle.bitvec_ptr.specs.Place.{Ptr, place_at, place_of}
 use Rattle.bitvec_ptr.specs.Steps.{wrapped}
 
@@ -90,3 +90,10 @@ wide_place bits bit word a b h k f p q =
     let far = place_far bits bit word h k f in
     let fits : FitsSigned w128 (place_at bits word bit) = omega (arith, ints, far) in
     rw (e, d, l, same) (to_z-of_z w128 (place_at bits word bit) fits)
+
+-- a quotient by a width of a number of 64 bits
+pub quotient_small : (a b : ℕ) → 8 ≤ b → a < 18446744073709551616 → a / b < 9223372036854775808
+quotient_small a b h k =
+    let parts = div-add-mod' a b in
+    let times : (a / b) * 8 ≤ (a / b) * b = mul-le-mul_left (a / b) h in
+    omega (arith, parts, times)

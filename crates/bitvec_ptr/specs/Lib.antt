@@ -1,6 +1,9 @@
 pub mod BitPtr
+pub mod BitPtrRange
 pub mod Memory
 pub mod Place
+pub mod PtrRange
+pub mod PtrRangeLemmas
 pub mod Steps
 pub use Rattle.bitvec_mem.specs.Digit
 pub use Rattle.bitvec_order.specs.Order

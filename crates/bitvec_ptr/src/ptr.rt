@@ -1,3 +1,4 @@
-//! Pointers to bits.
+//! Pointers to bits, and their ranges.
 
+pub mod range;
 pub mod single;

@@ -1,6 +1,6 @@
 //! Pointers to single bits: a word of a memory and the index of a bit in it.
 
-ghost use Rattle.std.specs.Prelude.{◌≡◌, ⊤, ℕ, ℤ, pos, neg_ℤ, ◌+◌, ◌-◌, ◌<◌, ◌≤◌, ◌+ℤ◌, ◌≤ℤ◌, ◌↔◌, IsTrue, FitsSigned};
+ghost use Rattle.std.specs.Prelude.{◌≡◌, ⊤, ℕ, ℤ, pos, neg_ℤ, ◌+◌, ◌-◌, ◌/◌, ◌<◌, ◌≤◌, ◌+ℤ◌, ◌≤ℤ◌, ◌↔◌, IsTrue, FitsSigned};
 ghost use Rattle.std.specs.Int.{w64, int_wrap, int_div_euclid, int_rem_euclid};
 ghost use Rattle.std.proofs.Common.{zero-le};
 ghost use Rattle.bitvec_ptr.specs.Place.{place_of, words_met};
@@ -156,6 +156,7 @@ impl<R: BitRegister, O> BitPtr<R, O> {
         ensures value { result ≡ place_of R.BITS (ptr_of self) }
         ensures least { neg_ℤ (pos 2361183241434822606848) ≤ℤ result }
         ensures greatest { result ≤ℤ pos 2361183241434822606848 }
+        ensures word { (ptr_of self).word ≤ℤ isize.MAX }
     {
         self.word as i128 * i128::from(R::BITS) + i128::from(self.bit)
     }
@@ -182,6 +183,18 @@ impl<R: BitRegister, O> BitPtr<R, O> {
     {
         let (words, bit) = split_far::<R>(isize::from(self.bit) + count);
         Self::new(self.word + words, bit)
+    }
+
+    // The pointer `count` bits on, for any place that has a word.
+    pub(crate) fn forward(self, count: usize) -> Self
+        requires short { pos count ≤ℤ isize.MAX }
+        requires inside { ((ptr_of self).word +ℤ pos (((ptr_of self).bit + count) / R.BITS)) ≤ℤ isize.MAX }
+        ensures { place_of R.BITS (ptr_of result) ≡ place_of R.BITS (ptr_of self) +ℤ pos count }
+    {
+        let far = usize::from(self.bit) + count;
+        let width = usize::from(R::BITS);
+        let bit = BitIdx::new_unchecked((far % width) as u8);
+        Self::new(self.word + (far / width) as isize, bit)
     }
 
     /// The pointer `count` bits on, where `count` is an `isize` and

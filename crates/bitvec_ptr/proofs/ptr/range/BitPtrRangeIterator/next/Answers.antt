@@ -1,0 +1,13 @@
+use Rattle.bitvec_ptr.specs.BitPtr.{ptr_of}
+use Rattle.bitvec_ptr.specs.BitPtrRange.{range_of}
+use Rattle.bitvec_ptr.proofs.RangeLemmas.{first_given, progress_first}
+use Rattle.bitvec_ptr.proofs.ptr.range.BitPtrRangeIterator.next.Goals as goal
+
+pub returns-clause-steps : goal.returns-clause-steps
+returns-clause-steps g c =
+    let old = c.args.self.now in
+    let new = c.nth.new.self in
+    first_given g.R.BitRegister.BITS (λ p. ptr_of p) (range_of old) (range_of new) c.nth.result c.nth.ensures.end old.ordered new.ordered c.nth.ensures.item
+
+pub returns-clause-goes : goal.returns-clause-goes
+returns-clause-goes g c = progress_first _ _ _ _ _ _ tt (returns-clause-steps g c)
