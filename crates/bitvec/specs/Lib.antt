@@ -19,4 +19,5 @@ pub use Rattle.bitvec_domain.specs.Domain
 pub use Rattle.bitvec_domain.specs.DomainView
 pub use Rattle.bitvec_domain.specs.Refusals
 pub use Rattle.bitvec_domain.specs.Span
+pub use Rattle.bitvec_domain.specs.SpanLemmas
 pub use Rattle.bitvec_domain.specs.SpanText

@@ -8,5 +8,6 @@ pub use bitvec_domain::{domain, ptr};
 pub use bitvec_mem::mem;
 pub use bitvec_order::{index, order};
 
+pub mod laws;
 #[cfg(test)]
 mod tests;

@@ -1,4 +1,6 @@
+pub mod DisjointLemmas
 pub mod ItemLemmas
 pub mod PartLemmas
+pub mod SameSpans
 pub mod SliceLemmas
 pub mod TextLemmas

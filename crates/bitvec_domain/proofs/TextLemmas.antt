@@ -1,5 +1,5 @@
 -- The text of a negative number.
-use Rattle.std.proofs.Common.{◌≡◌, ℤ, pos, negsuc, ◌<ℤ◌, ◌≤ℤ◌, ◌++◌, refl, arith}
+use Rattle.std.proofs.Common.{◌≡◌, ℤ, pos, negsuc, ◌<ℤ◌, ◌++◌, refl, arith}
 use Rattle.std.specs.Prelude.{codes, nat_abs}
 use Rattle.std.proofs.lemmas.Int.{ints}
 use Rattle.bitvec_domain.specs.Refusals.{signed_text}

@@ -3,6 +3,7 @@ pub mod Domain
 pub mod DomainView
 pub mod Refusals
 pub mod Span
+pub mod SpanLemmas
 pub mod SpanText
 pub use Rattle.bitvec_mem.specs.Digit
 pub use Rattle.bitvec_mem.specs.Numeral

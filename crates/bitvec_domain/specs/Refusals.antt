@@ -15,3 +15,14 @@ too_long_text bits = codes "Length " ++ (decimal_text bits ++ (codes " is too lo
 -- that a span from this word passes the greatest word
 abbrev pub too_high_text : ℤ → List ℕ
 too_high_text word = codes "Word index " ++ (signed_text word ++ codes " is too high, and produces a span that passes the greatest word index.")
+
+-- the type and the register of an error, before its case
+abbrev pub error_name : List ℕ → List ℕ
+error_name register = codes "BitSpanError<" ++ (register ++ codes ">::")
+
+-- the two cases with their numbers
+abbrev pub too_long_case : ℕ → List ℕ
+too_long_case bits = codes "TooLong(" ++ (decimal_text bits ++ codes ")")
+
+abbrev pub too_high_case : ℤ → List ℕ
+too_high_case word = codes "TooHigh(" ++ (signed_text word ++ codes ")")

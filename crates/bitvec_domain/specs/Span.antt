@@ -1,9 +1,9 @@
 -- Spans as intervals of places, and their lists in a memory. `bits` is the width of a word, and a memory is the list of
 -- its words' numbers.
-use Rattle.std.specs.Prelude.{ℕ, ℤ, pos, nat_abs, ◌+◌, ◌-◌, ◌*◌, ◌≤◌, ◌≤ℤ◌, ◌&&◌, Bool, false, List, length, slice_index_or, nat_le}
+use Rattle.std.specs.Prelude.{ℕ, ℤ, pos, nat_abs, ◌+◌, ◌-◌, ◌*◌, ◌≤◌, ◌+ℤ◌, ◌≤ℤ◌, ◌<ℤ◌, ◌&&◌, Bool, false, List, length, slice_index_or, nat_le}
 use Rattle.bitvec_order.specs.Order.{number_of}
 use Rattle.bitvec_ptr.specs.Memory.{bit_of, tabulate}
-use Rattle.bitvec_ptr.specs.Place.{words_met}
+use Rattle.bitvec_ptr.specs.Place.{place_at, words_met}
 
 -- a span by its numbers: the interval of `len` places from the bit `head` of a word on
 pub record Span : Type 0 where
@@ -18,6 +18,18 @@ region_max_bits = 2305843009213693951
 -- the span lies within a memory of so many words
 abbrev pub Fits : ℕ → Span → ℕ → Type 0
 Fits bits span words = (pos 0 ≤ℤ span.word) × (nat_abs span.word + words_met bits span.head span.len ≤ words)
+
+-- the places of a span, in order
+abbrev pub span_places : ℕ → Span → List ℤ
+span_places bits span = tabulate span.len (λ j. place_at bits span.word span.head +ℤ pos j)
+
+-- a place lies in the interval of a span
+abbrev pub Covers : ℕ → Span → ℤ → Type 0
+Covers bits span place = (place_at bits span.word span.head ≤ℤ place) × (place <ℤ (place_at bits span.word span.head +ℤ pos span.len))
+
+-- no place lies in the intervals of both spans
+abbrev pub AreDisjoint : ℕ → Span → Span → Type 0
+AreDisjoint bits a b = (place : ℤ) → Covers bits a place → Covers bits b place → ⊥
 
 -- the bits of a span in a memory, in order
 abbrev pub list_of : ℕ → (ℕ → ℕ) → Span → List ℕ → List Bool

@@ -1,10 +1,11 @@
 //! Spans and domains of worked examples.
 
 use crate::domain::Domain;
-use crate::ptr::span::{BitSpan, BitSpanError};
+use crate::ptr::span::{BitSpan, BitSpanError, SpanLimits};
 use bitvec_mem::mem::BitRegister;
 use bitvec_order::index::BitIdx;
-use bitvec_order::order::{BitOrder, Lsb0};
+use bitvec_order::order::{BitOrder, Lsb0, Msb0};
+use bitvec_ptr::ptr::single::BitPtr;
 use std::alloc::{AllocError, Global};
 use std::marker::PhantomData;
 use std::test::Fail;
@@ -140,5 +141,101 @@ fn refuses_what_is_too_long_or_too_high(rt: HostRuntime) -> Result<(), Fail> {
         text.as_str(),
         "Word index -12 is too high, and produces a span that passes the greatest word index."
     );
+    Ok(())
+}
+
+#[test]
+fn names_the_case_of_a_refusal(rt: HostRuntime) -> Result<(), Fail> {
+    let long = BitSpanError::<u8>::TooLong(2305843009213693952);
+    let high = BitSpanError::<u8>::TooHigh(isize::MAX, PhantomData);
+    let text = format!(in rt.alloc(); "{long:?}")?;
+    assert_eq!(rt;
+        text.as_str(),
+        "BitSpanError<u8>::TooLong(2305843009213693952)"
+    );
+    let text = format!(in rt.alloc(); "{high:?}")?;
+    assert_eq!(rt;
+        text.as_str(),
+        "BitSpanError<u8>::TooHigh(9223372036854775807)"
+    );
+    assert!(rt; long < high);
+    assert!(rt; high != BitSpanError::TooHigh(-1, PhantomData));
+    Ok(())
+}
+
+// How many words the greatest span can meet.
+fn most_words<R: BitRegister>() -> usize {
+    BitSpan::<R, Lsb0>::REGION_MAX_ELTS
+}
+
+#[test]
+fn has_the_limits_of_each_register(rt: HostRuntime) -> Result<(), Fail> {
+    assert_eq!(rt; BitSpan::<u8, Lsb0>::REGION_MAX_BITS, 2305843009213693951);
+    assert_eq!(rt; most_words::<u8>(), 288230376151711745);
+    assert_eq!(rt; most_words::<u16>(), 144115188075855873);
+    assert_eq!(rt; most_words::<u32>(), 72057594037927937);
+    assert_eq!(rt; most_words::<u64>(), 36028797018963969);
+    assert_eq!(rt; most_words::<usize>(), 36028797018963969);
+    Ok(())
+}
+
+#[test]
+fn stands_between_pointers(rt: HostRuntime) -> Result<(), Fail> {
+    let pointer: BitPtr<u16, Msb0> = BitPtr::new(-1, BitIdx::new_unchecked(9));
+    let span = BitSpan::from_bitptr(pointer, 12).ok().ok_or("refused")?;
+    let (word, head, len) = span.raw_parts();
+    assert_eq!(rt; (word, head.into_inner(), len), (-1, 9, 12));
+    assert!(rt; span.to_bitptr() == pointer);
+    let range = span.to_bitptr_range();
+    assert!(rt; range.start() == pointer);
+    assert_eq!(rt; range.end().address(), 0);
+    assert_eq!(rt; range.end().bit().into_inner(), 5);
+    assert!(rt; !span.is_empty());
+    let none: BitSpan<u16, Msb0> = BitSpan::default();
+    assert!(rt; none == BitSpan::EMPTY);
+    assert!(rt; none.is_empty());
+    assert!(rt; none != span);
+    Ok(())
+}
+
+#[test]
+fn is_disjoint_where_no_bit_is_shared(rt: HostRuntime) -> Result<(), Fail> {
+    for (start, len, want) in [
+        (6, 4, true),
+        (5, 4, false),
+        (0, 2, true),
+        (0, 3, false),
+        (3, 0, true),
+    ] {
+        let here: BitSpan<u8, Lsb0> = span_at(2, 4).ok_or("refused")?;
+        let there = span_at(start, len).ok_or("refused")?;
+        assert_eq!(rt; here.is_disjoint(&there), want, "at {start}+{len}");
+        assert_eq!(rt; there.is_disjoint(&here), want, "at {start}+{len}");
+    }
+    Ok(())
+}
+
+// A span and a pointer in one record, which is copied whatever the order is.
+#[derive_where(Clone, Copy)]
+struct Marked<R: BitRegister, O> {
+    span: BitSpan<R, O>,
+    pointer: BitPtr<R, O>,
+}
+
+// One of several records, in code that asks nothing of the order.
+fn copied<R: BitRegister, O>(all: &[Marked<R, O>], k: usize) -> Option<Marked<R, O>> {
+    all.get(k).copied()
+}
+
+#[test]
+fn is_copied_out_of_a_slice(rt: HostRuntime) -> Result<(), Fail> {
+    let span: BitSpan<u32, Msb0> = span_at(40, 3).ok_or("refused")?;
+    let all = [Marked {
+        span,
+        pointer: span.to_bitptr(),
+    }];
+    let found = copied(&all, 0).ok_or("none")?;
+    assert!(rt; found.span == span);
+    assert!(rt; found.pointer == span.to_bitptr());
     Ok(())
 }

@@ -1,5 +1,5 @@
 -- Pointers compare by word and then by bit, and so as their places do.
-use Rattle.std.proofs.Common.{rules, ◌≡◌, ℕ, ℤ, pos, negsuc, ◌+◌, ◌*◌, ◌-◌, ◌<◌, ◌≤◌, ◌/◌, ◌%◌, ◌+ℤ◌, ◌*ℤ◌, ◌≤ℤ◌, ◌<ℤ◌, Bool, IsTrue, ◌↔◌, Some, refl, sym, ◌∙◌, ap, arith}
+use Rattle.std.proofs.Common.{◌≡◌, ℕ, ℤ, pos, ◌+◌, ◌*◌, ◌-◌, ◌<◌, ◌≤◌, ◌/◌, ◌+ℤ◌, ◌*ℤ◌, ◌≤ℤ◌, ◌<ℤ◌, Bool, IsTrue, ◌↔◌, Some, refl, sym, ◌∙◌, ap, arith}
 use Rattle.std.specs.Ordering.{MatchOrdering, ordering_then, partial_ordering_then, is_some_and, is_lt, is_le, int_cmp, nat_cmp}
 use Rattle.std.specs.declared.cmp.Ordering.{Ordering}
 use Rattle.std.specs.declared.cmp.Ordering.TheVariants.{Less, Equal, Greater}
@@ -66,6 +66,14 @@ same_parts bits p q Greater b h k words by_bit e = let l = place_below bits q p 
 -- pointers at one place are the same
 pub place_same : (bits : ℕ) (p q : Ptr) → p.bit < bits → q.bit < bits → place_of bits p ≡ place_of bits q → p ≡ q
 place_same bits p q h k e = same_parts bits p q (int_cmp p.word q.word) (nat_cmp p.bit q.bit) h k (int_ranked p.word q.word _ refl) (ranked p.bit q.bit _ refl) e
+
+-- a comparison of two parts and of one that is always equal
+pub then_equal : (a b : Ordering) → ordering_then a (ordering_then b Equal) ≡ ordering_then a b
+then_equal Less b = refl
+then_equal Equal Less = refl
+then_equal Equal Equal = refl
+then_equal Equal Greater = refl
+then_equal Greater b = refl
 
 -- the same by parts that each answer
 pub partial_then : (a b : Ordering) → partial_ordering_then (Some a) (partial_ordering_then (Some b) (Some Equal)) ≡ Some (ordering_then a b)

@@ -1,10 +1,10 @@
 -- Steps from place to place.
-use Rattle.std.proofs.Common.{rules, Option, Some, None, Result, Ok, Err, IsTrue, ◌↔◌, ◌≡◌, ℕ, ℤ, pos, negsuc, neg_ℤ, nat_abs, ◌+◌, ◌*◌, ◌-◌, ◌<◌, ◌≤◌, ◌/◌, ◌%◌, ◌+ℤ◌, ◌-ℤ◌, ◌*ℤ◌, ◌≤ℤ◌, ◌<ℤ◌, refl, sym, ◌∙◌, ap, arith, to_z, of_z, lit<, suc}
+use Rattle.std.proofs.Common.{rules, Option, Some, None, Result, Ok, Err, IsTrue, ◌↔◌, ◌≡◌, ℕ, ℤ, pos, negsuc, neg_ℤ, nat_abs, ◌*◌, ◌-◌, ◌<◌, ◌≤◌, ◌/◌, ◌+ℤ◌, ◌-ℤ◌, ◌*ℤ◌, ◌≤ℤ◌, ◌∙◌, ap, arith, to_z, of_z, lit<, suc}
 use Rattle.std.specs.Prelude.{FitsSigned}
 use Rattle.std.specs.Int.{w64, w128, int_wrap, cast_signed, int_wrapping_neg, int_div_euclid, int_rem_euclid}
 use Rattle.std.specs.Option.{SomeIff, is_some}
 use Rattle.std.specs.Result.{OkIff, is_ok}
-use Rattle.std.proofs.lemmas.Int.{ints, int_wrap_fits, wrapping_neg_is, int_wrap-sub_right, fits_signed_mul, to_z-of_z}
+use Rattle.std.proofs.lemmas.Int.{ints, wrapping_neg_is, int_wrap-sub_right, fits_signed_mul, to_z-of_z}
 use Rattle.std.proofs.lemmas.Nat.{div-add-mod'}
 use Rattle.std.proofs.Math.Nat.{mul-le-mul, mul-le-mul_left}
 use borrow.Author.Differences.{sum_is_lem, product_is}

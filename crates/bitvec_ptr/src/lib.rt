@@ -2,3 +2,5 @@
 #![tactic(auto)]
 
 pub mod ptr;
+#[cfg(test)]
+mod tests;

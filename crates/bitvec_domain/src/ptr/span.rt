@@ -1,17 +1,23 @@
 //! Spans of bits: the interval of places from a bit of a word on.
 
-ghost use Rattle.std.specs.Prelude.{◌≡◌, ⊤, ℕ, ℤ, pos, ◌+◌, ◌-◌, ◌*◌, ◌/◌, ◌%◌, ◌+ℤ◌, ◌≤ℤ◌, ◌<ℤ◌, ◌<◌, ◌≤◌, ◌↔◌, IsTrue, IsOk, IfOk, ◌++◌, codes, Some};
+ghost use Rattle.std.specs.Prelude.{◌≡◌, ⊤, ℕ, ℤ, pos, ◌+◌, ◌-◌, ◌*◌, ◌/◌, ◌%◌, ◌==◌, if◌then◌else◌, ◌+ℤ◌, ◌≤ℤ◌, ◌<ℤ◌, ◌<◌, ◌≤◌, ◌↔◌, IsTrue, IsOk, IfOk, ◌++◌, codes, Some};
 ghost use Rattle.std.specs.Int.{int_div_euclid};
-ghost use Rattle.bitvec_ptr.specs.Place.{place_at, words_met, tail_of};
-ghost use Rattle.std.specs.Fmt.{WritesStyledOnOk};
-ghost use Rattle.bitvec_domain.specs.Span.{region_max_bits, Fits};
-ghost use Rattle.bitvec_domain.specs.Refusals.{signed_text, too_long_text, too_high_text};
+ghost use Rattle.std.specs.Fmt.{DisplaysOnOk, WritesStyledOnOk};
+ghost use Rattle.std.proofs.Common.{zero-le};
+ghost use Rattle.bitvec_ptr.specs.Place.{place_at, place_of, words_met, tail_of};
+ghost use Rattle.bitvec_domain.specs.Span.{region_max_bits, Fits, AreDisjoint, span_places};
+ghost use Rattle.bitvec_domain.specs.SpanLemmas.{empty-low};
+ghost use Rattle.bitvec_domain.specs.SpanText.{case_text};
+ghost use Rattle.bitvec_domain.specs.Refusals.{signed_text, too_long_text, too_high_text, error_name, too_long_case, too_high_case};
 
 use bitvec_mem::digits::write_numeral;
 use bitvec_mem::mem::BitRegister;
 use bitvec_order::index::{BitEnd, BitIdx};
 use bitvec_order::order::Lsb0;
+use bitvec_ptr::ptr::range::BitPtrRange;
+use bitvec_ptr::ptr::single::BitPtr;
 use std::alloc::AllocError;
+use std::error::Error;
 use std::fmt;
 use std::marker::PhantomData;
 
@@ -76,17 +82,73 @@ impl<R> fmt::Display for BitSpanError<R> {
     }
 }
 
+// The name of the error and of the register, before the case.
+fn write_error_name<R: BitRegister, W: fmt::Write>(f: &mut fmt::Formatter<W>) -> fmt::Result
+    ensures { WritesStyledOnOk W.write_str_gives f.old result (error_name R.name) f.new }
+{
+    f.write_str("BitSpanError<")?;
+    f.write_str(R::name_text())?;
+    f.write_str(">::")
+}
+
+// The case and its number of `TooLong`.
+fn write_too_long_case<W: fmt::Write>(f: &mut fmt::Formatter<W>, bits: usize) -> fmt::Result
+    ensures { WritesStyledOnOk W.write_str_gives f.old result (too_long_case bits) f.new }
+{
+    f.write_str("TooLong(")?;
+    write_numeral(f, bits as u128, 10, false, 1)?;
+    f.write_str(")")
+}
+
+// The case and its number of `TooHigh`.
+fn write_too_high_case<W: fmt::Write>(f: &mut fmt::Formatter<W>, word: isize) -> fmt::Result
+    ensures { WritesStyledOnOk W.write_str_gives f.old result (too_high_case word) f.new }
+{
+    f.write_str("TooHigh(")?;
+    write_signed(f, word)?;
+    f.write_str(")")
+}
+
+// The case of an error and its number.
+fn write_case<R, W: fmt::Write>(f: &mut fmt::Formatter<W>, error: BitSpanError<R>) -> fmt::Result
+    ensures { WritesStyledOnOk W.write_str_gives f.old result (case_text error) f.new }
+{
+    match error {
+        BitSpanError::TooLong(bits) => write_too_long_case(f, bits),
+        BitSpanError::TooHigh(word, _) => write_too_high_case(f, word),
+    }
+}
+
+/// The case with its number, after the name of the type and the register, whatever the caller's
+/// flags.
+impl<R: BitRegister> fmt::Debug for BitSpanError<R> {
+    ghost use Rattle.std.specs.Prelude.{Some};
+    ghost use Rattle.bitvec_domain.specs.SpanText.{refusal_debug_text};
+
+    ghost debug_output = { λ e. Some (refusal_debug_text R.name e) };
+
+    fn fmt<W: fmt::Write>(&self, f: &mut fmt::Formatter<W>) -> fmt::Result
+        ensures writes { DisplaysOnOk W.write_str_gives f.old result (Some (refusal_debug_text R.name self.now)) f.new }
+        ensures styled { WritesStyledOnOk W.write_str_gives f.old result (refusal_debug_text R.name self.now) f.new }
+    {
+        write_error_name::<R, W>(f)?;
+        write_case::<R, W>(f, *self)
+    }
+}
+
+impl<R: BitRegister> Error for BitSpanError<R> {}
+
 /// The interval of `len` places from the bit `head` of a word on.
 ///
 /// A span names bits and holds none: it is handed the memory to each call that reads it. Its word
 /// index may be negative or past any memory; [`fits`](BitSpan::fits) tests that it lies in one.
-#[derive_where(Copy)]
+#[derive_where(Copy, PartialEq, Eq, Debug)]
 pub struct BitSpan<R: BitRegister = usize, O = Lsb0> {
     word: isize,
     head: u8,
     len: usize,
     of: PhantomData<(R, O)>,
-    pub ghost in_word: { head < R.BITS },
+    pub ghost in_word: { head ≤ R.BITS - 1 },
     pub ghost short: { len ≤ region_max_bits },
     pub ghost low: { int_div_euclid (place_at R.BITS word head +ℤ pos len) (pos R.BITS) ≤ℤ pos 9223372036854775807 },
 }
@@ -101,7 +163,70 @@ impl<R: BitRegister, O> Clone for BitSpan<R, O> {
     }
 }
 
+/// The span of no bits, and how many bits and words a span can meet.
+///
+/// `BitSpan::EMPTY` and the like are read with this trait in scope: a constant of a generic type can
+/// say its value in a contract only as the item of a trait.
+pub trait SpanLimits: Sized {
+    /// No bits, from the first bit of the first word on.
+    const EMPTY: Self;
+
+    /// The greatest length, in bits. As in the Rust crate.
+    const REGION_MAX_BITS: usize;
+
+    /// The greatest number of words that so many bits can meet. As in the Rust crate.
+    const REGION_MAX_ELTS: usize;
+
+    ghost EMPTY: { Self };
+
+    ghost REGION_MAX_BITS: { ℕ };
+
+    ghost REGION_MAX_ELTS: { ℕ };
+}
+
+// How many registers hold so many bits, as `elts`, for a constant.
+const fn words_for<R: BitRegister>(bits: usize) -> usize
+    ensures { result ≡ bits / R.BITS + (if bits % R.BITS == 0 then 0 else 1) }
+{
+    let width = R::BITS as usize;
+    if bits % width == 0 {
+        bits / width
+    } else {
+        bits / width + 1
+    }
+}
+
+impl<R: BitRegister, O> SpanLimits for BitSpan<R, O> {
+    const EMPTY: Self = BitSpan {
+        word: 0,
+        head: 0,
+        len: 0,
+        of: PhantomData,
+    };
+
+    const REGION_MAX_BITS: usize = 2305843009213693951;
+
+    const REGION_MAX_ELTS: usize = words_for::<R>(2305843009213693951) + 1;
+
+    ghost EMPTY = { record {
+      word = pos 0;
+      head = 0;
+      len = 0;
+      of = record {};
+      in_word = zero-le;
+      short = zero-le;
+      low = empty-low R.BITS;
+    } };
+
+    ghost REGION_MAX_BITS = { region_max_bits };
+
+    ghost REGION_MAX_ELTS = { region_max_bits / R.BITS + (if region_max_bits % R.BITS == 0 then 0 else 1) + 1 };
+}
+
 impl<R: BitRegister, O> BitSpan<R, O> {
+    ghost use Rattle.bitvec_ptr.specs.BitPtr.{ptr_of};
+    ghost use Rattle.bitvec_ptr.specs.BitPtrRange.{range_of};
+    ghost use Rattle.bitvec_ptr.specs.PtrRange.{places_of};
     ghost use Rattle.bitvec_domain.specs.BitSpan.{span_of};
 
     /// The span of `bits` bits from the bit `head` of a word on.
@@ -133,6 +258,21 @@ impl<R: BitRegister, O> BitSpan<R, O> {
         })
     }
 
+    /// The span of `bits` bits from a pointer on, refused as [`new`](BitSpan::new) of its word and bit
+    /// is.
+    ///
+    /// Our own, for the Rust crate's private `BitPtr::span`.
+    pub fn from_bitptr(pointer: BitPtr<R, O>, bits: usize) -> Result<Self, BitSpanError<R>>
+        ensures accepted { IsOk result
+            ↔ ((bits ≤ region_max_bits) × (int_div_euclid (place_of R.BITS (ptr_of pointer) +ℤ pos bits) (pos R.BITS) ≤ℤ isize.MAX)) }
+        ensures too_long { (result ≡ Err (BitSpanError.TooLong bits)) ↔ (region_max_bits < bits) }
+        ensures too_high { (result ≡ Err (BitSpanError.TooHigh (ptr_of pointer).word (record {})))
+            ↔ ((bits ≤ region_max_bits) × (isize.MAX <ℤ int_div_euclid (place_of R.BITS (ptr_of pointer) +ℤ pos bits) (pos R.BITS))) }
+        ensures span { IfOk result (λ s. span_of s ≡ record { word = (ptr_of pointer).word; head = (ptr_of pointer).bit; len = bits }) }
+    {
+        Self::new(pointer.address(), pointer.bit(), bits)
+    }
+
     /// The index of the first word.
     pub fn address(&self) -> isize
         ensures { result ≡ (span_of self.now).word }
@@ -152,6 +292,38 @@ impl<R: BitRegister, O> BitSpan<R, O> {
         ensures { result ≡ (span_of self.now).len }
     {
         self.len
+    }
+
+    /// Whether the span has no bits.
+    pub fn is_empty(&self) -> bool
+        ensures { IsTrue result ↔ ((span_of self.now).len ≡ 0) }
+    {
+        self.len == 0
+    }
+
+    /// The index of the first word, that of the first bit in it, and the number of bits.
+    pub fn raw_parts(&self) -> (isize, BitIdx<R>, usize)
+        ensures word { result.0 ≡ (span_of self.now).word }
+        ensures head { result.1 ≡ (span_of self.now).head }
+        ensures len { result.2 ≡ (span_of self.now).len }
+    {
+        (self.word, self.head(), self.len)
+    }
+
+    /// The pointer to the first bit, and for an empty span to where it would be.
+    pub fn to_bitptr(self) -> BitPtr<R, O>
+        ensures { ptr_of result ≡ record { word = (span_of self).word; bit = (span_of self).head } }
+    {
+        BitPtr::new(self.word, self.head())
+    }
+
+    /// The pointers to the span's bits, in order.
+    pub fn to_bitptr_range(self) -> BitPtrRange<R, O>
+        ensures start { (range_of result).start ≡ record { word = (span_of self).word; bit = (span_of self).head } }
+        ensures end { place_of R.BITS (range_of result).end ≡ place_at R.BITS (span_of self).word (span_of self).head +ℤ pos (span_of self).len }
+        ensures places { places_of R.BITS (range_of result) ≡ span_places R.BITS (span_of self) }
+    {
+        self.to_bitptr().range(self.len)
     }
 
     /// How many words the span meets, 0 for an empty one whatever its head.
@@ -177,5 +349,30 @@ impl<R: BitRegister, O> BitSpan<R, O> {
     {
         let elements = self.elements();
         0 <= self.word && elements <= words && self.word as usize <= words - elements
+    }
+
+    /// Whether no bit is in both spans, as it is where one of them has none. Our own.
+    ///
+    /// Spans of one word are disjoint too where their bits are.
+    pub fn is_disjoint(&self, other: &Self) -> bool
+        ensures { IsTrue result ↔ AreDisjoint R.BITS (span_of self.now) (span_of other.now) }
+    {
+        if self.is_empty() || other.is_empty() {
+            return true;
+        }
+        let here = self.to_bitptr_range();
+        let there = other.to_bitptr_range();
+        here.end() <= there.start() || there.end() <= here.start()
+    }
+}
+
+/// The span of no bits, [`EMPTY`](SpanLimits::EMPTY).
+impl<R: BitRegister, O> Default for BitSpan<R, O> {
+    ghost use Rattle.bitvec_domain.specs.BitSpan.{span_of};
+
+    ghost is_default = { λ s. span_of s ≡ record { word = pos 0; head = 0; len = 0 } };
+
+    fn default() -> Self {
+        Self::EMPTY
     }
 }

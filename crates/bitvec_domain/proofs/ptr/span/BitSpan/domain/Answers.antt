@@ -1,4 +1,5 @@
 use Rattle.std.proofs.Common.{map, rules}
+use Rattle.bitvec_ptr.proofs.PlaceOrder.{bit_below}
 use Rattle.bitvec_domain.specs.BitSpan.{span_of}
 use Rattle.bitvec_domain.specs.Domain.{enclave, region}
 use Rattle.bitvec_domain.specs.DomainView.{element_part, optional_part}
@@ -8,10 +9,10 @@ use Rattle.bitvec_domain.proofs.ptr.span.BitSpan.domain.Goals as goal
 pub returns-then-is_some-2-clause-items : goal.returns-then-is_some-2-clause-items
 returns-then-is_some-2-clause-items g c =
     let number = g.R.BitRegister.number in
-    items-words_of g.R.BitRegister.BITS g.O.BitAt.at_of (span_of c.args.self) number c.args.memory.now (enclave (element_part number c.part.result)) c.args.self.in_word c.requires (search rules)
+    items-words_of g.R.BitRegister.BITS g.O.BitAt.at_of (span_of c.args.self) number c.args.memory.now (enclave (element_part number c.part.result)) (bit_below g.R.BitRegister.BITS c.args.self.head g.met.R.BitRegister.eight_law c.args.self.in_word) c.requires (search rules)
 
 pub returns-clause-items : goal.returns-clause-items
 returns-clause-items g c =
     let number = g.R.BitRegister.number in
     items-words_of g.R.BitRegister.BITS g.O.BitAt.at_of (span_of c.args.self) number c.args.memory.now
-    (region (optional_part number c.head_part-head.result) (map number c.body-body.result.now) (optional_part number c.tail_part-tail.result)) c.args.self.in_word c.requires (search rules)
+    (region (optional_part number c.head_part-head.result) (map number c.body-body.result.now) (optional_part number c.tail_part-tail.result)) (bit_below g.R.BitRegister.BITS c.args.self.head g.met.R.BitRegister.eight_law c.args.self.in_word) c.requires (search rules)

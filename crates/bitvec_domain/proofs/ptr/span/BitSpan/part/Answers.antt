@@ -3,6 +3,7 @@ use Rattle.std.proofs.lemmas.Int.{ints}
 use Rattle.std.specs.Prelude.{slice_index, nat_abs}
 use Rattle.std.specs.Int.{w64}
 use mir.Val.{to_z, of_z}
+use Rattle.bitvec_ptr.proofs.PlaceOrder.{bit_below}
 use Rattle.bitvec_domain.specs.Domain.{value_of, part_head, part_tail}
 use Rattle.bitvec_domain.specs.BitSpan.{span_of}
 use Rattle.bitvec_domain.proofs.PartLemmas.{part_same, value_of-part_of}
@@ -24,4 +25,4 @@ returns-clause-word g c =
     let width = g.R.BitRegister.BITS in
     let span = span_of c.args.self in
     let words = map g.R.BitRegister.number c.args.memory.now in
-    ap (value_of width g.O.BitAt.at_of) (returns-clause-part g c) ∙ value_of-part_of width g.O.BitAt.at_of span words c.args.k c.args.self.in_word c.requires.met
+    ap (value_of width g.O.BitAt.at_of) (returns-clause-part g c) ∙ value_of-part_of width g.O.BitAt.at_of span words c.args.k (bit_below g.R.BitRegister.BITS c.args.self.head g.met.R.BitRegister.eight_law c.args.self.in_word) c.requires.met

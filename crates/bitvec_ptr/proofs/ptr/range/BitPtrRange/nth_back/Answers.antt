@@ -1,4 +1,4 @@
-use Rattle.std.proofs.Common.{◌<◌, ◌-◌, ◌+ℤ◌, ◌≤ℤ◌, pos, refl, arith}
+use Rattle.std.proofs.Common.{◌-◌, ◌+ℤ◌, ◌≤ℤ◌, pos, refl, arith}
 use Rattle.std.proofs.lemmas.Int.{ints}
 use Rattle.bitvec_ptr.specs.Place.{place_of}
 use Rattle.bitvec_ptr.specs.BitPtr.{ptr_of}

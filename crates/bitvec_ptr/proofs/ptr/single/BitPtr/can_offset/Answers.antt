@@ -1,4 +1,4 @@
-use Rattle.std.proofs.Common.{◌≡◌, ◌<◌, ◌+ℤ◌, pos, ap, sym, ◌∙◌, arith, rules}
+use Rattle.std.proofs.Common.{◌≡◌, ◌+ℤ◌, pos, ap, sym, ◌∙◌, arith}
 use Rattle.std.specs.Prelude.{FitsSigned, IsTrue, ◌↔◌}
 use Rattle.std.specs.Option.{is_some}
 use Rattle.std.specs.Int.{w64, int_div_euclid}

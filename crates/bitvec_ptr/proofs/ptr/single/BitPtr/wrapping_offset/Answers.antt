@@ -1,4 +1,4 @@
-use Rattle.std.proofs.Common.{◌≡◌, ◌+ℤ◌, pos, ap, ◌∙◌, arith, rules}
+use Rattle.std.proofs.Common.{pos, ap, ◌∙◌, arith}
 use Rattle.std.specs.Prelude.{FitsSigned}
 use Rattle.std.proofs.lemmas.Int.{ints, wrapping_add_is}
 use Rattle.std.specs.Int.{w64, int_wrapping_add}

@@ -1,0 +1,162 @@
+//! Pointers and their ranges in worked examples.
+
+use crate::ptr::range::{BitPtrRange, EmptyRange};
+use crate::ptr::single::{BitPtr, Dangling};
+use bitvec_mem::mem::BitRegister;
+use bitvec_order::index::{BitIdx, Limits};
+use bitvec_order::order::{Lsb0, Msb0};
+use std::ops::{Bound, Range};
+use std::test::Fail;
+
+// The pointer at a place from 0 on.
+fn at<R: BitRegister>(place: u16) -> BitPtr<R, Lsb0> {
+    let width = u16::from(R::BITS);
+    let bit = BitIdx::new_unchecked((place % width) as u8);
+    BitPtr::new((place / width) as isize, bit)
+}
+
+// Its word and its bit.
+fn parts<R: BitRegister>(pointer: BitPtr<R, Lsb0>) -> (isize, u8) {
+    let (word, bit) = pointer.raw_parts();
+    (word, bit.into_inner())
+}
+
+#[test]
+fn is_made_from_a_word_or_a_memory(rt: HostRuntime) -> Result<(), Fail> {
+    let mut memory = [1u16, 2];
+    let mut word = 3u16;
+    let dangling: BitPtr<u16, Lsb0> = BitPtr::DANGLING;
+    assert_eq!(rt; parts(dangling), (0, 0));
+    assert!(rt; BitPtr::from_ref(&word) == dangling);
+    assert!(rt; BitPtr::from_mut(&mut word) == dangling);
+    assert!(rt; BitPtr::from(&word) == dangling);
+    assert!(rt; BitPtr::from(&mut word) == dangling);
+    assert!(rt; BitPtr::from_slice(&memory) == dangling);
+    assert!(rt; BitPtr::from_mut_slice(&mut memory) == dangling);
+    assert!(rt; BitPtr::from_slice_mut(&mut memory) == dangling);
+    let pointer = at::<u16>(37);
+    assert_eq!(rt; (pointer.address(), pointer.bit().into_inner()), (2, 5));
+    assert_eq!(rt; pointer.to_raw_parts().0, 2);
+    assert!(rt; at::<u16>(15) < at::<u16>(16));
+    Ok(())
+}
+
+#[test]
+fn wraps_at_the_ends_of_the_word_index(rt: HostRuntime) -> Result<(), Fail> {
+    let last: BitPtr<u8, Lsb0> = BitPtr::new(isize::MAX, BitIdx::MAX);
+    assert_eq!(rt; parts(last.wrapping_add(1)), (isize::MIN, 0));
+    assert!(rt; !last.can_offset(1));
+    let first = at::<u8>(7);
+    let far = first.wrapping_add(9223372036854775807);
+    assert_eq!(rt; parts(far), (-1152921504606846976, 6));
+    let back = far.wrapping_sub(9223372036854775807);
+    assert_eq!(rt; parts(back), (-2305843009213693952, 7));
+    Ok(())
+}
+
+#[test]
+fn steps_and_measures(rt: HostRuntime) -> Result<(), Fail> {
+    let low = at::<u32>(10);
+    assert!(rt; low.can_offset(15));
+    let high = low.offset(15);
+    assert_eq!(rt; parts(high), (0, 25));
+    assert!(rt; high.can_offset(-15));
+    assert_eq!(rt; parts(high.offset(-15)), (0, 10));
+    assert_eq!(rt; parts(low.add(15)), (0, 25));
+    assert_eq!(rt; parts(high.sub(15)), (0, 10));
+    assert!(rt; high.can_offset_from(low));
+    assert_eq!(rt; high.offset_from(low), 15);
+    assert!(rt; low.can_offset_from(high));
+    assert_eq!(rt; low.offset_from(high), -15);
+    assert!(rt; low.is_in(1));
+    assert!(rt; !low.is_in(0));
+    assert!(rt; low.run_in(1, 22));
+    assert!(rt; !low.run_in(1, 23));
+    Ok(())
+}
+
+#[test]
+fn wraps_by_steps_of_three(rt: HostRuntime) -> Result<(), Fail> {
+    let end = at::<u32>(32);
+    let mut pointer = at::<u32>(0);
+    for _ in 0..32 {
+        if pointer < end {
+            pointer = pointer.wrapping_offset(3);
+        }
+    }
+    assert_eq!(rt; parts(pointer), (1, 1));
+    Ok(())
+}
+
+#[test]
+fn takes_places_from_both_ends(rt: HostRuntime) -> Result<(), Fail> {
+    let start = at::<u16>(0);
+    assert!(rt; start.can_offset(16));
+    let mut range = start.range(16);
+    assert_eq!(rt; range.nth(2).map(parts::<u16>), Some((0, 2)));
+    assert_eq!(rt; range.nth_back(2).map(parts::<u16>), Some((0, 13)));
+    assert!(rt; !range.contains(&start));
+    assert!(rt; range.contains(&at(8)));
+    assert_eq!(rt; range.len(), 10);
+    assert_eq!(rt; range.next().map(parts::<u16>), Some((0, 3)));
+    assert_eq!(rt; range.next_back().map(parts::<u16>), Some((0, 12)));
+    assert!(rt; range.nth(10).is_none());
+    assert!(rt; range.is_empty());
+    assert_eq!(rt; parts(range.start()), (0, 12));
+    assert!(rt; range.next().is_none());
+    Ok(())
+}
+
+#[test]
+fn is_empty_after_its_only_bit(rt: HostRuntime) -> Result<(), Fail> {
+    let start = at::<u8>(0);
+    assert!(rt; start.can_offset(1));
+    let mut range = start.range(1);
+    assert!(rt; !range.is_empty());
+    assert_eq!(rt; range.next().map(parts::<u8>), Some((0, 0)));
+    assert!(rt; range.is_empty());
+    assert!(rt; range.start() == range.end());
+    let none: BitPtrRange<u8, Lsb0> = BitPtrRange::default();
+    assert!(rt; none == BitPtrRange::EMPTY);
+    assert!(rt; none.is_empty());
+    Ok(())
+}
+
+#[test]
+fn is_a_range_of_two_ends(rt: HostRuntime) -> Result<(), Fail> {
+    let (low, high) = (at::<u8>(3), at::<u8>(11));
+    assert!(rt; !BitPtrRange::can_range(&(high..low)));
+    let ends = low..high;
+    assert!(rt; BitPtrRange::can_range(&ends));
+    let range = BitPtrRange::from_range(ends);
+    assert!(rt; matches!(range.start_bound(), Bound::Included(p) if *p == low));
+    assert!(rt; matches!(range.end_bound(), Bound::Excluded(p) if *p == high));
+    let ends: Range<BitPtr<u8, Lsb0>> = Range::from(range.clone()?);
+    assert!(rt; ends.start == low);
+    let ends = range.into_range();
+    assert!(rt; ends.end == high);
+    Ok(())
+}
+
+// Two pointers in one record, which is copied whatever the order is.
+#[derive_where(Clone, Copy)]
+struct Marked<R: BitRegister, O> {
+    from: BitPtr<R, O>,
+    upto: BitPtr<R, O>,
+}
+
+// One of several records, in code that asks nothing of the order.
+fn copied<R: BitRegister, O>(all: &[Marked<R, O>], k: usize) -> Option<Marked<R, O>> {
+    all.get(k).copied()
+}
+
+#[test]
+fn is_copied_out_of_a_slice(rt: HostRuntime) -> Result<(), Fail> {
+    let from: BitPtr<u64, Msb0> = BitPtr::new(-1, BitIdx::MAX);
+    let upto = BitPtr::DANGLING;
+    let all = [Marked { from, upto }];
+    let found = copied(&all, 0).ok_or("none")?;
+    assert!(rt; found.from == from);
+    assert!(rt; found.from < found.upto);
+    Ok(())
+}
