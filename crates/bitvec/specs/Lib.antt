@@ -17,6 +17,8 @@ pub use Rattle.bitvec_ptr.specs.Steps
 pub use Rattle.bitvec_domain.specs.BitSpan
 pub use Rattle.bitvec_domain.specs.Domain
 pub use Rattle.bitvec_domain.specs.DomainView
+pub use Rattle.bitvec_domain.specs.Edit
+pub use Rattle.bitvec_domain.specs.EditView
 pub use Rattle.bitvec_domain.specs.Refusals
 pub use Rattle.bitvec_domain.specs.Span
 pub use Rattle.bitvec_domain.specs.SpanLemmas

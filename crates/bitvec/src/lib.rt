@@ -9,5 +9,6 @@ pub use bitvec_mem::mem;
 pub use bitvec_order::{index, order};
 
 pub mod laws;
+mod run;
 #[cfg(test)]
 mod tests;

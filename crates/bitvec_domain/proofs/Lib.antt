@@ -1,4 +1,5 @@
 pub mod DisjointLemmas
+pub mod EditLemmas
 pub mod ItemLemmas
 pub mod PartLemmas
 pub mod SameSpans

@@ -1,6 +1,8 @@
 pub mod BitSpan
 pub mod Domain
 pub mod DomainView
+pub mod Edit
+pub mod EditView
 pub mod Refusals
 pub mod Span
 pub mod SpanLemmas

@@ -13,6 +13,10 @@ use bitvec_order::order::{BitOrder, Lsb0};
 use std::alloc::AllocError;
 use std::marker::PhantomData;
 
+mod edit;
+
+pub use self::edit::PartialElementMut;
+
 /// Some bits of one word: those with indices from a head to before a tail.
 pub struct PartialElement<'a, R: BitRegister, O> {
     elem: &'a [R],

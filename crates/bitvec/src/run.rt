@@ -1,0 +1,3 @@
+//! Commands through spans of one memory.
+
+mod word;
