@@ -1,20 +1,21 @@
 -- The items of a span's parts are the words of its list.
-use Rattle.std.proofs.Common.{◌≡◌, ◌⊎◌, ℕ, suc, ◌+◌, ◌-◌, ◌<◌, ◌≤◌, ◌^◌, ◌==◌, Bool, true, false, ◌&&◌, nat_le, nat_lt, if◌then◌else◌, List, [], ◌∷◌, ◌++◌, length, map, take, drop, Some, None, refl, sym, ap, ◌∙◌, inl, inr, arith, append-nil}
+use Rattle.std.proofs.Common.{◌≡◌, ◌⊎◌, ℕ, suc, ◌+◌, ◌-◌, ◌*◌, ◌/◌, zero-le, ◌<◌, ◌≤◌, ◌^◌, ◌==◌, Bool, true, false, ◌&&◌, nat_le, nat_lt, if◌then◌else◌, List, [], ◌∷◌, ◌++◌, length, map, take, drop, Some, None, refl, sym, ap, ◌∙◌, inl, inr, arith, append-nil, append_assoc}
 use Rattle.std.specs.Prelude.{nat_abs, slice_index, slice_range}
 use Rattle.std.specs.List.{range_with_len}
-use Rattle.std.proofs.lemmas.List.{same_lists, length-map, get_or-map, get_or-take, get_or-drop}
+use Rattle.std.proofs.lemmas.List.{map-append, same_lists, length-map, get_or-map, get_or-take, get_or-drop}
 use Rattle.std.proofs.lemmas.List.FromFn.{length-map-range_with_len, get_or-map-range_with_len, map-range_with_len_more}
 use Rattle.std.proofs.Common.{length-drop, length-take-le}
+use Rattle.std.proofs.lemmas.Nat.{div-add-mod', le-div}
 use Rattle.std.proofs.lemmas.Bool.{cases_eq, eq-eqb, ne_eqb, eqb-true, eqb-false, le-leb, lt-ltb}
 use Rattle.bitvec_mem.specs.Digit.{digit}
 use Rattle.bitvec_order.specs.Order.{IsOneToOne}
 use Rattle.bitvec_order.proofs.IndexLemmas.{number_of-from_digits}
 use Rattle.bitvec_ptr.specs.Memory.{tabulate}
 use Rattle.bitvec_ptr.specs.Place.{words_met, tail_of}
-use Rattle.bitvec_ptr.proofs.PlaceLemmas.{words_met-none, words_met-some}
+use Rattle.bitvec_ptr.proofs.PlaceLemmas.{words_met-none, words_met-some, tail_of-some}
 use Rattle.bitvec_ptr.proofs.MemoryLemmas.{tabulate_same}
-use Rattle.bitvec_domain.specs.Span.{Span, Fits, list_of, word_of, words_of}
-use Rattle.bitvec_domain.specs.Domain.{Part, Parts, enclave, region, whole, value_of, part_head, part_tail, part_of, parts_of, items}
+use Rattle.bitvec_domain.specs.Span.{Span, Fits, list_of, word_of, words_of, region_max_bits}
+use Rattle.bitvec_domain.specs.Domain.{Part, Parts, enclave, region, whole, value_of, part_head, part_tail, part_of, parts_of, items, HasShortBody}
 use Rattle.bitvec_domain.proofs.PartLemmas.{part_same, value_of-part_of, length-list_of}
 
 -- a whole word is its own value
@@ -130,7 +131,75 @@ module _ (bits : ℕ) (at : ℕ → ℕ) (span : Span) (words : List ℕ) (in_he
       ∙ tabulate_same (words_met bits span.head span.len) value_at (word_of bits at span.head (list_of bits at span words)) 0 (λ k h. value_of-part_of bits at span words k in_head h)
       ∙ ap (λ n. tabulate (words_met bits span.head n) (word_of bits at span.head (list_of bits at span words))) (sym (length-list_of bits at span words))
 
+  -- so many whole words are no more than a span's bits can fill
+  filled : (n : ℕ) → span.len ≤ region_max_bits → n * bits ≤ span.len → n ≤ region_max_bits / bits
+  filled n short fills = le-div n region_max_bits bits (omega arith) (omega arith)
+
+  -- a slice of a known length
+  fills_slice : (from upto n : ℕ) → span.len ≤ region_max_bits → upto ≡ from + n → from + n ≤ length words → n * bits ≤ span.len → length (slice_range words from upto) ≤ region_max_bits / bits
+  fills_slice from upto n short e most fills =
+      let count : upto - from ≡ n = omega arith in
+      let long : length (slice_range words from upto) ≡ n = ap (λ m. length (take m (drop from words))) count ∙ length_slice words from n most in
+      rw long (filled n short fills)
+
+  -- the body of the parts is no longer than a span's can be
+  pub short-parts_of : span.len ≤ region_max_bits → HasShortBody bits (parts_of bits span words)
+  short-parts_of short =
+      let first : ℕ = nat_abs span.word in
+      let e : ℕ = words_met bits span.head span.len in
+      let q : ℕ = (span.head + span.len - 1) / bits in
+      let parts = div-add-mod' (span.head + span.len - 1) bits in
+      let head_part : Part = part_of bits span words 0 in
+      let tail_part : Part = part_of bits span words (words_met bits span.head span.len - 1) in
+      table_cases (HasShortBody bits) (span.len == 0) (span.head == 0) (tail_of bits span.head span.len == bits) (words_met bits span.head span.len == 1)
+      (region None [] None)
+      (region None (slice_range words first (first + e)) None)
+      (region (Some head_part) (slice_range words (first + 1) (first + e)) None)
+      (region None (slice_range words first (first + e - 1)) (Some tail_part))
+      (enclave head_part)
+      (region (Some head_part) (slice_range words (first + 1) (first + e - 1)) (Some tail_part))
+      (λ empty. zero-le)
+      (λ some begins ends.
+      let len_some : 0 < span.len = (let differ = eqb-false span.len 0 some in omega arith) in
+      let met = words_met-some bits span.head span.len len_some in
+      let tail = tail_of-some bits span.head span.len len_some in
+      let full = eqb-true _ bits ends in
+      let none = eqb-true span.head 0 begins in
+      let product : e * bits ≡ (q + 1) * bits = ap (λ n. n * bits) met in
+      fills_slice first (first + e) e short (omega arith) within (omega arith))
+      (λ some begins ends.
+      let len_some : 0 < span.len = (let differ = eqb-false span.len 0 some in omega arith) in
+      let met = words_met-some bits span.head span.len len_some in
+      let tail = tail_of-some bits span.head span.len len_some in
+      let full = eqb-true _ bits ends in
+      fills_slice (first + 1) (first + e) q short (omega arith) (omega arith) (omega arith))
+      (λ some begins ends.
+      let len_some : 0 < span.len = (let differ = eqb-false span.len 0 some in omega arith) in
+      let met = words_met-some bits span.head span.len len_some in
+      let none = eqb-true span.head 0 begins in
+      fills_slice first (first + e - 1) q short (omega arith) (omega arith) (omega arith))
+      (λ some begins ends one. zero-le)
+      (λ some begins ends one.
+      let len_some : 0 < span.len = (let differ = eqb-false span.len 0 some in omega arith) in
+      let met = words_met-some bits span.head span.len len_some in
+      let differ = eqb-false (words_met bits span.head span.len) 1 one in
+      let product : (q - 1 + 1) * bits ≡ q * bits = ap (λ n. n * bits) (let same : q - 1 + 1 ≡ q = omega arith in same) in
+      fills_slice (first + 1) (first + e - 1) (q - 1) short (omega arith) (omega arith) (omega arith))
+
 -- the same, of parts that are known to be the span's in a memory
 pub items-words_of : {X : Type 0} (bits : ℕ) (at : ℕ → ℕ) (span : Span) (number : X → ℕ) (memory : List X) (parts : Parts) → span.head < bits → Fits bits span (length memory) → parts ≡ parts_of bits span (map number memory) → items bits at parts ≡ words_of bits at span.head (list_of bits at span (map number memory))
 items-words_of bits at span number memory parts in_head fits is =
     ap (items bits at) is ∙ items-parts_of bits at span (map number memory) in_head (let within = fits.1 in omega (arith, length-map memory number))
+
+pub short-words_of : {X : Type 0} (bits : ℕ) (at : ℕ → ℕ) (span : Span) (number : X → ℕ) (memory : List X) (parts : Parts) → span.head < bits → span.len ≤ region_max_bits → Fits bits span (length memory) → parts ≡ parts_of bits span (map number memory) → HasShortBody bits parts
+short-words_of bits at span number memory parts in_head short fits is =
+    rw is (short-parts_of bits at span (map number memory) in_head (let within = fits.1 in omega (arith, length-map memory number)) short)
+
+-- the items of whole words, the last of them behind the others
+pub items_last : {X : Type 0} (bits : ℕ) (at : ℕ → ℕ) (number : X → ℕ) (before : List ℕ) (body : List X) (word : X) → value_of bits at (whole bits (number word)) ≡ number word
+    → before ++ (map (λ w. value_of bits at (whole bits w)) (map number (body ++ (word ∷ []))) ++ []) ≡ (before ++ (map (λ w. value_of bits at (whole bits w)) (map number body) ++ [])) ++ (number word ∷ [])
+items_last bits at number before body word value =
+    let f : ℕ → ℕ = λ w. value_of bits at (whole bits w) in
+    ap (λ xs. before ++ xs) (append-nil _ ∙ ap (map f) (map-append number body (word ∷ [])) ∙ map-append f (map number body) (number word ∷ []) ∙ ap (λ v. map f (map number body) ++ (v ∷ [])) value)
+    ∙ sym (append_assoc before (map f (map number body)) (number word ∷ []))
+    ∙ ap (λ xs. (before ++ xs) ++ (number word ∷ [])) (sym (append-nil _))

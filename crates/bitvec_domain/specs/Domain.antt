@@ -1,9 +1,9 @@
 -- The parts that a span has in the words of a memory, and their values.
-use Rattle.std.specs.Prelude.{ℕ, nat_abs, ◌+◌, ◌-◌, ◌&&◌, ◌==◌, if◌then◌else◌, List, [], ◌∷◌, ◌++◌, Option, Some, None, map, nat_le, nat_lt, slice_index, slice_range}
+use Rattle.std.specs.Prelude.{ℕ, nat_abs, ◌+◌, ◌-◌, ◌/◌, ◌≤◌, ◌&&◌, Bool, true, false, length, ◌==◌, if◌then◌else◌, List, [], ◌∷◌, ◌++◌, Option, Some, None, map, nat_le, nat_lt, slice_index, slice_range}
 use Rattle.bitvec_mem.specs.Digit.{digit}
 use Rattle.bitvec_order.specs.Order.{number_of}
 use Rattle.bitvec_ptr.specs.Place.{words_met, tail_of}
-use Rattle.bitvec_domain.specs.Span.{Span}
+use Rattle.bitvec_domain.specs.Span.{Span, region_max_bits}
 
 -- the bits of a word with indices from `head` to before `tail`
 pub record Part : Type 0 where
@@ -60,3 +60,17 @@ part_items bits at None = []
 abbrev pub items : ℕ → (ℕ → ℕ) → Parts → List ℕ
 items bits at (enclave part) = value_of bits at part ∷ []
 items bits at (region head body tail) = part_items bits at head ++ (map (λ w. value_of bits at (whole bits w)) body ++ part_items bits at tail)
+
+-- whether the parts are one part of a word alone
+abbrev pub is_enclave : Parts → Bool
+is_enclave (enclave part) = true
+is_enclave (region head body tail) = false
+
+-- how many whole words there are
+abbrev pub body_len : Parts → ℕ
+body_len (enclave part) = 0
+body_len (region head body tail) = length body
+
+-- there are no more whole words than a span's bits can fill
+abbrev pub HasShortBody : ℕ → Parts → Type 0
+HasShortBody bits parts = body_len parts ≤ region_max_bits / bits

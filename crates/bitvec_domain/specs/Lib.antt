@@ -3,6 +3,7 @@ pub mod Domain
 pub mod DomainView
 pub mod Edit
 pub mod EditView
+pub mod ItemText
 pub mod Refusals
 pub mod Span
 pub mod SpanLemmas

@@ -1,19 +1,21 @@
 //! The words and parts of words that a span meets.
 
-ghost use Rattle.std.specs.Prelude.{◌≡◌, ⊤, ℕ, ◌+◌, ◌-◌, ◌<◌, ◌≤◌, ◌^◌, ◌⊎◌, ◌==◌, if◌then◌else◌, Some, None, nat_abs, length, map, slice_index, slice_range};
+ghost use Rattle.std.specs.Prelude.{◌≡◌, ⊤, ℕ, ◌+◌, ◌-◌, ◌<◌, ◌≤◌, ◌^◌, ◌⊎◌, ◌==◌, if◌then◌else◌, true, false, Some, None, MatchOption, nat_abs, length, map, slice_index, slice_range};
 ghost use Rattle.bitvec_order.specs.Order.{IsMaskOf};
 ghost use Rattle.bitvec_ptr.specs.Place.{words_met, tail_of};
 ghost use Rattle.bitvec_domain.specs.Span.{Fits, list_of, word_of, words_of};
-ghost use Rattle.bitvec_domain.specs.Domain.{part_of, parts_of, value_of, items};
+ghost use Rattle.bitvec_domain.specs.Domain.{part_of, parts_of, value_of, items, enclave, region, is_enclave, HasShortBody};
 
 use crate::ptr::span::BitSpan;
 use bitvec_mem::mem::BitRegister;
 use bitvec_order::index::{BitEnd, BitIdx, BitMask, Limits};
 use bitvec_order::order::{BitOrder, Lsb0};
 use std::alloc::AllocError;
+use std::iter::FusedIterator;
 use std::marker::PhantomData;
 
 mod edit;
+mod text;
 
 pub use self::edit::PartialElementMut;
 
@@ -130,6 +132,61 @@ impl<'a, R: BitRegister, O> Clone for Domain<'a, R, O> {
 
 impl<'a, R: BitRegister, O> Copy for Domain<'a, R, O> {}
 
+impl<'a, R: BitRegister, O> Domain<'a, R, O> {
+    ghost use Rattle.bitvec_domain.specs.DomainView.{element_part, optional_part, domain_parts};
+
+    /// The part of one word, where the domain is that alone.
+    pub fn enclave(self) -> Option<PartialElement<'a, R, O>>
+        ensures { MatchOption result
+            (is_enclave (domain_parts R.number self.entry) ≡ false)
+            (λ part. domain_parts R.number self.entry ≡ enclave (element_part R.number part)) }
+    {
+        match self {
+            Domain::Enclave(part) => Some(part),
+            Domain::Region { .. } => None,
+        }
+    }
+
+    /// The head, the body and the tail, where the domain is not one part alone.
+    pub fn region(
+        self,
+    ) -> Option<(
+        Option<PartialElement<'a, R, O>>,
+        &'a [R],
+        Option<PartialElement<'a, R, O>>,
+    )>
+        ensures { MatchOption result
+            (is_enclave (domain_parts R.number self.entry) ≡ true)
+            (λ parts. domain_parts R.number self.entry
+                ≡ region (optional_part R.number parts.0) (map R.number parts.1.now) (optional_part R.number parts.2)) }
+    {
+        match self {
+            Domain::Enclave(_) => None,
+            Domain::Region { head, body, tail } => Some((head, body, tail)),
+        }
+    }
+}
+
+impl<'a, R: BitRegister, O: BitOrder<R>> Domain<'a, R, O> {
+    ghost use Rattle.bitvec_domain.specs.DomainView.{domain_parts};
+
+    /// How many items are left: one for each part, and one for each whole word.
+    ///
+    /// It asks a body that is no longer than one span's can be, as each from
+    /// [`domain`](BitSpan::domain) is.
+    pub fn len(&self) -> usize
+        requires { HasShortBody R.BITS (domain_parts R.number self.now) }
+        ensures { result ≡ length (items R.BITS O.at_of (domain_parts R.number self.now)) }
+    {
+        match *self {
+            Domain::Enclave(_) => 1,
+            Domain::Region { head, body, tail } => {
+                usize::from(head.is_some()) + body.len() + usize::from(tail.is_some())
+            }
+        }
+    }
+}
+
 impl<'a, R: BitRegister, O> Default for Domain<'a, R, O> {
     ghost use Rattle.std.specs.Prelude.{[], None, ◌≡◌};
     ghost use Rattle.bitvec_domain.specs.Domain.{region};
@@ -233,6 +290,7 @@ impl<R: BitRegister, O: BitOrder<R>> BitSpan<R, O> {
         ensures parts { domain_parts R.number result ≡ parts_of R.BITS (span_of self) (map R.number memory.now) }
         ensures items { items R.BITS O.at_of (domain_parts R.number result)
             ≡ words_of R.BITS O.at_of (span_of self).head (list_of R.BITS O.at_of (span_of self) (map R.number memory.now)) }
+        ensures short { HasShortBody R.BITS (domain_parts R.number result) }
     {
         let elements = self.elements();
         if elements == 0 {
@@ -300,3 +358,55 @@ impl<'a, R: BitRegister, O: BitOrder<R>> Iterator for Domain<'a, R, O> {
         }
     }
 }
+
+impl<'a, R: BitRegister, O: BitOrder<R>> DoubleEndedIterator for Domain<'a, R, O> {
+    ghost use Rattle.std.specs.Iterator.{YieldsLastBy};
+    ghost use Rattle.bitvec_domain.specs.Domain.{items};
+    ghost use Rattle.bitvec_domain.specs.DomainView.{domain_parts};
+
+    ghost next_back_gives = { YieldsLastBy R.number (λ d. items R.BITS O.at_of (domain_parts R.number d)) };
+
+    fn next_back(&mut self) -> Option<R> {
+        match *self {
+            Domain::Enclave(part) => {
+                *self = Domain::default();
+                Some(part.load_value())
+            }
+            Domain::Region {
+                head,
+                body,
+                tail: Some(part),
+            } => {
+                *self = Domain::Region {
+                    head,
+                    body,
+                    tail: None,
+                };
+                Some(part.load_value())
+            }
+            Domain::Region {
+                head,
+                body,
+                tail: None,
+            } => match body.split_last() {
+                Some((word, body)) => {
+                    *self = Domain::Region {
+                        head,
+                        body,
+                        tail: None,
+                    };
+                    // The call says that the number is one of the register's, and costs nothing.
+                    let _number = word.to_u128();
+                    Some(*word)
+                }
+                None => {
+                    *self = Domain::default();
+                    head.map(|part| part.load_value())
+                }
+            },
+        }
+    }
+}
+
+/// After `None` the domain answers `None` for good.
+impl<'a, R: BitRegister, O: BitOrder<R>> FusedIterator for Domain<'a, R, O> {}
