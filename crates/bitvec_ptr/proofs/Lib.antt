@@ -1,3 +1,4 @@
+pub mod BitLemmas
 pub mod MemoryLemmas
 pub mod PlaceLemmas
 pub mod PlaceOrder

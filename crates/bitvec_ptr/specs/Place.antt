@@ -1,5 +1,5 @@
 -- Places of bits. `bits` is the width of a word.
-use Rattle.std.specs.Prelude.{ℕ, ℤ, pos, ◌+ℤ◌, ◌*ℤ◌, ◌+◌, ◌-◌, ◌/◌, ◌%◌, ◌==◌, if◌then◌else◌}
+use Rattle.std.specs.Prelude.{ℕ, ℤ, pos, nat_abs, ◌+ℤ◌, ◌*ℤ◌, ◌+◌, ◌*◌, ◌-◌, ◌/◌, ◌%◌, ◌==◌, if◌then◌else◌}
 
 -- the place of the bit at an index of a word, as a whole number
 abbrev pub place_at : ℕ → ℤ → ℕ → ℤ
@@ -13,6 +13,10 @@ pub record Ptr : Type 0 where
 -- the place of a pointer, as a whole number
 abbrev pub place_of : ℕ → Ptr → ℤ
 place_of bits ptr = place_at bits ptr.word ptr.bit
+
+-- the place of a pointer into a memory, as an index of the list of the memory's bits
+abbrev pub index_of : ℕ → Ptr → ℕ
+index_of bits ptr = nat_abs ptr.word * bits + ptr.bit
 
 -- how many words the interval of `count` places meets that starts at the bit `head` of a word
 abbrev pub words_met : ℕ → ℕ → ℕ → ℕ

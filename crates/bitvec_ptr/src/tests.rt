@@ -160,3 +160,21 @@ fn is_copied_out_of_a_slice(rt: HostRuntime) -> Result<(), Fail> {
     assert!(rt; found.from < found.upto);
     Ok(())
 }
+
+#[test]
+fn reads_and_writes_one_bit(rt: HostRuntime) -> Result<(), Fail> {
+    let mut memory = [5u8, 0];
+    for (place, want) in [(0, true), (1, false), (2, true)] {
+        let pointer = at::<u8>(place);
+        assert!(rt; pointer.is_in(memory.len()));
+        assert_eq!(rt; pointer.read(&memory), want, "at {place}");
+    }
+    let pointer = at::<u8>(11);
+    assert!(rt; pointer.is_in(memory.len()));
+    pointer.write(&mut memory, true);
+    assert_eq!(rt; memory, [5, 8]);
+    assert!(rt; pointer.is_in(memory.len()));
+    assert!(rt; pointer.replace(&mut memory, false));
+    assert_eq!(rt; memory, [5, 0]);
+    Ok(())
+}

@@ -1,14 +1,16 @@
 //! Pointers to single bits: a word of a memory and the index of a bit in it.
 
-ghost use Rattle.std.specs.Prelude.{◌≡◌, ⊤, ℕ, ℤ, pos, neg_ℤ, ◌+◌, ◌-◌, ◌/◌, ◌<◌, ◌≤◌, ◌+ℤ◌, ◌≤ℤ◌, ◌↔◌, IsTrue, FitsSigned};
+ghost use Rattle.std.specs.Prelude.{◌≡◌, ⊤, ℕ, ℤ, pos, neg_ℤ, ◌+◌, ◌-◌, ◌/◌, ◌==◌, if◌then◌else◌, Some, length, map, slice_get, slice_set, ◌<◌, ◌≤◌, ◌+ℤ◌, ◌≤ℤ◌, ◌↔◌, IsTrue, FitsSigned};
 ghost use Rattle.std.specs.Int.{w64, int_wrap, int_div_euclid, int_rem_euclid};
 ghost use Rattle.std.proofs.Common.{zero-le};
-ghost use Rattle.bitvec_ptr.specs.Place.{place_of, words_met};
+ghost use Rattle.bitvec_ptr.specs.Place.{place_of, index_of, words_met};
+ghost use Rattle.bitvec_ptr.specs.Memory.{memory_bits};
+ghost use Rattle.bitvec_mem.specs.Digit.{digit};
 ghost use Rattle.bitvec_ptr.specs.Steps.{CanOffset, wrapped, distance, IsIn, RunsIn};
 
 use bitvec_mem::mem::BitRegister;
-use bitvec_order::index::BitIdx;
-use bitvec_order::order::Lsb0;
+use bitvec_order::index::{BitIdx, BitMask};
+use bitvec_order::order::{BitOrder, Lsb0};
 use std::alloc::AllocError;
 use std::marker::PhantomData;
 
@@ -281,6 +283,63 @@ impl<R: BitRegister, O> BitPtr<R, O> {
     {
         let elements = self.elements(count);
         0 <= self.word && elements <= words && self.word as usize <= words - elements
+    }
+}
+
+// The bit of a word at an index.
+fn bit_at<R: BitRegister, O: BitOrder<R>>(word: R, index: BitIdx<R>) -> bool
+    ensures { result ≡ digit (R.number word) (O.at_of index) }
+{
+    BitMask::new(word).test(index.select::<O>())
+}
+
+// A word with another bit at an index.
+fn with_bit<R: BitRegister, O: BitOrder<R>>(word: R, index: BitIdx<R>, bit: bool) -> R
+    ensures { (j : ℕ) → j < R.BITS
+        → digit (R.number result) (O.at_of j) ≡ (if j == index then bit else digit (R.number word) (O.at_of j)) }
+{
+    let selector = index.select::<O>().into_inner();
+    if bit {
+        word.or(selector)
+    } else {
+        word.and(selector.not())
+    }
+}
+
+impl<R: BitRegister, O: BitOrder<R>> BitPtr<R, O> {
+    ghost use Rattle.bitvec_ptr.specs.BitPtr.{ptr_of};
+
+    /// The pointer's bit in a memory that has its word: [`is_in`](BitPtr::is_in) is the test.
+    pub fn read(self, memory: &[R]) -> bool
+        requires { IsIn (ptr_of self) (length memory.now) }
+        ensures { slice_get (memory_bits R.BITS O.at_of (map R.number memory.now)) (index_of R.BITS (ptr_of self)) ≡ Some result }
+    {
+        bit_at::<R, O>(memory[self.word as usize], self.bit())
+    }
+
+    /// Writes the pointer's bit in a memory that has its word, and changes no other bit:
+    /// [`is_in`](BitPtr::is_in) is the test.
+    pub fn write(self, memory: &mut [R], bit: bool)
+        requires { IsIn (ptr_of self) (length memory.old) }
+        ensures bits { memory_bits R.BITS O.at_of (map R.number memory.new)
+            ≡ slice_set (memory_bits R.BITS O.at_of (map R.number memory.old)) (index_of R.BITS (ptr_of self)) bit }
+        ensures words { length memory.new ≡ length memory.old }
+    {
+        let at = self.word as usize;
+        memory[at] = with_bit::<R, O>(memory[at], self.bit(), bit);
+    }
+
+    /// Writes the pointer's bit as [`write`](BitPtr::write) does, and answers the bit before.
+    pub fn replace(self, memory: &mut [R], bit: bool) -> bool
+        requires { IsIn (ptr_of self) (length memory.old) }
+        ensures previous { slice_get (memory_bits R.BITS O.at_of (map R.number memory.old)) (index_of R.BITS (ptr_of self)) ≡ Some result }
+        ensures bits { memory_bits R.BITS O.at_of (map R.number memory.new)
+            ≡ slice_set (memory_bits R.BITS O.at_of (map R.number memory.old)) (index_of R.BITS (ptr_of self)) bit }
+        ensures words { length memory.new ≡ length memory.old }
+    {
+        let previous = self.read(memory);
+        self.write(memory, bit);
+        previous
     }
 }
 
