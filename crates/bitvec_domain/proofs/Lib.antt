@@ -5,3 +5,4 @@ pub mod PartLemmas
 pub mod SameSpans
 pub mod SliceLemmas
 pub mod TextLemmas
+pub mod WordsLemmas

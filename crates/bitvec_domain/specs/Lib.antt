@@ -8,6 +8,8 @@ pub mod Refusals
 pub mod Span
 pub mod SpanLemmas
 pub mod SpanText
+pub mod Words
+pub mod WordsView
 pub use Rattle.bitvec_mem.specs.Digit
 pub use Rattle.bitvec_mem.specs.Numeral
 pub use Rattle.bitvec_order.specs.Order

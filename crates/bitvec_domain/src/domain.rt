@@ -16,8 +16,10 @@ use std::marker::PhantomData;
 
 mod edit;
 mod text;
+mod words;
 
 pub use self::edit::PartialElementMut;
+pub use self::words::{BitDomain, BitWords};
 
 /// Some bits of one word: those with indices from a head to before a tail.
 pub struct PartialElement<'a, R: BitRegister, O> {

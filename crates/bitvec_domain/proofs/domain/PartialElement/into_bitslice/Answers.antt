@@ -1,0 +1,8 @@
+use Rattle.std.proofs.Common.{arith}
+use Rattle.bitvec_domain.proofs.WordsLemmas.{one_met}
+use Rattle.bitvec_domain.proofs.domain.PartialElement.into_bitslice.Goals as goal
+
+pub invariant_of-result-clause-fits : goal.invariant_of-result-clause-fits
+invariant_of-result-clause-fits g c =
+    let part = c.args.self in
+    rw c.from.ensures (omega (arith, one_met g.R.BitRegister.BITS part.head part.tail part.tail_in part.ordered, part.single))
