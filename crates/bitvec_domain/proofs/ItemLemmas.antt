@@ -24,7 +24,7 @@ value_of-whole bits at w law small =
     sym (number_of-from_digits bits at (λ i. nat_le 0 i && nat_lt i bits && digit w (at i)) w law small (λ i h. sym (rw (le-leb 0 i (omega arith), lt-ltb i bits h) refl)))
 
 -- what holds of each row of a table, where it is the first that applies, holds of the table
-table_cases : (P : Parts → Type 0) (empty begins ends one : Bool) (r0 r1 r2 r3 r4 r5 : Parts) → (empty ≡ true → P r0) → (empty ≡ false → begins ≡ true → ends ≡ true → P r1) → (empty ≡ false → begins ≡ false → ends ≡ true → P r2) → (empty ≡ false → begins ≡ true → ends ≡ false → P r3) → (empty ≡ false → begins ≡ false → ends ≡ false → one ≡ true → P r4) → (empty ≡ false → begins ≡ false → ends ≡ false → one ≡ false → P r5) → P (if empty then r0 else (if begins && ends then r1 else (if ends then r2 else (if begins then r3 else (if one then r4 else r5)))))
+pub table_cases : (P : Parts → Type 0) (empty begins ends one : Bool) (r0 r1 r2 r3 r4 r5 : Parts) → (empty ≡ true → P r0) → (empty ≡ false → begins ≡ true → ends ≡ true → P r1) → (empty ≡ false → begins ≡ false → ends ≡ true → P r2) → (empty ≡ false → begins ≡ true → ends ≡ false → P r3) → (empty ≡ false → begins ≡ false → ends ≡ false → one ≡ true → P r4) → (empty ≡ false → begins ≡ false → ends ≡ false → one ≡ false → P r5) → P (if empty then r0 else (if begins && ends then r1 else (if ends then r2 else (if begins then r3 else (if one then r4 else r5)))))
 table_cases P true begins ends one r0 r1 r2 r3 r4 r5 p0 p1 p2 p3 p4 p5 = p0 refl
 table_cases P false true true one r0 r1 r2 r3 r4 r5 p0 p1 p2 p3 p4 p5 = p1 refl refl refl
 table_cases P false false true one r0 r1 r2 r3 r4 r5 p0 p1 p2 p3 p4 p5 = p2 refl refl refl
@@ -52,14 +52,14 @@ module _ (bits : ℕ) (at : ℕ → ℕ) (span : Span) (words : List ℕ) (in_he
   abbrev value_at : ℕ → ℕ
   value_at k = value_of bits at (part_of bits span words k)
 
-  first_bound : (k : ℕ) → (0 < k) ⊎ (span.head ≡ 0) → 0 ≡ part_head span.head k
+  pub first_bound : (k : ℕ) → (0 < k) ⊎ (span.head ≡ 0) → 0 ≡ part_head span.head k
   first_bound k h =
       elim (cases_eq k 0) [
         | inl e ↦ rw (eq-eqb k 0 e) (elim h [ inl some ↦ absurd (omega arith) | inr none ↦ sym none ])
         | inr differ ↦ rw (ne_eqb k 0 differ) refl
       ]
 
-  last_bound : (k : ℕ) → (k + 1 < words_met bits span.head span.len) ⊎ (tail_of bits span.head span.len ≡ bits) → bits ≡ part_tail bits span.head span.len k
+  pub last_bound : (k : ℕ) → (k + 1 < words_met bits span.head span.len) ⊎ (tail_of bits span.head span.len ≡ bits) → bits ≡ part_tail bits span.head span.len k
   last_bound k h =
       elim (cases_eq (k + 1) (words_met bits span.head span.len)) [
         | inl e ↦ rw (eq-eqb (k + 1) (words_met bits span.head span.len) e) (elim h [ inl before ↦ absurd (omega arith) | inr full ↦ sym full ])

@@ -1,6 +1,7 @@
 pub mod DisjointLemmas
 pub mod EditLemmas
 pub mod ItemLemmas
+pub mod JoinLemmas
 pub mod PartLemmas
 pub mod SameSpans
 pub mod SliceLemmas

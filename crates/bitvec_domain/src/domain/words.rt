@@ -5,11 +5,12 @@ ghost use Rattle.std.proofs.Common.{zero-le};
 ghost use Rattle.bitvec_ptr.specs.BitPtr.{ptr_of};
 ghost use Rattle.bitvec_ptr.specs.Place.{words_met, index_of};
 ghost use Rattle.bitvec_ptr.specs.Steps.{IsIn};
-ghost use Rattle.bitvec_domain.specs.Span.{region_max_bits};
-ghost use Rattle.bitvec_domain.specs.Words.{bits_list, part_bits, optional_bits, body_bits, bit_enclave, bit_region, bit_parts_of, is_bit_enclave};
-ghost use Rattle.bitvec_domain.specs.Domain.{HasShortBody};
+ghost use Rattle.bitvec_domain.specs.Span.{region_max_bits, Fits, list_of};
+ghost use Rattle.bitvec_domain.specs.Words.{bits_list, part_bits, optional_bits, body_bits, bit_enclave, bit_region, bit_parts_of, is_bit_enclave, joined_bits};
+ghost use Rattle.bitvec_domain.specs.Domain.{HasShortBody, parts_of};
 
 use crate::domain::{Domain, PartialElement};
+use crate::ptr::span::BitSpan;
 use bitvec_mem::mem::BitRegister;
 use bitvec_order::index::BitIdx;
 use bitvec_order::order::{BitOrder, Lsb0};
@@ -254,5 +255,21 @@ impl<'a, R: BitRegister, O> Domain<'a, R, O> {
                 tail: BitWords::of_part(tail),
             },
         }
+    }
+}
+
+impl<R: BitRegister, O: BitOrder<R>> BitSpan<R, O> {
+    ghost use Rattle.bitvec_domain.specs.BitSpan.{span_of};
+    ghost use Rattle.bitvec_domain.specs.WordsView.{bit_parts};
+
+    /// The bits of the span in a memory, by the words in which they lie.
+    ///
+    /// The bits of its parts, one behind the other, are the span's.
+    pub fn bit_domain<'a>(self, memory: &'a [R]) -> BitDomain<'a, R, O>
+        requires { Fits R.BITS (span_of self) (length memory.now) }
+        ensures parts { bit_parts R.number result ≡ bit_parts_of R.BITS (parts_of R.BITS (span_of self) (map R.number memory.now)) }
+        ensures joined { joined_bits R.BITS O.at_of (bit_parts R.number result) ≡ list_of R.BITS O.at_of (span_of self) (map R.number memory.now) }
+    {
+        self.domain(memory).into_bit_domain()
     }
 }
