@@ -1,3 +1,4 @@
+pub mod AppendLemmas
 pub mod DisjointLemmas
 pub mod EditLemmas
 pub mod ItemLemmas

@@ -1,6 +1,7 @@
 -- Bits in words of their own.
-use Rattle.std.proofs.Common.{◌≡◌, ℕ, ◌+◌, ◌-◌, ◌*◌, ◌/◌, ◌<◌, ◌≤◌, Bool, List, length, Some, ap, ◌∙◌, sym, inl, inr, arith}
-use Rattle.std.specs.Prelude.{slice_get}
+use Rattle.std.proofs.Common.{◌≡◌, ℕ, ◌+◌, ◌-◌, ◌*◌, ◌/◌, ◌<◌, ◌≤◌, Bool, List, length, map, take, drop, Some, ap, ◌∙◌, sym, inl, inr, arith, length-drop, length-take-le}
+use Rattle.std.specs.Prelude.{slice_get, slice_range}
+use Rattle.std.proofs.lemmas.List.{length-map}
 use Rattle.std.proofs.lemmas.Bool.{cases_eq}
 use Rattle.std.proofs.lemmas.Nat.{div-add-mod', mod_below}
 use Rattle.std.proofs.lemmas.Option.{slice_get-get_or}
@@ -56,3 +57,10 @@ body_met bits n h =
           let below : (0 + n * bits - 1) / bits < n = lt_of_mul-lt-mul_right bits (omega (arith, parts)) in
           omega (arith, met, below))
     ]
+
+-- how many words a stretch of a memory has
+pub length_stretch : {X : Type 0} (number : X → ℕ) (memory : List X) (first count : ℕ) → first + count ≤ length memory → length (slice_range (map number memory) first (first + count)) ≡ count
+length_stretch number memory first count h =
+    let same : first + count - first ≡ count = omega arith in
+    ap (λ n. length (take n (drop first (map number memory)))) same
+    ∙ length-take-le count (drop first (map number memory)) (omega (arith, length-drop first (map number memory), length-map memory number))

@@ -9,6 +9,8 @@ pub mod Span
 pub mod SpanLemmas
 pub mod SpanText
 pub mod Words
+pub mod WordsMut
+pub mod WordsMutView
 pub mod WordsView
 pub use Rattle.bitvec_mem.specs.Digit
 pub use Rattle.bitvec_mem.specs.Numeral

@@ -17,9 +17,11 @@ use std::marker::PhantomData;
 mod edit;
 mod text;
 mod words;
+mod words_mut;
 
 pub use self::edit::PartialElementMut;
 pub use self::words::{BitDomain, BitWords};
+pub use self::words_mut::BitWordsMut;
 
 /// Some bits of one word: those with indices from a head to before a tail.
 pub struct PartialElement<'a, R: BitRegister, O> {

@@ -7,7 +7,9 @@ ghost use Rattle.bitvec_ptr.specs.Place.{words_met};
 ghost use Rattle.bitvec_domain.specs.Span.{Fits};
 ghost use Rattle.bitvec_domain.specs.Domain.{value_of};
 ghost use Rattle.bitvec_domain.specs.Edit.{slot_part, slot_of, EditsPart};
+ghost use Rattle.bitvec_domain.specs.WordsMut.{slot_stretch};
 
+use crate::domain::BitWordsMut;
 use crate::ptr::span::BitSpan;
 use bitvec_mem::mem::BitRegister;
 use bitvec_order::index::{BitEnd, BitIdx, BitMask, Limits};
@@ -168,6 +170,34 @@ impl<'a, R: BitRegister, O: BitOrder<R>> PartialElementMut<'a, R, O> {
         let mask = self.mask().into_inner();
         self.put(old.or(mask));
         old.and(mask)
+    }
+}
+
+impl<'a, R: BitRegister, O> PartialElementMut<'a, R, O> {
+    ghost use Rattle.bitvec_domain.specs.EditView.{memory_of, slot_in};
+    ghost use Rattle.bitvec_domain.specs.WordsMutView.{words_memory, stretch_in};
+
+    /// The bits of the part, in its one word.
+    pub fn into_bitslice(self) -> BitWordsMut<'a, R, O>
+        ensures reference { (words_memory result).ghost_name ≡ (memory_of self.entry).ghost_name }
+        ensures memory { (words_memory result).now ≡ (memory_of self.entry).now }
+        ensures stretch { stretch_in result ≡ slot_stretch (slot_in self.entry) }
+    {
+        let PartialElementMut {
+            memory,
+            word,
+            head,
+            tail,
+            order,
+        } = self;
+        BitWordsMut {
+            memory,
+            first: word,
+            count: 1,
+            head,
+            len: usize::from(tail - head),
+            order,
+        }
     }
 }
 

@@ -77,7 +77,7 @@ impl<'a, R: BitRegister, O> BitWords<'a, R, O> {
 }
 
 // The pointer to the bit `i` places after the bit `head` of a memory's first word.
-fn bit_pointer<R: BitRegister, O>(head: u8, i: usize) -> BitPtr<R, O>
+pub(super) fn bit_pointer<R: BitRegister, O>(head: u8, i: usize) -> BitPtr<R, O>
     requires head { head < R.BITS }
     requires short { i < region_max_bits }
     ensures place { index_of R.BITS (ptr_of result) ≡ head + i }

@@ -1,0 +1,107 @@
+//! Bits that lie one behind another in words borrowed for writing.
+
+ghost use Rattle.std.specs.Prelude.{◌≡◌, ℕ, ◌+◌, ◌-◌, ◌*◌, ◌<◌, ◌≤◌, ◌↔◌, IsTrue, Some, length, map, slice_get, slice_set};
+ghost use Rattle.bitvec_ptr.specs.Memory.{memory_bits};
+ghost use Rattle.bitvec_ptr.specs.Place.{words_met};
+ghost use Rattle.bitvec_domain.specs.Span.{region_max_bits};
+ghost use Rattle.bitvec_domain.specs.Words.{bits_list};
+ghost use Rattle.bitvec_domain.specs.WordsMut.{stretch_bits};
+
+use crate::domain::words::bit_pointer;
+use bitvec_mem::mem::BitRegister;
+use bitvec_order::index::BitIdx;
+use bitvec_order::order::BitOrder;
+use std::marker::PhantomData;
+
+/// Some bits that lie one behind another in words borrowed for writing: the words, the index of the
+/// first bit in the first of them, and how many bits there are.
+///
+/// It borrows the memory in which the words lie, and changes these bits alone. Our own, for the Rust
+/// crate's mutable bit slices.
+pub struct BitWordsMut<'a, R: BitRegister, O> {
+    pub(super) memory: &'a mut [R],
+    pub(super) first: usize,
+    pub(super) count: usize,
+    pub(super) head: u8,
+    pub(super) len: usize,
+    pub(super) order: PhantomData<O>,
+    pub ghost in_memory: { first + count ≤ length memory.now },
+    pub ghost head_in: { head ≤ R.BITS - 1 },
+    pub ghost short: { len ≤ region_max_bits },
+    pub ghost fits: { words_met R.BITS head len ≤ count },
+}
+
+impl<R: BitRegister, O> Drop for BitWordsMut<'_, R, O> {
+    fn drop(self)
+        ensures { self.exit.0.now ≡ self.entry.memory.now }
+    {
+        let BitWordsMut {
+            memory: _,
+            first: _,
+            count: _,
+            head: _,
+            len: _,
+            order: _,
+        } = self;
+    }
+}
+
+impl<'a, R: BitRegister, O> BitWordsMut<'a, R, O> {
+    ghost use Rattle.bitvec_domain.specs.WordsMutView.{words_memory, stretch_in};
+
+    /// How many bits there are.
+    pub fn len(&self) -> usize
+        ensures { result ≡ (stretch_in self.now).len }
+    {
+        self.len
+    }
+
+    /// Whether there are none.
+    pub fn is_empty(&self) -> bool
+        ensures { IsTrue result ↔ ((stretch_in self.now).len ≡ 0) }
+    {
+        self.len == 0
+    }
+
+    /// The words in which the bits lie, with what else stands in them.
+    pub fn words(&self) -> &[R]
+        ensures { map R.number result.now ≡ (stretch_bits (stretch_in self.now) (map R.number (words_memory self.now).now)).words }
+    {
+        &self.memory[self.first..self.first + self.count]
+    }
+
+    /// The index of the first bit in the first word.
+    pub fn head(&self) -> BitIdx<R>
+        ensures { result ≡ (stretch_in self.now).head }
+    {
+        BitIdx::new_unchecked(self.head)
+    }
+}
+
+impl<'a, R: BitRegister, O: BitOrder<R>> BitWordsMut<'a, R, O> {
+    ghost use Rattle.bitvec_domain.specs.WordsMutView.{words_memory, stretch_in};
+
+    /// The bit `i` places after the first.
+    pub fn read(&self, i: usize) -> bool
+        requires { i < (stretch_in self.now).len }
+        ensures { slice_get (bits_list R.BITS O.at_of (stretch_bits (stretch_in self.now) (map R.number (words_memory self.now).now))) i ≡ Some result }
+    {
+        bit_pointer::<R, O>(self.head, i).read(self.words())
+    }
+
+    /// Writes the bit `i` places after the first, and answers the bit before; no other bit of the
+    /// memory changes.
+    pub fn replace(&mut self, i: usize, bit: bool) -> bool
+        requires { i < (stretch_in self.old).len }
+        ensures reference { (words_memory self.new).ghost_name ≡ (words_memory self.old).ghost_name }
+        ensures stretch { stretch_in self.new ≡ stretch_in self.old }
+        ensures previous { slice_get (bits_list R.BITS O.at_of (stretch_bits (stretch_in self.old) (map R.number (words_memory self.old).now))) i ≡ Some result }
+        ensures bits { memory_bits R.BITS O.at_of (map R.number (words_memory self.new).now)
+            ≡ slice_set (memory_bits R.BITS O.at_of (map R.number (words_memory self.old).now))
+                ((stretch_in self.old).first * R.BITS + ((stretch_in self.old).head + i)) bit }
+        ensures words { length (words_memory self.new).now ≡ length (words_memory self.old).now }
+    {
+        let pointer = bit_pointer::<R, O>(self.head, i);
+        pointer.replace(&mut self.memory[self.first..self.first + self.count], bit)
+    }
+}
