@@ -35,11 +35,11 @@ pub edits_part : {X : Type 0} (bits : ℕ) (at : ℕ → ℕ) (slot : Slot) (aft
     → EditsPart bits at slot after (map number old) (map number new) answer
 edits_part bits at slot after number old new word was mask answer law within masked is put small small_answer digits kept = record {
   words =
-    ap (map number) put
-    ∙ map-set number old slot.word word
-    ∙ ap (slice_set (map number old) slot.word) (number_of-from_digits bits at _ (number word) law small (λ i h.
-    digits i h
-    ∙ ap (λ b. if b then after i else digit was (at i)) (digit-mask_at bits at slot.head slot.tail mask i law within masked h)
-    ∙ ap (λ w. if (nat_le slot.head i && nat_lt i slot.tail) then after i else digit w (at i)) is));
+      ap (map number) put
+      ∙ map-set number old slot.word word
+      ∙ ap (slice_set (map number old) slot.word) (number_of-from_digits bits at _ (number word) law small (λ i h.
+      digits i h
+      ∙ ap (λ b. if b then after i else digit was (at i)) (digit-mask_at bits at slot.head slot.tail mask i law within masked h)
+      ∙ ap (λ w. if (nat_le slot.head i && nat_lt i slot.tail) then after i else digit w (at i)) is));
   answered = value_of-from_mask bits at (slot_part slot (map number old)) was mask answer law within is masked small_answer kept;
 }

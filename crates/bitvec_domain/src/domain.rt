@@ -15,6 +15,8 @@ use std::iter::FusedIterator;
 use std::marker::PhantomData;
 
 mod edit;
+#[cfg(test)]
+mod tests;
 mod text;
 mod words;
 mod words_mut;
@@ -154,15 +156,17 @@ impl<'a, R: BitRegister, O> Domain<'a, R, O> {
     /// The head, the body and the tail, where the domain is not one part alone.
     pub fn region(
         self,
-    ) -> Option<(
-        Option<PartialElement<'a, R, O>>,
-        &'a [R],
-        Option<PartialElement<'a, R, O>>,
-    )>
+    ) -> Option<
+        (
+            Option<PartialElement<'a, R, O>>,
+            &'a [R],
+            Option<PartialElement<'a, R, O>>,
+        ),
+    >
         ensures { MatchOption result
             (is_enclave (domain_parts R.number self.entry) ≡ true)
             (λ parts. domain_parts R.number self.entry
-                ≡ region (optional_part R.number parts.0) (map R.number parts.1.now) (optional_part R.number parts.2)) }
+            ≡ region (optional_part R.number parts.0) (map R.number parts.1.now) (optional_part R.number parts.2)) }
     {
         match self {
             Domain::Enclave(_) => None,

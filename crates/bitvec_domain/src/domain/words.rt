@@ -85,7 +85,10 @@ pub(super) fn bit_pointer<R: BitRegister, O>(head: u8, i: usize) -> BitPtr<R, O>
 {
     let far = usize::from(head) + i;
     let width = usize::from(R::BITS);
-    BitPtr::new((far / width) as isize, BitIdx::new_unchecked((far % width) as u8))
+    BitPtr::new(
+        (far / width) as isize,
+        BitIdx::new_unchecked((far % width) as u8),
+    )
 }
 
 impl<'a, R: BitRegister, O: BitOrder<R>> BitWords<'a, R, O> {
@@ -226,7 +229,7 @@ impl<'a, R: BitRegister, O> BitDomain<'a, R, O> {
         ensures { MatchOption result
             (is_bit_enclave (bit_parts R.number self.entry) ≡ true)
             (λ parts. bit_parts R.number self.entry
-                ≡ bit_region (word_bits R.number parts.0) (word_bits R.number parts.1) (word_bits R.number parts.2)) }
+            ≡ bit_region (word_bits R.number parts.0) (word_bits R.number parts.1) (word_bits R.number parts.2)) }
     {
         match self {
             BitDomain::Enclave(_) => None,

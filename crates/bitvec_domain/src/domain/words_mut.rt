@@ -98,7 +98,7 @@ impl<'a, R: BitRegister, O: BitOrder<R>> BitWordsMut<'a, R, O> {
         ensures previous { slice_get (bits_list R.BITS O.at_of (stretch_bits (stretch_in self.old) (map R.number (words_memory self.old).now))) i ≡ Some result }
         ensures bits { memory_bits R.BITS O.at_of (map R.number (words_memory self.new).now)
             ≡ slice_set (memory_bits R.BITS O.at_of (map R.number (words_memory self.old).now))
-                ((stretch_in self.old).first * R.BITS + ((stretch_in self.old).head + i)) bit }
+            ((stretch_in self.old).first * R.BITS + ((stretch_in self.old).head + i)) bit }
         ensures words { length (words_memory self.new).now ≡ length (words_memory self.old).now }
     {
         let pointer = bit_pointer::<R, O>(self.head, i);
