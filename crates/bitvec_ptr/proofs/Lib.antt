@@ -1,4 +1,5 @@
 pub mod BitLemmas
+pub mod CopyLemmas
 pub mod MemoryLemmas
 pub mod PlaceLemmas
 pub mod PlaceOrder

@@ -1,6 +1,6 @@
 -- The bits of a memory. A memory is the list of its words' numbers, `bits` is the width of a word, and `at` takes an
 -- index in a word to its position in the number.
-use Rattle.std.specs.Prelude.{ℕ, ◌*◌, ◌/◌, ◌%◌, Bool, List, length, map, slice_index}
+use Rattle.std.specs.Prelude.{ℕ, ◌+◌, ◌*◌, ◌/◌, ◌%◌, ◌++◌, Bool, List, length, map, take, drop, slice_index}
 use Rattle.std.specs.List.{range_with_len}
 use Rattle.bitvec_mem.specs.Digit.{digit}
 
@@ -15,3 +15,7 @@ bit_of bits at words place = digit (slice_index words (place / bits)) (at (place
 -- all bits of a memory, by rising place
 abbrev pub memory_bits : ℕ → (ℕ → ℕ) → List ℕ → List Bool
 memory_bits bits at words = tabulate (length words * bits) (bit_of bits at words)
+
+-- the target with its elements t, t + 1, .., `count` of them, replaced by the source's elements s, s + 1, ..
+abbrev pub copied : {A : Type 0} (source : List A) (s : ℕ) (target : List A) (t count : ℕ) → List A
+copied source s target t count = take t target ++ take count (drop s source) ++ drop (t + count) target

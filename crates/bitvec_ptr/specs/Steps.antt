@@ -24,3 +24,11 @@ IsIn ptr words = (pos 0 ≤ℤ ptr.word) × (ptr.word <ℤ pos words)
 -- the words that `count` bits from a pointer on meet are among the first `words` of a memory
 abbrev pub RunsIn : ℕ → Ptr → ℕ → ℕ → Type 0
 RunsIn bits ptr words count = (pos 0 ≤ℤ ptr.word) × (nat_abs ptr.word + words_met bits ptr.bit count ≤ words)
+
+-- a place is one of the `count` places from a pointer on
+abbrev pub RunCovers : ℕ → Ptr → ℕ → ℤ → Type 0
+RunCovers bits ptr count place = (place_of bits ptr ≤ℤ place) × (place <ℤ (place_of bits ptr +ℤ pos count))
+
+-- the `count` places from one pointer on and those from another have none in common
+abbrev pub AreApart : ℕ → Ptr → Ptr → ℕ → Type 0
+AreApart bits ptr other count = (place : ℤ) → RunCovers bits ptr count place → RunCovers bits other count place → ⊥

@@ -178,3 +178,84 @@ fn reads_and_writes_one_bit(rt: HostRuntime) -> Result<(), Fail> {
     assert_eq!(rt; memory, [5, 0]);
     Ok(())
 }
+
+#[test]
+fn swaps_two_bits(rt: HostRuntime) -> Result<(), Fail> {
+    let mut memory = [2u8, 0];
+    let mut other = [0u16];
+    let (low, high) = (at::<u8>(1), at::<u8>(9));
+    assert!(rt; low.is_in(memory.len()) && high.is_in(memory.len()));
+    low.swap_within(&mut memory, high);
+    assert_eq!(rt; memory, [0, 2]);
+    let with: BitPtr<u16, Msb0> = BitPtr::new(0, BitIdx::new_unchecked(1));
+    assert!(rt; high.is_in(memory.len()) && with.is_in(other.len()));
+    high.swap(&mut memory, with, &mut other);
+    assert_eq!(rt; memory, [0, 0]);
+    assert_eq!(rt; other, [0x4000]);
+    Ok(())
+}
+
+#[test]
+fn copies_from_one_memory_to_another(rt: HostRuntime) -> Result<(), Fail> {
+    let source = [0x8001u16];
+    let mut target = [0u8; 2];
+    let first: BitPtr<u16, Msb0> = BitPtr::new(0, BitIdx::MIN);
+    let dest = at::<u8>(0);
+    assert!(rt; first.run_in(source.len(), 16) && dest.run_in(target.len(), 16));
+    first.copy_to(&source, dest, &mut target, 16);
+    assert_eq!(rt; target, [0x01, 0x80]);
+    let mut back = [0u16];
+    let third: BitPtr<u16, Msb0> = BitPtr::new(0, BitIdx::new_unchecked(2));
+    let from = at::<u8>(12);
+    assert!(rt; from.run_in(target.len(), 4) && third.run_in(back.len(), 4));
+    from.copy_to_nonoverlapping(&target, third, &mut back, 4);
+    assert_eq!(rt; back, [0x0400]);
+    Ok(())
+}
+
+#[test]
+fn copies_into_one_memory_from_another(rt: HostRuntime) -> Result<(), Fail> {
+    let mut memory = [0xFFu8, 0];
+    let source = [0x4000_0000u32];
+    let src: BitPtr<u32, Msb0> = BitPtr::new(0, BitIdx::MIN);
+    let third = at::<u8>(2);
+    assert!(rt; third.run_in(memory.len(), 3) && src.run_in(source.len(), 3));
+    third.copy_from(&mut memory, src, &source, 3);
+    assert_eq!(rt; memory, [0xEB, 0]);
+    let nibbles = [0x3Cu8];
+    let (seventh, from) = (at::<u8>(6), at::<u8>(2));
+    assert!(rt; seventh.run_in(memory.len(), 4) && from.run_in(nibbles.len(), 4));
+    seventh.copy_from_nonoverlapping(&mut memory, from, &nibbles, 4);
+    assert_eq!(rt; memory, [0xEB, 0x03]);
+    Ok(())
+}
+
+#[test]
+fn copies_inside_one_memory(rt: HostRuntime) -> Result<(), Fail> {
+    let mut memory = [0x0Du8];
+    let (first, third) = (at::<u8>(0), at::<u8>(2));
+    assert!(rt; first.run_in(memory.len(), 6) && third.run_in(memory.len(), 6));
+    first.copy_within(&mut memory, third, 6);
+    assert_eq!(rt; memory, [0x35]);
+    assert!(rt; first.run_in(memory.len(), 6) && third.run_in(memory.len(), 6));
+    first.copy_from_within(&mut memory, third, 6);
+    assert_eq!(rt; memory, [0x0D]);
+    let mut nibbles = [0x12u8, 0x34, 0x56];
+    let start: BitPtr<u8, Msb0> = BitPtr::new(0, BitIdx::MIN);
+    let second: BitPtr<u8, Msb0> = BitPtr::new(0, BitIdx::new_unchecked(4));
+    assert!(rt; start.run_in(nibbles.len(), 16) && second.run_in(nibbles.len(), 16));
+    second.copy_within(&mut nibbles, start, 16);
+    assert_eq!(rt; nibbles, [0x23, 0x45, 0x56]);
+    Ok(())
+}
+
+#[test]
+fn copies_between_runs_apart(rt: HostRuntime) -> Result<(), Fail> {
+    let mut memory = [0x0Fu8, 0];
+    let from: BitPtr<u8, Lsb0> = BitPtr::new(0, BitIdx::new_unchecked(2));
+    let dest: BitPtr<u8, Lsb0> = BitPtr::new(1, BitIdx::new_unchecked(1));
+    assert!(rt; from.run_in(memory.len(), 4) && dest.run_in(memory.len(), 4));
+    from.copy_within_nonoverlapping(&mut memory, dest, 4);
+    assert_eq!(rt; memory, [0x0F, 0x06]);
+    Ok(())
+}

@@ -1,10 +1,10 @@
 //! Pointers to single bits: a word of a memory and the index of a bit in it.
 
-ghost use Rattle.std.specs.Prelude.{◌≡◌, ⊤, ℕ, ℤ, pos, neg_ℤ, ◌+◌, ◌-◌, ◌/◌, ◌==◌, if◌then◌else◌, Some, length, map, slice_get, slice_set, ◌<◌, ◌≤◌, ◌+ℤ◌, ◌≤ℤ◌, ◌↔◌, IsTrue, FitsSigned};
+ghost use Rattle.std.specs.Prelude.{◌≡◌, ⊤, ℕ, ℤ, pos, neg_ℤ, ◌+◌, ◌-◌, ◌/◌, ◌==◌, if◌then◌else◌, Some, length, map, slice_get, slice_set, swap, ◌<◌, ◌≤◌, ◌+ℤ◌, ◌≤ℤ◌, ◌↔◌, IsTrue, FitsSigned};
 ghost use Rattle.std.specs.Int.{w64, int_wrap, int_div_euclid, int_rem_euclid};
 ghost use Rattle.std.proofs.Common.{zero-le};
 ghost use Rattle.bitvec_ptr.specs.Place.{place_of, index_of, words_met};
-ghost use Rattle.bitvec_ptr.specs.Memory.{memory_bits};
+ghost use Rattle.bitvec_ptr.specs.Memory.{bit_of, memory_bits};
 ghost use Rattle.bitvec_mem.specs.Digit.{digit};
 ghost use Rattle.bitvec_ptr.specs.Steps.{CanOffset, wrapped, distance, IsIn, RunsIn};
 
@@ -287,14 +287,14 @@ impl<R: BitRegister, O> BitPtr<R, O> {
 }
 
 // The bit of a word at an index.
-fn bit_at<R: BitRegister, O: BitOrder<R>>(word: R, index: BitIdx<R>) -> bool
+pub(crate) fn bit_at<R: BitRegister, O: BitOrder<R>>(word: R, index: BitIdx<R>) -> bool
     ensures { result ≡ digit (R.number word) (O.at_of index) }
 {
     BitMask::new(word).test(index.select::<O>())
 }
 
 // A word with another bit at an index.
-fn with_bit<R: BitRegister, O: BitOrder<R>>(word: R, index: BitIdx<R>, bit: bool) -> R
+pub(crate) fn with_bit<R: BitRegister, O: BitOrder<R>>(word: R, index: BitIdx<R>, bit: bool) -> R
     ensures { (j : ℕ) → j < R.BITS
         → digit (R.number result) (O.at_of j) ≡ (if j == index then bit else digit (R.number word) (O.at_of j)) }
 {
@@ -340,6 +340,45 @@ impl<R: BitRegister, O: BitOrder<R>> BitPtr<R, O> {
         let previous = self.read(memory);
         self.write(memory, bit);
         previous
+    }
+
+    /// Exchanges the pointer's bit in `memory` with the bit of `with` in `other`, and changes no other
+    /// bit: [`is_in`](BitPtr::is_in) is the test of each. As in the Rust crate, but for two memories
+    /// that are handed in.
+    pub fn swap<R2: BitRegister, O2: BitOrder<R2>>(
+        self,
+        memory: &mut [R],
+        with: BitPtr<R2, O2>,
+        other: &mut [R2],
+    )
+        requires self_in { IsIn (ptr_of self) (length memory.old) }
+        requires with_in { IsIn (ptr_of with) (length other.old) }
+        ensures bits { memory_bits R.BITS O.at_of (map R.number memory.new)
+            ≡ slice_set (memory_bits R.BITS O.at_of (map R.number memory.old)) (index_of R.BITS (ptr_of self))
+            (bit_of R2.BITS O2.at_of (map R2.number other.old) (index_of R2.BITS (ptr_of with))) }
+        ensures other_bits { memory_bits R2.BITS O2.at_of (map R2.number other.new)
+            ≡ slice_set (memory_bits R2.BITS O2.at_of (map R2.number other.old)) (index_of R2.BITS (ptr_of with))
+            (bit_of R.BITS O.at_of (map R.number memory.old) (index_of R.BITS (ptr_of self))) }
+        ensures words { length memory.new ≡ length memory.old }
+        ensures other_words { length other.new ≡ length other.old }
+    {
+        let theirs = with.read(other);
+        let ours = self.replace(memory, theirs);
+        with.write(other, ours);
+    }
+
+    /// Exchanges two bits of one memory, and changes no other bit: [`is_in`](BitPtr::is_in) is the test
+    /// of each. Our own, for the Rust crate's `swap` where both pointers are into one memory.
+    pub fn swap_within(self, memory: &mut [R], with: Self)
+        requires self_in { IsIn (ptr_of self) (length memory.old) }
+        requires with_in { IsIn (ptr_of with) (length memory.old) }
+        ensures bits { memory_bits R.BITS O.at_of (map R.number memory.new)
+            ≡ swap (memory_bits R.BITS O.at_of (map R.number memory.old)) (index_of R.BITS (ptr_of self)) (index_of R.BITS (ptr_of with)) }
+        ensures words { length memory.new ≡ length memory.old }
+    {
+        let theirs = with.read(memory);
+        let ours = self.replace(memory, theirs);
+        with.write(memory, ours);
     }
 }
 
