@@ -1,6 +1,8 @@
 pub mod DisjointLemmas
 pub mod EditLemmas
 pub mod ItemLemmas
+pub mod LentSlices
+pub mod LoanEnds
 pub mod PartLemmas
 pub mod SameSpans
 pub mod SliceLemmas

@@ -4,6 +4,8 @@ pub mod DomainView
 pub mod Edit
 pub mod EditView
 pub mod ItemText
+pub mod Lending
+pub mod Pieces
 pub mod Refusals
 pub mod Span
 pub mod SpanLemmas
