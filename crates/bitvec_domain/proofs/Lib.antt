@@ -3,6 +3,7 @@ pub mod EditLemmas
 pub mod ItemLemmas
 pub mod LentSlices
 pub mod LoanEnds
+pub mod LoanLemmas
 pub mod PartLemmas
 pub mod SameSpans
 pub mod SliceLemmas

@@ -15,9 +15,11 @@ use std::iter::FusedIterator;
 use std::marker::PhantomData;
 
 mod edit;
+mod lent;
 mod text;
 
 pub use self::edit::PartialElementMut;
+pub use self::lent::DomainMut;
 
 /// Some bits of one word: those with indices from a head to before a tail.
 pub struct PartialElement<'a, R: BitRegister, O> {
