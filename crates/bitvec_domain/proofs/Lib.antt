@@ -3,6 +3,9 @@ pub mod DisjointLemmas
 pub mod EditLemmas
 pub mod ItemLemmas
 pub mod JoinLemmas
+pub mod LentSlices
+pub mod LoanEnds
+pub mod LoanLemmas
 pub mod PartLemmas
 pub mod SameSpans
 pub mod SliceLemmas

@@ -15,6 +15,10 @@ pub record Slot : Type 0 where
 abbrev pub slot_part : Slot → List ℕ → Part
 slot_part slot words = record { word = slice_index words slot.word; head = slot.head; tail = slot.tail }
 
+-- where the part of the k-th word that a span meets lies in a memory that has this word at an index
+abbrev pub slot_at : ℕ → Span → ℕ → ℕ → Slot
+slot_at bits span k word = record { word = word; head = part_head span.head k; tail = part_tail bits span.head span.len k }
+
 -- where the part of the k-th word lies that a span meets
 abbrev pub slot_of : ℕ → Span → ℕ → Slot
 slot_of bits span k = record { word = nat_abs span.word + k; head = part_head span.head k; tail = part_tail bits span.head span.len k }

@@ -4,6 +4,10 @@ pub mod DomainView
 pub mod Edit
 pub mod EditView
 pub mod ItemText
+pub mod Lending
+pub mod Loans
+pub mod LoansView
+pub mod Pieces
 pub mod Refusals
 pub mod Span
 pub mod SpanLemmas

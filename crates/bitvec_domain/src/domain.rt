@@ -15,6 +15,7 @@ use std::iter::FusedIterator;
 use std::marker::PhantomData;
 
 mod edit;
+mod lent;
 #[cfg(test)]
 mod tests;
 mod text;
@@ -22,6 +23,7 @@ mod words;
 mod words_mut;
 
 pub use self::edit::PartialElementMut;
+pub use self::lent::DomainMut;
 pub use self::words::{BitDomain, BitWords};
 pub use self::words_mut::BitWordsMut;
 

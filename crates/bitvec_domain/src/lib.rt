@@ -2,6 +2,7 @@
 #![tactic(auto)]
 
 pub mod domain;
+mod lend;
 pub mod ptr;
 #[cfg(test)]
 mod tests;

@@ -6,7 +6,7 @@ ghost use Rattle.bitvec_order.specs.Order.{IsMaskOf};
 ghost use Rattle.bitvec_ptr.specs.Place.{words_met};
 ghost use Rattle.bitvec_domain.specs.Span.{Fits};
 ghost use Rattle.bitvec_domain.specs.Domain.{value_of};
-ghost use Rattle.bitvec_domain.specs.Edit.{slot_part, slot_of, EditsPart};
+ghost use Rattle.bitvec_domain.specs.Edit.{slot_part, slot_at, slot_of, EditsPart};
 ghost use Rattle.bitvec_domain.specs.WordsMut.{slot_stretch};
 
 use crate::domain::BitWordsMut;
@@ -57,6 +57,21 @@ fn stored<R: BitRegister>(old: R, mask: R, value: R) -> R
 
 impl<'a, R: BitRegister, O> PartialElementMut<'a, R, O> {
     ghost use Rattle.bitvec_domain.specs.EditView.{memory_of, slot_in};
+
+    /// The memory that it borrows, as the edits left it. Our own.
+    pub fn into_memory(self) -> &'a mut [R]
+        ensures reference { result.ghost_name ≡ (memory_of self.entry).ghost_name }
+        ensures memory { result.now ≡ (memory_of self.entry).now }
+    {
+        let PartialElementMut {
+            memory,
+            word: _,
+            head: _,
+            tail: _,
+            order: _,
+        } = self;
+        memory
+    }
 
     // The word in which the bits lie.
     fn word(&self) -> R
@@ -216,6 +231,17 @@ impl<R: BitRegister, O> BitSpan<R, O> {
         ensures slot { slot_in result ≡ slot_of R.BITS (span_of self) k }
     {
         let word = self.address() as usize + k;
+        self.part_at(memory, word, k)
+    }
+
+    // The part of the `k`-th word that the span meets, as that of the word `word` of a memory.
+    pub(crate) fn part_at<'a>(self, memory: &'a mut [R], word: usize, k: usize) -> PartialElementMut<'a, R, O>
+        requires word { word < length memory.old }
+        requires met { k < words_met R.BITS (span_of self).head (span_of self).len }
+        ensures reference { (memory_of result).ghost_name ≡ memory.entry.ghost_name }
+        ensures memory { (memory_of result).now ≡ memory.old }
+        ensures slot { slot_in result ≡ slot_at R.BITS (span_of self) k word }
+    {
         let head = if k == 0 { self.head() } else { BitIdx::MIN };
         let tail = if k + 1 == self.elements() {
             self.tail()

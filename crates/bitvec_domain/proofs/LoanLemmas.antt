@@ -1,0 +1,169 @@
+-- The loans of a span's parts, and the parts in them.
+use Rattle.std.proofs.Common.{◌≡◌, ℕ, suc, ◌+◌, ◌-◌, ◌<◌, ◌≤◌, ◌==◌, Bool, true, false, not, ◌&&◌, if◌then◌else◌, List, [], ◌∷◌, length, map, take, drop, refl, sym, ap, subst, ◌∙◌, arith}
+use Rattle.std.proofs.lemmas.List.{take-map, drop-map, get_or-take, get_or-drop, length-take-le, length-drop}
+use Rattle.std.proofs.lemmas.Bool.{eqb-true, eqb-false}
+use Rattle.std.specs.Prelude.{nat_abs, slice_index, slice_range, T, Option, Some, None, is_some, IfSome}
+use Rattle.std.specs.Borrow.{MutBor}
+use Rattle.bitvec_ptr.specs.Place.{words_met, tail_of}
+use Rattle.bitvec_ptr.proofs.PlaceLemmas.{words_met-none, words_met-some}
+use Rattle.bitvec_domain.specs.Span.{Span}
+use Rattle.bitvec_domain.proofs.PartLemmas.{part_same}
+use Rattle.bitvec_domain.proofs.SliceLemmas.{map-slice}
+use Rattle.bitvec_domain.specs.Domain.{Part, Parts, enclave, region, part_of, parts_of}
+use Rattle.bitvec_domain.specs.Edit.{Slot, slot_part, slot_at}
+use Rattle.bitvec_domain.specs.EditView.{slot_in, memory_of}
+use Rattle.bitvec_domain.specs.Loans.{is_inside, has_head, has_tail, words_before, body_words, slots_of, lists_of}
+use Rattle.bitvec_domain.specs.LoansView.{loan_slots, loan_words, lent_parts}
+use Rattle.bitvec_domain.specs.Lending.{name_of}
+use Rattle.bitvec_domain.specs.Pieces.{piece_list}
+use Rattle.bitvec_domain.specs.declared.domain.edit.PartialElementMut.{PartialElementMut}
+use Rattle.bitvec_domain.specs.declared.domain.lent.DomainMut.{DomainMut}
+use Rattle.bitvec_domain.specs.declared.domain.lent.DomainMut.TheVariants.{Enclave, Region}
+
+-- the part at a slot of some words, if there is one
+abbrev pub slot_part_if : Option Slot → List ℕ → Option Part
+slot_part_if (Some slot) words = Some (slot_part slot words)
+slot_part_if None words = None
+
+-- the parts that lie in loans, by where they lie and by the words behind the loans
+abbrev pub parts_from : {R : Type 0} → (R → ℕ) → Option Slot × Bool × Option Slot → List R × List R × List R → Parts
+parts_from number (h, true, t) words = region (slot_part_if h (map number words.0)) (map number words.1) (slot_part_if t (map number words.2))
+parts_from number (Some slot, false, t) words = enclave (slot_part slot (map number words.0))
+parts_from number (None, false, t) words = region None [] None
+
+pub lent_parts-from : {R O : Type 0} {a b c d e f g : _} (number : R → ℕ) (domain : DomainMut R O a b c d e f g) → lent_parts number domain ≡ parts_from number (loan_slots domain) (loan_words domain)
+lent_parts-from number (Enclave part) = refl
+lent_parts-from number (Region (Some head) body (Some tail)) = refl
+lent_parts-from number (Region (Some head) body None) = refl
+lent_parts-from number (Region None body (Some tail)) = refl
+lent_parts-from number (Region None body None) = refl
+
+-- what holds of each row of the table of a span's parts, holds
+rows : (empty begins ends one : Bool) (P : Bool → Bool → Bool → Bool → Type 0) → (empty ≡ true → P true begins ends one) → (empty ≡ false → P false true true one) → (empty ≡ false → P false false true one) → (empty ≡ false → P false true false one) → (empty ≡ false → one ≡ true → P false false false true) → (empty ≡ false → one ≡ false → P false false false false) → P empty begins ends one
+rows true begins ends one P p0 p1 p2 p3 p4 p5 = p0 refl
+rows false true true one P p0 p1 p2 p3 p4 p5 = p1 refl
+rows false false true one P p0 p1 p2 p3 p4 p5 = p2 refl
+rows false true false one P p0 p1 p2 p3 p4 p5 = p3 refl
+rows false false false true P p0 p1 p2 p3 p4 p5 = p4 refl refl
+rows false false false false P p0 p1 p2 p3 p4 p5 = p5 refl refl
+
+-- the tests of `is_inside`, `has_head` and `has_tail`, by the rows' tests
+abbrev inside : Bool → Bool → Bool → Bool → Bool
+inside empty begins ends one = not empty && not begins && not ends && one
+
+abbrev heads : Bool → Bool → Bool
+heads empty begins = not empty && not begins
+
+abbrev tails : Bool → Bool → Bool → Bool → Bool
+tails empty begins ends one = not empty && not ends && not (inside empty begins ends one)
+
+false_true : false ≡ true → ⊥
+false_true e = subst T (sym e) tt
+
+true_false : true ≡ false → ⊥
+true_false e = false_true (sym e)
+
+module _ (bits : ℕ) (span : Span) where
+  abbrev first : ℕ
+  first = nat_abs span.word
+
+  abbrev met : ℕ
+  met = words_met bits span.head span.len
+
+  some_met : (span.len == 0) ≡ false → 0 < words_met bits span.head span.len
+  some_met some = let differ = eqb-false span.len 0 some in let is = words_met-some bits span.head span.len (omega arith) in omega arith
+
+  abbrev by_rows : (P : Bool → Bool → Bool → Bool → Type 0) → ((span.len == 0) ≡ true → P true (span.head == 0) (tail_of bits span.head span.len == bits) (words_met bits span.head span.len == 1)) → ((span.len == 0) ≡ false → P false true true (words_met bits span.head span.len == 1)) → ((span.len == 0) ≡ false → P false false true (words_met bits span.head span.len == 1)) → ((span.len == 0) ≡ false → P false true false (words_met bits span.head span.len == 1)) → ((span.len == 0) ≡ false → (words_met bits span.head span.len == 1) ≡ true → P false false false true) → ((span.len == 0) ≡ false → (words_met bits span.head span.len == 1) ≡ false → P false false false false) → P (span.len == 0) (span.head == 0) (tail_of bits span.head span.len == bits) (words_met bits span.head span.len == 1)
+  by_rows = rows (span.len == 0) (span.head == 0) (tail_of bits span.head span.len == bits) (words_met bits span.head span.len == 1)
+
+  -- the words before the body and those of it are no more than the span meets
+  pub loans-within : words_before span + body_words bits span ≤ nat_abs span.word + words_met bits span.head span.len
+  loans-within =
+      by_rows (λ e b f o. first + (if heads e b then 1 else 0) + (met - (if heads e b then 1 else 0) - (if tails e b f o then 1 else 0)) ≤ first + met)
+      (λ e. omega arith) (λ e. omega arith) (λ e. let more = some_met e in omega arith) (λ e. let more = some_met e in omega arith) (λ e o. let more = some_met e in omega arith)
+      (λ e o. let more = some_met e in omega arith)
+
+  -- a part before the body is in the last word before it
+  pub head-within : {X : Type 0} (memory : List X) → nat_abs span.word + words_met bits span.head span.len ≤ length memory → has_head span ≡ true
+      → (nat_abs span.word < length (take (words_before span) memory)) × (0 < words_met bits span.head span.len)
+  head-within memory fits =
+      by_rows (λ e b f o. heads e b ≡ true → (first < length (take (first + (if heads e b then 1 else 0)) memory)) × (0 < met))
+      (λ e t. absurd (false_true t)) (λ e t. absurd (false_true t)) (λ e t. here e) (λ e t. absurd (false_true t)) (λ e o t. here e) (λ e o t. here e)
+    where
+      here : (span.len == 0) ≡ false → (first < length (take (first + 1) memory)) × (0 < met)
+      here e = let more = some_met e in (let long = length-take-le (first + 1) memory (omega arith) in omega arith, more)
+
+  -- a part behind the body is in the word after it
+  pub tail-within : {X : Type 0} (memory : List X) → nat_abs span.word + words_met bits span.head span.len ≤ length memory → has_tail bits span ≡ true
+      → (0 < length (drop (body_words bits span) (drop (words_before span) memory))) × (0 < words_met bits span.head span.len)
+  tail-within memory fits =
+      by_rows (λ e b f o. tails e b f o ≡ true → (0 < length (drop (met - (if heads e b then 1 else 0) - (if tails e b f o then 1 else 0)) (drop (first + (if heads e b then 1 else 0)) memory))) × (0 < met))
+      (λ e t. absurd (false_true t)) (λ e t. absurd (false_true t)) (λ e t. absurd (false_true t)) (λ e t. let more = some_met e in (there (met - 0 - 1) (first + 0) (omega arith), more)) (λ e o t. absurd (false_true t))
+      (λ e o t. let more = some_met e in let differ = eqb-false met 1 o in (there (met - 1 - 1) (first + 1) (omega arith), more))
+    where
+      there : (n i : ℕ) → i + n < first + met → 0 < length (drop n (drop i memory))
+      there n i h = let p = length-drop n (drop i memory) in let q = length-drop i memory in omega arith
+
+  -- with no body there is one part, which is lent as a head
+  pub inside-alone : not (is_inside bits span) ≡ false → (has_head span ≡ true) × (has_tail bits span ≡ false)
+  inside-alone =
+      by_rows (λ e b f o. not (inside e b f o) ≡ false → (heads e b ≡ true) × (tails e b f o ≡ false))
+      (λ e t. absurd (true_false t)) (λ e t. absurd (true_false t)) (λ e t. absurd (true_false t)) (λ e t. absurd (true_false t)) (λ e o t. (refl, refl)) (λ e o t. absurd (true_false t))
+
+  module _ {R : Type 0} (number : R → ℕ) (memory : List R) where
+    head-is : slot_part (slot_at bits span 0 (nat_abs span.word)) (map number (take (nat_abs span.word + 1) memory)) ≡ part_of bits span (map number memory) 0
+    head-is = part_same _ _ _ _ _ _
+        (ap (λ l. slice_index l first) (sym (take-map number (first + 1) memory))
+        ∙ get_or-take (first + 1) (map number memory) first 0 (omega arith)
+        ∙ ap (slice_index (map number memory)) (let same : first ≡ first + 0 = omega arith in same)) refl refl
+
+    tail-is : (i n : ℕ) → i + n ≡ nat_abs span.word + (words_met bits span.head span.len - 1)
+        → slot_part (slot_at bits span (words_met bits span.head span.len - 1) 0) (map number (drop n (drop i memory))) ≡ part_of bits span (map number memory) (words_met bits span.head span.len - 1)
+    tail-is i n e = part_same _ _ _ _ _ _
+        (ap (λ l. slice_index l 0) (sym (drop-map number n (drop i memory)) ∙ ap (drop n) (sym (drop-map number i memory)))
+        ∙ get_or-drop n (drop i (map number memory)) 0 0
+        ∙ get_or-drop i (map number memory) (n + 0) 0
+        ∙ ap (slice_index (map number memory)) (let same : i + (n + 0) ≡ first + (met - 1) = omega arith in same)) refl refl
+
+    body-is : (i n from upto : ℕ) → i ≡ from → n ≡ upto - from → map number (take n (drop i memory)) ≡ slice_range (map number memory) from upto
+    body-is i n from upto e h = ap (λ k. map number (take k (drop i memory))) h ∙ ap (λ k. map number (take (upto - from) (drop k memory))) e ∙ map-slice number memory from upto
+
+    -- the parts in the loans are the span's
+    parts-from-loans : parts_from number (slots_of bits span) (lists_of bits span memory) ≡ parts_of bits span (map number memory)
+    parts-from-loans =
+        by_rows (λ e b f o. let i = first + (if heads e b then 1 else 0) in let n = met - (if heads e b then 1 else 0) - (if tails e b f o then 1 else 0) in
+        parts_from number
+        ((if heads e b then Some (slot_at bits span 0 first) else None), not (inside e b f o), (if tails e b f o then Some (slot_at bits span (met - 1) 0) else None))
+        ((if heads e b then take i memory else []), (if inside e b f o then [] else take n (drop i memory)), (if tails e b f o then drop n (drop i memory) else []))
+        ≡ (if e then region None [] None
+        else if b && f then region None (slice_range (map number memory) first (first + met)) None
+        else if f then region (Some (part_of bits span (map number memory) 0)) (slice_range (map number memory) (first + 1) (first + met)) None
+        else if b then region None (slice_range (map number memory) first (first + met - 1)) (Some (part_of bits span (map number memory) (met - 1)))
+        else if o then enclave (part_of bits span (map number memory) 0)
+        else region (Some (part_of bits span (map number memory) 0)) (slice_range (map number memory) (first + 1) (first + met - 1)) (Some (part_of bits span (map number memory) (met - 1)))))
+        (λ e. let none = words_met-none bits span.head span.len (eqb-true span.len 0 e) in
+        ap (λ k. region None (map number (take k (drop (first + 0) memory))) None) (let same : met - 0 - 0 ≡ 0 = omega arith in same))
+        (λ e. ap (λ l. region None l None) (body-is (first + 0) (met - 0 - 0) first (first + met) (omega arith) (omega arith)))
+        (λ e. let more = some_met e in λ k. region (Some (head-is k)) (body-is (first + 1) (met - 1 - 0) (first + 1) (first + met) (omega arith) (omega arith) k) None)
+        (λ e. let more = some_met e in λ k. region None (body-is (first + 0) (met - 0 - 1) first (first + met - 1) (omega arith) (omega arith) k) (Some (tail-is (first + 0) (met - 0 - 1) (omega arith) k)))
+        (λ e o. ap enclave head-is)
+        (λ e o. let more = some_met e in let differ = eqb-false met 1 o in
+        λ k. region (Some (head-is k)) (body-is (first + 1) (met - 1 - 1) (first + 1) (first + met - 1) (omega arith) (omega arith) k) (Some (tail-is (first + 1) (met - 1 - 1) (omega arith) k)))
+
+    pub lent_parts-of : {O : Type 0} {a b c d e f g : _} (domain : DomainMut R O a b c d e f g) → loan_slots domain ≡ slots_of bits span → loan_words domain ≡ lists_of bits span memory
+        → lent_parts number domain ≡ parts_of bits span (map number memory)
+    lent_parts-of domain slots words = lent_parts-from number domain ∙ (λ k. parts_from number (slots k) (words k)) ∙ parts-from-loans
+
+-- what is asked of the list behind a loan, if there is one, where there is to be one
+pub loan_has : {X : Type 0} (F : Option (MutBor (List X))) (b : Bool) (v : List X) (Q : List X → Type 0) → is_some F ≡ b → IfSome F (λ (r : MutBor (List X)). r.now ≡ v) → (b ≡ true → Q v) → IfSome F (λ (r : MutBor (List X)). Q r.now)
+loan_has (Some r) b v Q is e k = subst Q (sym e) (k (sym is))
+loan_has None b v Q is e k = tt
+
+-- the list behind a loan, by whether there is to be one
+pub listed_if : {X : Type 0} (F : Option (MutBor (List X))) (b : Bool) (v : List X) → is_some F ≡ b → IfSome F (λ (r : MutBor (List X)). r.now ≡ v) → piece_list F ≡ (if b then v else [])
+listed_if {X} (Some r) b v is e = subst (λ (q : Bool). r.now ≡ (if q then v else [])) is e
+listed_if {X} None b v is e = subst (λ (q : Bool). ◌≡◌ {A = List X} [] (if q then v else [])) is refl
+
+pub listed_unless : {X : Type 0} (F : Option (MutBor (List X))) (b : Bool) (v : List X) → is_some F ≡ not b → IfSome F (λ (r : MutBor (List X)). r.now ≡ v) → piece_list F ≡ (if b then [] else v)
+listed_unless F true v is e = listed_if F false v is e
+listed_unless F false v is e = listed_if F true v is e

@@ -1,0 +1,194 @@
+-- `domain_mut` computes where the span's parts lie, and makes a domain of the pieces that `pieces_mut` lends. Assumes `Logic`.
+use Rattle.std.proofs.Common.{◌≡◌, ℕ, ◌+◌, ◌-◌, ◌^◌, ◌<◌, ◌≤◌, pos, ◌≤ℤ◌, List, [], ◌∷◌, ◌++◌, Bool, true, false, not, if◌then◌else◌, refl, sym, ap, ◌∙◌, subst, arith, length, map, take, drop as drop_l, MutBor}
+use Rattle.std.specs.Prelude.{nat_abs, Option, Some, None, is_some, IfSome}
+use Rattle.std.proofs.raw_atomic.Walks.{proved, leaves}
+use mir.Syntax.{dcons, dnil, a_type, named, w64}
+use mir.Val.{Val}
+use mir.MapTy.{inst_fn}
+use base.Logic.{SProp, emp, id⊢}
+use base.Fml.{Lft, Fml, GName, ftrue, fsep, flft}
+use types.Kit.{‵, raw, ◌⊛◌, some, later, ◌$◌, ◌∵◌, !, qed, by, move, keep, drop, split, join, fsplit, fjoin, pick, use0, use1, await, rewrite}
+use types.Run.{stop, fld, hop, addr, from, of_opd, no_more, and_then, returns, enter}
+use types.ByLocal.{alloc_all, pass_all, free_all, look_at, get, get_in, sets, lands_as, look_in_at}
+use types.Part.{agg, sub, whole}
+use contract.Running.{tables}
+use contract.Monad.{fact, fact_i}
+use contract.BorrowLft.{◌⊑◌}
+use contract.Lifetimes.{Lfts, Shares}
+use denote.Exit.{yes, no}
+use denote.Laws.{Is, shows}
+use denote.RattleType.{RattleType, owns}
+use denote.Signature.{types_at, plain, mut_slice_of, named_lft}
+use denote.Steps.{nothing, heard, owned, peeks}
+use denote.Param.{param, copied, bounded}
+use denote.Param.Laws.{param_laws, copied_laws}
+use denote.Builtin.{usize, bool}
+use denote.Plain.{uint_Lawful, bool_Lawful}
+use denote.Slice.{MutSlice, slice_val, mut_slice_vals, mut_slice_Tells}
+use denote.Struct.Laws.{makes}
+use denote.Triple.Spec.{triple_of}
+use denote.Triple.Clauses.{Lasts, lasts}
+use denote.Triple.Call.{calls_at}
+use denote.Triple.Table.{framed}
+use denote.Triple.Walked.{Stays, stay_dropped, walk_of, Goes-dropped, Goes-spent_slice}
+use Rattle.bitvec_ptr.specs.Place.{words_met}
+use Rattle.bitvec_domain.specs.Span.{Span, Fits}
+use Rattle.bitvec_domain.specs.BitSpan.{span_of}
+use Rattle.bitvec_domain.specs.Domain.{parts_of}
+use Rattle.bitvec_domain.specs.Edit.{Slot, slot_at}
+use Rattle.bitvec_domain.specs.Lending.{LendsNamed, name_of}
+use Rattle.bitvec_domain.specs.Pieces.{names_of, piece_lists}
+use Rattle.bitvec_domain.specs.Loans.{is_inside, has_head, has_tail, words_before, body_words, slots_of, lists_of}
+use Rattle.bitvec_domain.specs.LoansView.{loan_names, loan_words, loan_slots, lent_parts}
+use Rattle.bitvec_domain.proofs.LoanLemmas.{loans-within, head-within, tail-within, inside-alone, lent_parts-of, loan_has, listed_if, listed_unless}
+use Rattle.bitvec_domain.specs.contracts.ptr.span.BitSpan as S
+use Rattle.bitvec_domain.proofs.ptr.span.BitSpan.TheLaws.{the_told as span_told, the_row_laws as span_laws, the_plain as span_plain}
+use Rattle.bitvec_domain.specs.contracts.lend.Pieces as P
+use Rattle.bitvec_domain.proofs.lend.Pieces.TheLaws.{the_row_laws as pieces_laws}
+use Rattle.bitvec_domain.specs.contracts.domain.lent.DomainMut as D
+use Rattle.bitvec_domain.proofs.domain.lent.DomainMut.TheLaws.{the_row_laws as domain_laws}
+use Rattle.bitvec_domain.specs.contracts.ptr.span.BitSpan.domain_mut as f
+use Rattle.bitvec_domain.specs.contracts.ptr.span.BitSpan.domain_mut.Key.{name as #self}
+use Rattle.bitvec_domain.proofs.ptr.span.BitSpan.domain_mut.Statement.{statement}
+use Rattle.bitvec_domain.proofs.ptr.span.BitSpan.domain_mut.Code as code
+use Rattle.bitvec_domain.specs.contracts.ptr.span.BitSpan.words_before as n1
+use Rattle.bitvec_domain.proofs.ptr.span.BitSpan.words_before.Met.{met as met_n1}
+use Rattle.bitvec_domain.specs.contracts.ptr.span.BitSpan.body_words as n2
+use Rattle.bitvec_domain.proofs.ptr.span.BitSpan.body_words.Met.{met as met_n2}
+use Rattle.bitvec_domain.specs.contracts.ptr.span.BitSpan.has_head as n3
+use Rattle.bitvec_domain.proofs.ptr.span.BitSpan.has_head.Met.{met as met_n3}
+use Rattle.bitvec_domain.specs.contracts.ptr.span.BitSpan.has_body as n4
+use Rattle.bitvec_domain.proofs.ptr.span.BitSpan.has_body.Met.{met as met_n4}
+use Rattle.bitvec_domain.specs.contracts.ptr.span.BitSpan.has_tail as n5
+use Rattle.bitvec_domain.proofs.ptr.span.BitSpan.has_tail.Met.{met as met_n5}
+use Rattle.bitvec_domain.specs.contracts.lend.pieces_mut as g
+use Rattle.bitvec_domain.proofs.lend.pieces_mut.Met.{met}
+use Rattle.bitvec_domain.specs.contracts.ptr.span.BitSpan.assemble as h
+use Rattle.bitvec_domain.proofs.ptr.span.BitSpan.assemble.Met.{met as met_h}
+
+pub domain_mut_spec : {M : Type 1} → statement M
+domain_mut_spec 𝓤 𝓛 𝓜 𝓡 wired X O L LO copy rb rbd rc rcd rd rdd re red rp rpd ro rod rq rqd rh rhd rg rgd m1 m2 m3 m4 m5 m6 m7 m8 m9 =
+    let H = 𝓛.H in let 𝓣 = tables 𝓤 H 𝓜 𝓡 𝓡.env in let R : RattleType = copied 0 X in let Or : RattleType = param 1 O in let En = f.ended X O rb rbd rc rcd rd rdd re red rp rpd ro rod rq rqd rh rhd rg rgd in
+    let inst = bounded (a_type ∷ a_type ∷ []) (X, (O, tt)) (dcons rbd (dcons rcd (dcons rdd (dcons red (dcons rpd (dcons rod (dcons rqd (dcons rhd (dcons rgd dnil))))))))) in let fn = inst_fn inst code.function in
+    let c = f.clauses X O rb rbd rc rcd rd rdd re red rp rpd ro rod rq rqd rh rhd rg rgd 𝓛 𝓜.mem 𝓡.returns in
+    let LR = copied_laws 0 X L in let LOr = param_laws 1 O LO in
+    let Spans : RattleType = S.the_row R Or rb rd rp ro rq rh rg in let told = span_told R Or rb rd rp ro rq rh rg LR LOr in
+    let mk = makes (S.the_type R Or rb rd rp ro rq rh rg) (span_plain R Or rb rd rp ro rq rh rg) 𝓛 in
+    let hs : Stays En.signature.params En.kept = (stay_dropped (plain (λ _. Spans)) no, (stay_dropped (mut_slice_of (0 ∷ []) tt (plain (λ _. R))) no, tt)) in
+    proved 𝓛 En hs c 𝓜 𝓡 (Goes-dropped 𝓛 3 (plain (λ _. Spans)) no (λ κs x w. refl), (Goes-spent_slice 𝓛 3 (0 ∷ []) tt (plain (λ _. R)), tt))
+    (#self inst) fn (code.unfolded 𝓤 H 𝓜 𝓡 wired (X, (O, tt)) rbd rcd rdd red rpd rod rqd rhd rgd)
+    (λ κs. ((λ x. told.val x ∷ []), (mut_slice_vals, tt)))
+    (λ κs. (told.tells, (mut_slice_Tells (named 0) κs.0 R, tt))) (λ κs qs bounds a gh are.
+    let κ : Lft = κs.0 in let s = a.0 in let span : Span = span_of s in let m : MutBor (List X.Denot) = a.1.0 in let xs : List X.Denot = m.now in let sv : Val = told.val s in
+    let i : ℕ = words_before span in let n : ℕ = body_words rb.BITS span in let on0 : Bool = has_head span in let on1 : Bool = not (is_inside rb.BITS span) in let on2 : Bool = has_tail rb.BITS span in
+    let len : ℕ = length xs in let some_others : Fml = fsep (flft κs.1.0 qs.1.0) ftrue in let others : Fml = fsep (flft κs.1.0 qs.1.0) (fsep (flft κs.1.1.0 qs.1.1.0) ftrue) in
+    let lft = named_lft 3 0 tt κs in
+    let Row : RattleType = P.the_row lft (param 0 X) in let LP = pieces_laws lft (param 0 X) (param_laws 0 X L) in
+    let Dom : RattleType = D.the_row lft R Or rb rd rp ro rq rh rg in let LD = domain_laws lft R Or rb rd rp ro rq rh rg LR LOr in
+    let y : (walk_of 𝓛 En hs c).Ghost = ((κs, qs, bounds, a, (sv ∷ [], (mut_slice_vals m, tt))), gh) in let Post : Val → SProp 𝓤 = (walk_of 𝓛 En hs c).post y in
+    qed 𝓛 (((‵ (flft κ qs.0) ⊛ ‵ others) ⊛ ‵ (owns (types_at En.signature.params κs) a y.0.4)) ∷ raw (fact 𝓤 (κs.1.0 ⊑ X.lives)) ∷ raw (fact 𝓤 (κs.1.1.0 ⊑ O.lives)) ∷ raw (fact 𝓤 (Fits rb.BITS span len)) ∷ []) ∵
+    move ! (1 ∷ []) $ heard ! (κs.1.0 ⊑ X.lives) (λ alive_in. move ! (1 ∷ []) $ heard ! (κs.1.1.0 ⊑ O.lives) (λ alive_o. move ! (1 ∷ []) $ heard ! (Fits rb.BITS span len) (λ fits.
+    split ! $ move ! (1 ∷ []) $ fsplit ! $ drop ! $ fsplit ! $ move ! (1 ∷ []) $ drop ! $
+    -- [the slice; the tokens]
+    let fl : len < 2 ^ 64 = are.1.0.0.1.0 in let is_span : Is Spans s (sv ∷ []) = are.0 in let good_s = (((span_laws R Or rb rd rp ro rq rh rg LR LOr).lawful 𝓛).typed s (sv ∷ []) is_span).0 in
+    enter ! 𝓣.C 𝓣.Λ fn (sv ∷ slice_val m.ref_ptr len ∷ []) Post $
+    alloc_all ! (λ l. pass_all ! refl (good_s, ((tt, (tt, (record { fits = fl }, tt))), tt)) $
+    move ! (1 ∷ []) $ split ! $ move ! (1 ∷ 2 ∷ []) $
+    -- [the other tokens; the slice; the token of κ]
+    let κs2 : Lfts 2 = (κs.1.0, (κs.1.1.0, tt)) in let qs2 : Shares 2 = (qs.1.0, (qs.1.1.0, tt)) in
+    -- words_before
+    let T1 = triple_of 𝓛 (n1.signature X O rb rbd rc rcd rd rdd re red rp rpd ro rod rq rqd rh rhd rg rgd) (n1.spec X O rb rbd rc rcd rd rdd re red rp rpd ro rod rq rqd rh rhd rg rgd 𝓛 𝓜.mem 𝓡.returns) in
+    let z1 : T1.Ghost = ((κs2, qs2, tt, (s, tt), (sv ∷ [], tt)), tt) in
+    nothing ! $ owned ! Spans _ mk s _ is_span $ fjoin ! $ move ! (1 ∷ 0 ∷ []) $ join ! $ use0 𝓛 (raw (fact 𝓤 (pos 0 ≤ℤ span.word))) (fact_i 𝓤 _ (emp 𝓤) fits.0) $ use0 𝓛 (raw (fact 𝓤 (κs.1.1.0 ⊑ O.lives))) (fact_i 𝓤 _ (emp 𝓤) alive_o) $ join ! $
+    use0 𝓛 (raw (fact 𝓤 (κs.1.0 ⊑ X.lives))) (fact_i 𝓤 _ (emp 𝓤) alive_in) $ join ! $ move ! (1 ∷ 0 ∷ []) $ join ! $ use1 𝓛 (raw (T1.pre z1)) (id⊢ 𝓤 _) $
+    calls_at ! (framed 𝓤 H 𝓜 𝓣) T1 (met_n1 𝓤 𝓛 𝓜 𝓡 (code.calls-bitvec_domain::ptr::span::BitSpan::words_before 𝓡.env wired) X O L LO copy rb rbd rc rcd rd rdd re red rp rpd ro rod rq rqd rh rhd rg rgd m1 m2 m3 m4 m5 m6 m7 m8 m9) z1 (and_then ! (get ! refl) (no_more !)) (λ v1.
+    use1 𝓛 (later (some (λ (r : usize.Denot). (‵ others ⊛ ‵ (usize.own_val r (v1 ∷ []))) ⊛ some (λ (ws : Lasts (n1.ended X O rb rbd rc rcd rd rdd re red rp rpd ro rod rq rqd rh rhd rg rgd) κs2 (s, tt)). ‵ (lasts (n1.ended X O rb rbd rc rcd rd rdd re red rp rpd ro rod rq rqd rh rhd rg rgd) κs2 (s, tt) ws)
+      ⊛ raw (fact 𝓤 (r ≡ i)))))) (id⊢ 𝓤 _) $ await ! tt $ pick ! (λ r1. split ! $ split ! $ move ! (2 ∷ []) $ pick ! (λ ws. split ! $ drop ! $ heard ! _ (λ is1. move ! (1 ∷ []) $ rewrite ! 0 (λ (k : ℕ). ‵ (usize.own_val k (v1 ∷ []))) is1 refl $
+    peeks ! usize (Is usize) (shows 𝓛 usize) i (v1 ∷ []) (λ as1. lands_as ! refl refl (((uint_Lawful 𝓛 w64).typed i (v1 ∷ []) as1).0) $ move ! (1 ∷ []) $
+    -- body_words
+    let T2 = triple_of 𝓛 (n2.signature X O rb rbd rc rcd rd rdd re red rp rpd ro rod rq rqd rh rhd rg rgd) (n2.spec X O rb rbd rc rcd rd rdd re red rp rpd ro rod rq rqd rh rhd rg rgd 𝓛 𝓜.mem 𝓡.returns) in
+    let z2 : T2.Ghost = ((κs2, qs2, tt, (s, tt), (sv ∷ [], tt)), tt) in
+    nothing ! $ owned ! Spans _ mk s _ is_span $ fjoin ! $ move ! (1 ∷ 0 ∷ []) $ join ! $ nothing ! $ use0 𝓛 (raw (fact 𝓤 (κs.1.1.0 ⊑ O.lives))) (fact_i 𝓤 _ (emp 𝓤) alive_o) $ join ! $
+    use0 𝓛 (raw (fact 𝓤 (κs.1.0 ⊑ X.lives))) (fact_i 𝓤 _ (emp 𝓤) alive_in) $ join ! $ move ! (1 ∷ 0 ∷ []) $ join ! $ use1 𝓛 (raw (T2.pre z2)) (id⊢ 𝓤 _) $
+    calls_at ! (framed 𝓤 H 𝓜 𝓣) T2 (met_n2 𝓤 𝓛 𝓜 𝓡 (code.calls-bitvec_domain::ptr::span::BitSpan::body_words 𝓡.env wired) X O L LO copy rb rbd rc rcd rd rdd re red rp rpd ro rod rq rqd rh rhd rg rgd m1 m2 m3 m4 m5 m6 m7 m8 m9) z2 (and_then ! (get ! refl) (no_more !)) (λ v2.
+    use1 𝓛 (later (some (λ (r : usize.Denot). (‵ others ⊛ ‵ (usize.own_val r (v2 ∷ []))) ⊛ some (λ (ws : Lasts (n2.ended X O rb rbd rc rcd rd rdd re red rp rpd ro rod rq rqd rh rhd rg rgd) κs2 (s, tt)). ‵ (lasts (n2.ended X O rb rbd rc rcd rd rdd re red rp rpd ro rod rq rqd rh rhd rg rgd) κs2 (s, tt) ws)
+      ⊛ raw (fact 𝓤 (r ≡ n)))))) (id⊢ 𝓤 _) $ await ! tt $ pick ! (λ r2. split ! $ split ! $ move ! (2 ∷ []) $ pick ! (λ ws. split ! $ drop ! $ heard ! _ (λ is2. move ! (1 ∷ []) $ rewrite ! 0 (λ (k : ℕ). ‵ (usize.own_val k (v2 ∷ []))) is2 refl $
+    peeks ! usize (Is usize) (shows 𝓛 usize) n (v2 ∷ []) (λ as2. lands_as ! refl refl (((uint_Lawful 𝓛 w64).typed n (v2 ∷ []) as2).0) $ move ! (1 ∷ []) $
+    -- has_head
+    let T3 = triple_of 𝓛 (n3.signature X O rb rbd rc rcd rd rdd re red rp rpd ro rod rq rqd rh rhd rg rgd) (n3.spec X O rb rbd rc rcd rd rdd re red rp rpd ro rod rq rqd rh rhd rg rgd 𝓛 𝓜.mem 𝓡.returns) in
+    let z3 : T3.Ghost = ((κs2, qs2, tt, (s, tt), (sv ∷ [], tt)), tt) in
+    nothing ! $ owned ! Spans _ mk s _ is_span $ fjoin ! $ move ! (1 ∷ 0 ∷ []) $ join ! $ nothing ! $ use0 𝓛 (raw (fact 𝓤 (κs.1.1.0 ⊑ O.lives))) (fact_i 𝓤 _ (emp 𝓤) alive_o) $ join ! $
+    use0 𝓛 (raw (fact 𝓤 (κs.1.0 ⊑ X.lives))) (fact_i 𝓤 _ (emp 𝓤) alive_in) $ join ! $ move ! (1 ∷ 0 ∷ []) $ join ! $ use1 𝓛 (raw (T3.pre z3)) (id⊢ 𝓤 _) $
+    calls_at ! (framed 𝓤 H 𝓜 𝓣) T3 (met_n3 𝓤 𝓛 𝓜 𝓡 (code.calls-bitvec_domain::ptr::span::BitSpan::has_head 𝓡.env wired) X O L LO copy rb rbd rc rcd rd rdd re red rp rpd ro rod rq rqd rh rhd rg rgd m1 m2 m3 m4 m5 m6 m7 m8 m9) z3 (and_then ! (get ! refl) (no_more !)) (λ v3.
+    use1 𝓛 (later (some (λ (r : bool.Denot). (‵ others ⊛ ‵ (bool.own_val r (v3 ∷ []))) ⊛ some (λ (ws : Lasts (n3.ended X O rb rbd rc rcd rd rdd re red rp rpd ro rod rq rqd rh rhd rg rgd) κs2 (s, tt)). ‵ (lasts (n3.ended X O rb rbd rc rcd rd rdd re red rp rpd ro rod rq rqd rh rhd rg rgd) κs2 (s, tt) ws)
+      ⊛ raw (fact 𝓤 (r ≡ on0)))))) (id⊢ 𝓤 _) $ await ! tt $ pick ! (λ r3. split ! $ split ! $ move ! (2 ∷ []) $ pick ! (λ ws. split ! $ drop ! $ heard ! _ (λ is3. move ! (1 ∷ []) $ rewrite ! 0 (λ (k : Bool). ‵ (bool.own_val k (v3 ∷ []))) is3 refl $
+    peeks ! bool (Is bool) (shows 𝓛 bool) on0 (v3 ∷ []) (λ as3. lands_as ! refl refl (((bool_Lawful 𝓛).typed on0 (v3 ∷ []) as3).0) $ move ! (1 ∷ []) $
+    -- has_body
+    let T4 = triple_of 𝓛 (n4.signature X O rb rbd rc rcd rd rdd re red rp rpd ro rod rq rqd rh rhd rg rgd) (n4.spec X O rb rbd rc rcd rd rdd re red rp rpd ro rod rq rqd rh rhd rg rgd 𝓛 𝓜.mem 𝓡.returns) in
+    let z4 : T4.Ghost = ((κs2, qs2, tt, (s, tt), (sv ∷ [], tt)), tt) in
+    nothing ! $ owned ! Spans _ mk s _ is_span $ fjoin ! $ move ! (1 ∷ 0 ∷ []) $ join ! $ nothing ! $ use0 𝓛 (raw (fact 𝓤 (κs.1.1.0 ⊑ O.lives))) (fact_i 𝓤 _ (emp 𝓤) alive_o) $ join ! $
+    use0 𝓛 (raw (fact 𝓤 (κs.1.0 ⊑ X.lives))) (fact_i 𝓤 _ (emp 𝓤) alive_in) $ join ! $ move ! (1 ∷ 0 ∷ []) $ join ! $ use1 𝓛 (raw (T4.pre z4)) (id⊢ 𝓤 _) $
+    calls_at ! (framed 𝓤 H 𝓜 𝓣) T4 (met_n4 𝓤 𝓛 𝓜 𝓡 (code.calls-bitvec_domain::ptr::span::BitSpan::has_body 𝓡.env wired) X O L LO copy rb rbd rc rcd rd rdd re red rp rpd ro rod rq rqd rh rhd rg rgd m1 m2 m3 m4 m5 m6 m7 m8 m9) z4 (and_then ! (get ! refl) (no_more !)) (λ v4.
+    use1 𝓛 (later (some (λ (r : bool.Denot). (‵ others ⊛ ‵ (bool.own_val r (v4 ∷ []))) ⊛ some (λ (ws : Lasts (n4.ended X O rb rbd rc rcd rd rdd re red rp rpd ro rod rq rqd rh rhd rg rgd) κs2 (s, tt)). ‵ (lasts (n4.ended X O rb rbd rc rcd rd rdd re red rp rpd ro rod rq rqd rh rhd rg rgd) κs2 (s, tt) ws)
+      ⊛ raw (fact 𝓤 (r ≡ on1)))))) (id⊢ 𝓤 _) $ await ! tt $ pick ! (λ r4. split ! $ split ! $ move ! (2 ∷ []) $ pick ! (λ ws. split ! $ drop ! $ heard ! _ (λ is4. move ! (1 ∷ []) $ rewrite ! 0 (λ (k : Bool). ‵ (bool.own_val k (v4 ∷ []))) is4 refl $
+    peeks ! bool (Is bool) (shows 𝓛 bool) on1 (v4 ∷ []) (λ as4. lands_as ! refl refl (((bool_Lawful 𝓛).typed on1 (v4 ∷ []) as4).0) $ move ! (1 ∷ []) $
+    -- has_tail
+    let T5 = triple_of 𝓛 (n5.signature X O rb rbd rc rcd rd rdd re red rp rpd ro rod rq rqd rh rhd rg rgd) (n5.spec X O rb rbd rc rcd rd rdd re red rp rpd ro rod rq rqd rh rhd rg rgd 𝓛 𝓜.mem 𝓡.returns) in
+    let z5 : T5.Ghost = ((κs2, qs2, tt, (s, tt), (sv ∷ [], tt)), tt) in
+    nothing ! $ owned ! Spans _ mk s _ is_span $ fjoin ! $ move ! (1 ∷ 0 ∷ []) $ join ! $ nothing ! $ use0 𝓛 (raw (fact 𝓤 (κs.1.1.0 ⊑ O.lives))) (fact_i 𝓤 _ (emp 𝓤) alive_o) $ join ! $
+    use0 𝓛 (raw (fact 𝓤 (κs.1.0 ⊑ X.lives))) (fact_i 𝓤 _ (emp 𝓤) alive_in) $ join ! $ move ! (1 ∷ 0 ∷ []) $ join ! $ use1 𝓛 (raw (T5.pre z5)) (id⊢ 𝓤 _) $
+    calls_at ! (framed 𝓤 H 𝓜 𝓣) T5 (met_n5 𝓤 𝓛 𝓜 𝓡 (code.calls-bitvec_domain::ptr::span::BitSpan::has_tail 𝓡.env wired) X O L LO copy rb rbd rc rcd rd rdd re red rp rpd ro rod rq rqd rh rhd rg rgd m1 m2 m3 m4 m5 m6 m7 m8 m9) z5 (and_then ! (get ! refl) (no_more !)) (λ v5.
+    use1 𝓛 (later (some (λ (r : bool.Denot). (‵ others ⊛ ‵ (bool.own_val r (v5 ∷ []))) ⊛ some (λ (ws : Lasts (n5.ended X O rb rbd rc rcd rd rdd re red rp rpd ro rod rq rqd rh rhd rg rgd) κs2 (s, tt)). ‵ (lasts (n5.ended X O rb rbd rc rcd rd rdd re red rp rpd ro rod rq rqd rh rhd rg rgd) κs2 (s, tt) ws)
+      ⊛ raw (fact 𝓤 (r ≡ on2)))))) (id⊢ 𝓤 _) $ await ! tt $ pick ! (λ r5. split ! $ split ! $ move ! (2 ∷ []) $ pick ! (λ ws. split ! $ drop ! $ heard ! _ (λ is5. move ! (1 ∷ []) $ rewrite ! 0 (λ (k : Bool). ‵ (bool.own_val k (v5 ∷ []))) is5 refl $
+    peeks ! bool (Is bool) (shows 𝓛 bool) on2 (v5 ∷ []) (λ as5. lands_as ! refl refl (((bool_Lawful 𝓛).typed on2 (v5 ∷ []) as5).0) $ move ! (1 ∷ []) $
+    -- [the other tokens; the five numbers, the last first; the slice; the token of κ]
+    let within = loans-within rb.BITS span in let le : i + n ≤ len = omega (arith, within, fits.1) in
+    sets ! (addr ! (from ! (fld ! refl (hop ! (look_in_at ! 2 (sub ! 0 refl (whole !))) (stop !))))) refl (tt, tt) $
+    sets ! (agg ! (and_then ! (get ! refl) (and_then ! (get_in ! (fld ! refl (stop !)) (sub ! 1 refl (whole !))) (no_more !)))) refl (tt, (tt, (record { fits = fl }, tt))) $
+    let G = triple_of 𝓛 (g.signature X) (g.spec X 𝓛 𝓜.mem 𝓡.returns) in
+    let z : G.Ghost = (((κs.0, (κs.1.0, tt)), (qs.0, (qs.1.0, tt)), bounds, (m, (i, (n, (on0, (on1, (on2, tt)))))), (mut_slice_vals m, (v1 ∷ [], (v2 ∷ [], (v3 ∷ [], (v4 ∷ [], (v5 ∷ [], tt))))))), tt) in
+    fsplit ! $ nothing ! $ move ! (1 ∷ 0 ∷ []) $ fjoin ! $ move ! (8 ∷ 0 ∷ []) $ join ! $
+    -- [the callee's tokens; the other tokens; the five numbers; the slice]
+    nothing ! $ move ! (3 ∷ 0 ∷ []) $ fjoin ! $ move ! (3 ∷ 0 ∷ []) $ fjoin ! $ move ! (3 ∷ 0 ∷ []) $ fjoin ! $ move ! (3 ∷ 0 ∷ []) $ fjoin ! $ move ! (3 ∷ 0 ∷ []) $ fjoin ! $ move ! (3 ∷ 0 ∷ []) $ fjoin ! $ move ! (1 ∷ 0 ∷ []) $ join ! $
+    use0 𝓛 (raw (fact 𝓤 (i + n ≤ len))) (fact_i 𝓤 _ (emp 𝓤) le) $ use0 𝓛 (raw (fact 𝓤 (κs.1.0 ⊑ X.lives))) (fact_i 𝓤 _ (emp 𝓤) alive_in) $ join ! $ move ! (1 ∷ 0 ∷ []) $ join ! $
+    use1 𝓛 (raw (G.pre z)) (id⊢ 𝓤 _) $
+    calls_at ! (framed 𝓤 H 𝓜 𝓣) G (met 𝓤 𝓛 𝓜 𝓡 (code.calls-bitvec_domain::lend::pieces_mut 𝓡.env wired) X L) z
+    (and_then ! (get ! refl) (and_then ! (get ! refl) (and_then ! (get ! refl) (and_then ! (get ! refl) (and_then ! (get ! refl) (and_then ! (get ! refl) (no_more !))))))) (λ v.
+    use1 𝓛 (later (some (λ (d : Row.Denot). ((‵ (flft κ qs.0) ⊛ ‵ some_others) ⊛ ‵ (Row.own_val d (v ∷ []))) ⊛ some (λ (ws : Lasts (g.ended X) (κs.0, (κs.1.0, tt)) z.0.3). ‵ (lasts (g.ended X) (κs.0, (κs.1.0, tt)) z.0.3 ws)
+      ⊛ ‵ (LendsNamed R m i n (names_of d)) ⊛ raw (fact 𝓤 ((is_some d.front ≡ on0) × IfSome d.front (λ (r : MutBor (List X.Denot)). r.now ≡ take i xs)))
+      ⊛ raw (fact 𝓤 ((is_some d.body ≡ on1) × IfSome d.body (λ (r : MutBor (List X.Denot)). r.now ≡ take n (drop_l i xs)))) ⊛ raw (fact 𝓤 ((is_some d.back ≡ on2) × IfSome d.back (λ (r : MutBor (List X.Denot)). r.now ≡ drop_l n (drop_l i xs)))))))) (id⊢ 𝓤 _) $ await ! tt $ pick ! (λ d. split ! $ split ! $ move ! (2 ∷ []) $ pick ! (λ ws. split ! $ drop ! $
+    split ! $ move ! (1 ∷ []) $ split ! $ heard ! _ (λ fr. split ! $ heard ! _ (λ bo. heard ! _ (λ ba. move ! (2 ∷ []) $ peeks ! Row (Is Row) (shows 𝓛 Row) d (v ∷ []) (λ as_pieces. let good = ((LP.lawful 𝓛).typed d (v ∷ []) as_pieces).0 in
+    -- [the pieces; what the slice ends as; the callee's tokens; the other tokens]
+    lands_as ! refl refl good $ sets ! (of_opd ! (get ! refl)) refl good $
+    let Front : List X.Denot → Type 0 = λ l. (nat_abs span.word < length l) × (0 < words_met rb.BITS span.head span.len) in let Back : List X.Denot → Type 0 = λ l. (0 < length l) × (0 < words_met rb.BITS span.head span.len) in
+    let Kind : Type 0 = is_some d.body ≡ false → (is_some d.front ≡ true) × (is_some d.back ≡ false) in
+    let r1 : IfSome d.front (λ (r : MutBor (List X.Denot)). Front r.now) = loan_has d.front on0 (take i xs) Front fr.0 fr.1 (head-within rb.BITS span xs fits.1) in
+    let r2 : IfSome d.back (λ (r : MutBor (List X.Denot)). Back r.now) = loan_has d.back on2 (drop_l n (drop_l i xs)) Back ba.0 ba.1 (tail-within rb.BITS span xs fits.1) in
+    let r3 : Kind = λ t. let p = inside-alone rb.BITS span (sym bo.0 ∙ t) in (fr.0 ∙ p.0, ba.0 ∙ p.1) in
+    let K = triple_of 𝓛 (h.signature X O rb rbd rc rcd rd rdd re red rp rpd ro rod rq rqd rh rhd rg rgd) (h.spec X O rb rbd rc rcd rd rdd re red rp rpd ro rod rq rqd rh rhd rg rgd 𝓛 𝓜.mem 𝓡.returns) in
+    let z6 : K.Ghost = ((κs, qs, bounds, (s, (d, tt)), (sv ∷ [], (v ∷ [], tt))), tt) in
+    move ! (2 ∷ []) $ split ! $ move ! (1 ∷ []) $ fsplit ! $ move ! (1 ∷ []) $ drop ! $ move ! (0 ∷ 4 ∷ []) $ fjoin ! $ move ! (1 ∷ 0 ∷ []) $ join ! $
+    -- [the tokens; the pieces; what the slice ends as]
+    move ! (1 ∷ []) $ nothing ! $ move ! (1 ∷ 0 ∷ []) $ fjoin ! $ owned ! Spans _ mk s _ is_span $ fjoin ! $ move ! (1 ∷ 0 ∷ []) $ join ! $
+    use0 𝓛 (raw (fact 𝓤 Kind)) (fact_i 𝓤 _ (emp 𝓤) r3) $ use0 𝓛 (raw (fact 𝓤 (IfSome d.back (λ (r : MutBor (List X.Denot)). Back r.now)))) (fact_i 𝓤 _ (emp 𝓤) r2) $ join ! $
+    use0 𝓛 (raw (fact 𝓤 (IfSome d.front (λ (r : MutBor (List X.Denot)). Front r.now)))) (fact_i 𝓤 _ (emp 𝓤) r1) $ join ! $ use0 𝓛 (raw (fact 𝓤 (pos 0 ≤ℤ span.word))) (fact_i 𝓤 _ (emp 𝓤) fits.0) $ join ! $
+    use0 𝓛 (raw (fact 𝓤 (κs.1.1.0 ⊑ O.lives))) (fact_i 𝓤 _ (emp 𝓤) alive_o) $ join ! $
+    use0 𝓛 (raw (fact 𝓤 (κs.1.0 ⊑ X.lives))) (fact_i 𝓤 _ (emp 𝓤) alive_in) $ join ! $ move ! (1 ∷ 0 ∷ []) $ join ! $ use1 𝓛 (raw (K.pre z6)) (id⊢ 𝓤 _) $
+    calls_at ! (framed 𝓤 H 𝓜 𝓣) K (met_h 𝓤 𝓛 𝓜 𝓡 (code.calls-bitvec_domain::ptr::span::BitSpan::assemble 𝓡.env wired) X O L LO copy rb rbd rc rcd rd rdd re red rp rpd ro rod rq rqd rh rhd rg rgd m1 m2 m3 m4 m5 m6 m7 m8 m9) z6 (and_then ! (get ! refl) (and_then ! (get ! refl) (no_more !))) (λ w.
+    let Slots : Option Slot × Bool × Option Slot = ((if is_some d.front then Some (slot_at rb.BITS span 0 (nat_abs span.word)) else None), is_some d.body, (if is_some d.back then Some (slot_at rb.BITS span (words_met rb.BITS span.head span.len - 1) 0) else None)) in
+    use1 𝓛 (later (some (λ (e : Dom.Denot). ((‵ (flft κ qs.0) ⊛ ‵ others) ⊛ ‵ (Dom.own_val e (w ∷ []))) ⊛ some (λ (zs : Lasts (h.ended X O rb rbd rc rcd rd rdd re red rp rpd ro rod rq rqd rh rhd rg rgd) κs (s, (d, tt))). ‵ (lasts (h.ended X O rb rbd rc rcd rd rdd re red rp rpd ro rod rq rqd rh rhd rg rgd) κs (s, (d, tt)) zs)
+      ⊛ raw (fact 𝓤 (loan_names e ≡ names_of d)) ⊛ raw (fact 𝓤 (loan_words e ≡ piece_lists d)) ⊛ raw (fact 𝓤 (loan_slots e ≡ Slots)))))) (id⊢ 𝓤 _) $ await ! tt $ pick ! (λ e. split ! $ split ! $ move ! (2 ∷ []) $ pick ! (λ zs. split ! $ drop ! $ split ! $ heard ! _ (λ same. split ! $ heard ! _ (λ listed. heard ! _ (λ slotted.
+    -- [the tokens; the domain; what the slice ends as]
+    rewrite ! 2 (λ (names : Option GName × Option GName × Option GName). ‵ (LendsNamed R m i n names)) (sym same) refl $
+    move ! (1 ∷ []) $ peeks ! Dom (Is Dom) (shows 𝓛 Dom) e (w ∷ []) (λ as_domain. lands_as ! refl refl (((LD.lawful 𝓛).typed e (w ∷ []) as_domain).0) $
+    returns ! (look_at ! 0 refl) $ free_all ! refl $
+    -- [the domain; the tokens; what the slice ends as]
+    let l0 = listed_if d.front on0 (take i xs) fr.0 fr.1 in let l1 = listed_unless d.body (is_inside rb.BITS span) (take n (drop_l i xs)) bo.0 bo.1 in let l2 = listed_if d.back on2 (drop_l n (drop_l i xs)) ba.0 ba.1 in
+    let words : loan_words e ≡ lists_of rb.BITS span xs = listed ∙ (λ k. (l0 k, l1 k, l2 k)) in
+    let slots : loan_slots e ≡ slots_of rb.BITS span = slotted ∙ (λ k. ((if fr.0 k then Some (slot_at rb.BITS span 0 (nat_abs span.word)) else None), bo.0 k, (if ba.0 k then Some (slot_at rb.BITS span (words_met rb.BITS span.head span.len - 1) 0) else None))) in
+    let parts : lent_parts rb.number e ≡ parts_of rb.BITS span (map rb.number xs) = lent_parts-of rb.BITS span rb.number xs e slots words in
+    use0 𝓛 (raw (fact 𝓤 (loan_words e ≡ lists_of rb.BITS span xs))) (fact_i 𝓤 _ (emp 𝓤) words) $ use0 𝓛 (raw (fact 𝓤 (loan_slots e ≡ slots_of rb.BITS span))) (fact_i 𝓤 _ (emp 𝓤) slots) $ join ! $
+    use0 𝓛 (raw (fact 𝓤 (lent_parts rb.number e ≡ parts_of rb.BITS span (map rb.number xs)))) (fact_i 𝓤 _ (emp 𝓤) parts) $ join ! $ move ! (3 ∷ 0 ∷ []) $ join ! $
+    -- [the `ensures`; the domain; the tokens]
+    nothing ! $ nothing ! $ fjoin ! $ nothing ! $ fjoin ! $ keep ! (3 ∷ 0 ∷ 2 ∷ 1 ∷ []) $
+    by ! (leaves 𝓛 En hs c y w e (tt, (tt, tt)) (tt, (tt, tt)))))))))))))))))))))))))))))))))))))))))))))))

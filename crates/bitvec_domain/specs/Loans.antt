@@ -1,0 +1,39 @@
+-- The loans that the parts of a span are in a memory: the words up to the head's, those of the body, and those from the tail's on.
+use Rattle.std.specs.Prelude.{ℕ, nat_abs, ◌+◌, ◌-◌, ◌==◌, ◌&&◌, Bool, true, false, not, if◌then◌else◌, List, [], take, drop, Option, Some, None}
+use Rattle.bitvec_ptr.specs.Place.{words_met, tail_of}
+use Rattle.bitvec_domain.specs.Span.{Span}
+use Rattle.bitvec_domain.specs.Edit.{Slot, slot_at}
+
+-- the span has bits of one word alone, with neither its first nor its last
+abbrev pub is_inside : ℕ → Span → Bool
+is_inside bits span = not (span.len == 0) && not (span.head == 0) && not (tail_of bits span.head span.len == bits) && (words_met bits span.head span.len == 1)
+
+-- there is a part before the body, or the one part of an enclave
+abbrev pub has_head : Span → Bool
+has_head span = not (span.len == 0) && not (span.head == 0)
+
+-- there is a part behind the body
+abbrev pub has_tail : ℕ → Span → Bool
+has_tail bits span = not (span.len == 0) && not (tail_of bits span.head span.len == bits) && not (is_inside bits span)
+
+-- how many words lie before the body; the part before it is in the last of these
+abbrev pub words_before : Span → ℕ
+words_before span = nat_abs span.word + (if has_head span then 1 else 0)
+
+-- how many words the body has; the part behind it is in the word after these
+abbrev pub body_words : ℕ → Span → ℕ
+body_words bits span = words_met bits span.head span.len - (if has_head span then 1 else 0) - (if has_tail bits span then 1 else 0)
+
+-- where the parts lie in their loans, and between them whether there is a body
+abbrev pub slots_of : ℕ → Span → Option Slot × Bool × Option Slot
+slots_of bits span =
+    ( (if has_head span then Some (slot_at bits span 0 (nat_abs span.word)) else None)
+    , not (is_inside bits span)
+    , (if has_tail bits span then Some (slot_at bits span (words_met bits span.head span.len - 1) 0) else None) )
+
+-- the words of a memory that are lent for the head, the body and the tail, and none for an absent part
+abbrev pub lists_of : {R : Type 0} → ℕ → Span → List R → List R × List R × List R
+lists_of bits span memory =
+    ( (if has_head span then take (words_before span) memory else [])
+    , (if is_inside bits span then [] else take (body_words bits span) (drop (words_before span) memory))
+    , (if has_tail bits span then drop (body_words bits span) (drop (words_before span) memory) else []) )

@@ -1,0 +1,201 @@
+//! The words and parts of words that a span meets, for writing.
+
+ghost use Rattle.std.specs.Prelude.{◌≡◌, pos, ◌+◌, ◌-◌, ◌<◌, ◌≤◌, ◌≤ℤ◌, nat_abs, if◌then◌else◌, not, true, false, length, map, IfSome, MatchOption, is_some, Some, None, []};
+ghost use Rattle.std.specs.Borrow.{sem};
+ghost use Rattle.bitvec_ptr.specs.Place.{words_met};
+ghost use Rattle.bitvec_domain.specs.Span.{Fits};
+ghost use Rattle.bitvec_domain.specs.Domain.{parts_of, enclave, region, is_enclave};
+ghost use Rattle.bitvec_domain.specs.Edit.{slot_at};
+ghost use Rattle.bitvec_domain.specs.Loans.{is_inside, has_head, has_tail, words_before, body_words, slots_of, lists_of};
+
+use super::edit::PartialElementMut;
+use crate::lend::{Pieces, pieces_mut};
+use crate::ptr::span::BitSpan;
+use bitvec_mem::mem::BitRegister;
+use bitvec_order::order::{BitOrder, Lsb0};
+
+/// The words that a span meets, borrowed for writing: one part of a word, or whole words with
+/// perhaps a part before them and perhaps a part behind them.
+///
+/// Our own, for the Rust crate's `Domain` over a mutable memory.
+#[derive(Drop)]
+pub enum DomainMut<'a, R: BitRegister = usize, O = Lsb0> {
+    /// Some bits of one word, with neither its first nor its last.
+    Enclave(PartialElementMut<'a, R, O>),
+    /// Perhaps the last bits of a word, whole words, and perhaps the first bits of a word.
+    Region {
+        /// The last bits of the first word, where the span does not begin with its first bit.
+        head: Option<PartialElementMut<'a, R, O>>,
+        /// The whole words.
+        body: &'a mut [R],
+        /// The first bits of the last word, where the span does not end with its last bit.
+        tail: Option<PartialElementMut<'a, R, O>>,
+    },
+}
+
+impl<'a, R: BitRegister, O> Default for DomainMut<'a, R, O> {
+    ghost use Rattle.std.specs.Prelude.{[], None, ◌≡◌};
+    ghost use Rattle.bitvec_domain.specs.Domain.{region};
+    ghost use Rattle.bitvec_domain.specs.LoansView.{lent_parts};
+
+    ghost is_default = { λ d. lent_parts R.number d ≡ region None [] None };
+
+    fn default() -> Self {
+        DomainMut::Region {
+            head: None,
+            body: &mut [],
+            tail: None,
+        }
+    }
+}
+
+impl<'a, R: BitRegister, O> DomainMut<'a, R, O> {
+    ghost use Rattle.bitvec_domain.specs.LoansView.{part_name, part_words, loan_names, loan_words, lent_part, lent_part_if, lent_parts};
+
+    /// The part of one word, where the domain is that alone.
+    pub fn enclave(self) -> Option<PartialElementMut<'a, R, O>>
+        ensures parts { MatchOption result
+            (is_enclave (lent_parts R.number self.entry) ≡ false)
+            (λ part. lent_parts R.number self.entry ≡ enclave (lent_part R.number part)) }
+        ensures names { IfSome result (λ part. loan_names self.entry ≡ (part_name (Some part), None, None)) }
+        ensures words { IfSome result (λ part. loan_words self.entry ≡ (part_words (Some part), [], [])) }
+    {
+        match self {
+            DomainMut::Enclave(part) => Some(part),
+            DomainMut::Region {
+                head: _head,
+                body: _body,
+                tail: _tail,
+            } => None,
+        }
+    }
+
+    /// The head, the body and the tail, where the domain is not one part alone.
+    pub fn region(
+        self,
+    ) -> Option<
+        (
+            Option<PartialElementMut<'a, R, O>>,
+            &'a mut [R],
+            Option<PartialElementMut<'a, R, O>>,
+        ),
+    >
+        ensures parts { MatchOption result
+            (is_enclave (lent_parts R.number self.entry) ≡ true)
+            (λ all. lent_parts R.number self.entry
+                ≡ region (lent_part_if R.number all.0) (map R.number all.1.now) (lent_part_if R.number all.2)) }
+        ensures names { IfSome result (λ all. loan_names self.entry ≡ (part_name all.0, Some all.1.ghost_name, part_name all.2)) }
+        ensures words { IfSome result (λ all. loan_words self.entry ≡ (part_words all.0, all.1.now, part_words all.2)) }
+    {
+        match self {
+            DomainMut::Enclave(_) => None,
+            DomainMut::Region { head, body, tail } => Some((head, body, tail)),
+        }
+    }
+}
+
+impl<R: BitRegister, O> BitSpan<R, O> {
+    ghost use Rattle.bitvec_domain.specs.BitSpan.{span_of};
+    ghost use Rattle.bitvec_domain.specs.Pieces.{names_of, piece_lists};
+    ghost use Rattle.bitvec_domain.specs.LoansView.{loan_names, loan_words, loan_slots, lent_parts, LendsDomain};
+
+    // Whether the span does not begin with its first word's first bit.
+    fn has_head(self) -> bool
+        ensures { result ≡ has_head (span_of self) }
+    {
+        self.len() != 0 && self.head().into_inner() != 0
+    }
+
+    // Whether the span has bits of one word alone, with neither its first nor its last.
+    fn is_inside(self) -> bool
+        ensures { result ≡ is_inside R.BITS (span_of self) }
+    {
+        self.len() != 0
+            && self.head().into_inner() != 0
+            && self.tail().into_inner() != R::BITS
+            && self.elements() == 1
+    }
+
+    // Whether there are whole words or may be.
+    fn has_body(self) -> bool
+        ensures { result ≡ not (is_inside R.BITS (span_of self)) }
+    {
+        !self.is_inside()
+    }
+
+    // Whether there is a part behind the whole words.
+    fn has_tail(self) -> bool
+        ensures { result ≡ has_tail R.BITS (span_of self) }
+    {
+        self.len() != 0 && self.tail().into_inner() != R::BITS && !self.is_inside()
+    }
+
+    // How many words there are before the whole words.
+    fn words_before(self) -> usize
+        requires { pos 0 ≤ℤ (span_of self).word }
+        ensures { result ≡ words_before (span_of self) }
+    {
+        self.address() as usize + if self.has_head() { 1 } else { 0 }
+    }
+
+    // How many whole words there are.
+    fn body_words(self) -> usize
+        ensures { result ≡ body_words R.BITS (span_of self) }
+    {
+        let head = if self.has_head() { 1 } else { 0 };
+        let tail = if self.has_tail() { 1 } else { 0 };
+        self.elements() - head - tail
+    }
+
+    // The domain whose parts lie in these pieces; without a body it is an enclave.
+    fn assemble<'a>(self, pieces: Pieces<'a, R>) -> DomainMut<'a, R, O>
+        requires word { pos 0 ≤ℤ (span_of self).word }
+        requires front { IfSome pieces.front (λ s. (nat_abs (span_of self).word < length s.now) × (0 < words_met R.BITS (span_of self).head (span_of self).len)) }
+        requires back { IfSome pieces.back (λ s. (0 < length s.now) × (0 < words_met R.BITS (span_of self).head (span_of self).len)) }
+        requires enclave { is_some pieces.body ≡ false → (is_some pieces.front ≡ true) × (is_some pieces.back ≡ false) }
+        ensures names { loan_names result ≡ names_of pieces.entry }
+        ensures words { loan_words result ≡ piece_lists pieces.entry }
+        ensures slots { loan_slots result
+            ≡ ((if is_some pieces.entry.front then Some (slot_at R.BITS (span_of self) 0 (nat_abs (span_of self).word)) else None), is_some pieces.entry.body,
+            (if is_some pieces.entry.back then Some (slot_at R.BITS (span_of self) (words_met R.BITS (span_of self).head (span_of self).len - 1) 0) else None)) }
+    {
+        let Pieces { front, body, back } = pieces;
+        let head = match front {
+            Some(memory) => Some(self.part_at(memory, self.address() as usize, 0)),
+            None => None,
+        };
+        let tail = match back {
+            Some(memory) => Some(self.part_at(memory, 0, self.elements() - 1)),
+            None => None,
+        };
+        match body {
+            Some(body) => DomainMut::Region { head, body, tail },
+            None => match head {
+                Some(part) => DomainMut::Enclave(part),
+                None => DomainMut::default(),
+            },
+        }
+    }
+
+    /// The words and parts of words of a memory that the span meets, each for writing, all at once.
+    ///
+    /// They are those of [`domain`](BitSpan::domain). When the loans end, the memory is the last
+    /// words of the head's loan, of the body and of the tail's loan, one behind the other; the words
+    /// of an absent part are as before. The head's loan has all words up to its own, the tail's all
+    /// words from its own on, and so all words of the memory are lent that a part can be in. Our own.
+    pub fn domain_mut<'a>(self, memory: &'a mut [R]) -> DomainMut<'a, R, O>
+        requires { Fits R.BITS (span_of self) (length memory.old) }
+        ensures* ends { sem 𝓛 (LendsDomain R.row memory.entry (words_before (span_of self)) (body_words R.BITS (span_of self)) result) }
+        ensures parts { lent_parts R.number result ≡ parts_of R.BITS (span_of self) (map R.number memory.old) }
+        ensures slots { loan_slots result ≡ slots_of R.BITS (span_of self) }
+        ensures words { loan_words result ≡ lists_of R.BITS (span_of self) memory.old }
+    {
+        let before = self.words_before();
+        let count = self.body_words();
+        let head = self.has_head();
+        let body = self.has_body();
+        let tail = self.has_tail();
+        let pieces = pieces_mut(memory, before, count, head, body, tail);
+        self.assemble(pieces)
+    }
+}
