@@ -4,9 +4,9 @@ pub use Rattle.bitvec_order.specs.Index
 pub use Rattle.bitvec_order.specs.Masks
 pub use Rattle.bitvec_order.specs.Order
 pub use Rattle.bitvec_order.specs.OrderLemmas
-pub use Rattle.bitvec_order.specs.Scan
+pub use Rattle.bitvec_verify.specs.Scan
 pub use Rattle.bitvec_order.specs.Text
-pub use Rattle.bitvec_order.specs.Verified
+pub use Rattle.bitvec_verify.specs.Verified
 pub use Rattle.bitvec_ptr.specs.BitPtr
 pub use Rattle.bitvec_ptr.specs.BitPtrRange
 pub use Rattle.bitvec_ptr.specs.Memory

@@ -6,9 +6,10 @@
 
 pub use bitvec_domain::{domain, ptr};
 pub use bitvec_mem::mem;
-pub use bitvec_order::{index, order};
+pub use bitvec_order::index;
 
 pub mod laws;
+pub mod order;
 mod run;
 #[cfg(test)]
 mod tests;

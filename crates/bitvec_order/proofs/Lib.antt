@@ -2,8 +2,5 @@ pub mod DisjointMasks
 pub mod IndexLemmas
 pub mod MaskLemmas
 pub mod Ranges
-pub mod ScanCounts
-pub mod ScanLaws
-pub mod ScanLemmas
 pub mod ShiftedMasks
 pub mod Steps

@@ -10,8 +10,6 @@ ghost use Rattle.bitvec_order.specs.OrderLemmas.{plain_selects, plain_masks, low
 use crate::index::{BitEnd, BitIdx, BitMask, BitPos, BitSel, Limits, MaskLimits};
 use bitvec_mem::mem::BitRegister;
 
-pub mod verify;
-
 /// A position for each index of a register.
 ///
 /// An implementation writes [`position`](BitAt::position) on plain numbers, and its definition

@@ -1,0 +1,3 @@
+pub mod ScanCounts
+pub mod ScanLaws
+pub mod ScanLemmas

@@ -1,0 +1,4 @@
+//! The verifier of bit orders.
+#![tactic(auto)]
+
+pub mod verify;

@@ -1,0 +1,223 @@
+//! The verifier: whether a candidate is a lawful order, and otherwise its first fault.
+//!
+//! A candidate is scanned in a fixed order of tests. First come the indices, each with its selector
+//! and then its position; then the masks of each pair of present bounds; then those with an absent
+//! bound.
+
+ghost use Rattle.std.specs.Prelude.{◌≡◌, ◌↔◌, ℕ, ◌+◌, ◌*◌, ◌<◌, ◌≤◌, length, OnOk, IsOk};
+ghost use Rattle.bitvec_order.specs.Order.{mask_start, mask_end};
+ghost use Rattle.bitvec_verify.specs.Scan.{candidate, IsLawful, is_repeated, masked, index_tests, start_tests, pair_tests, absent_tests, tests, fault_of, first_fault};
+ghost use Rattle.bitvec_verify.specs.Verified.{fault_in, Candidates, Verifies};
+
+use bitvec_order::index::{BitEnd, BitIdx, BitMask, BitPos, BitSel};
+use bitvec_order::order::{BitAt, OrderCandidate, plain_mask};
+use bitvec_mem::mem::BitRegister;
+
+/// Where a candidate is not a lawful order of a register: what it answered, and what it should have.
+///
+/// Our own: the Rust crate panics there.
+#[derive(Clone, Copy, PartialEq, Eq, Debug)]
+pub enum OrderFault<R: BitRegister> {
+    /// The selector of `index` is `got`, and two to the power of its position is `want`.
+    Select {
+        index: BitIdx<R>,
+        got: BitSel<R>,
+        want: BitSel<R>,
+    },
+    /// A lower index has the position of `index` too.
+    Repeated {
+        index: BitIdx<R>,
+        position: BitPos<R>,
+    },
+    /// The mask of `from` to before `upto` is `got`, and `want` has the positions of the indices there;
+    /// a bound that the call left out is `None`.
+    Mask {
+        from: Option<BitIdx<R>>,
+        upto: Option<BitEnd<R>>,
+        got: BitMask<R>,
+        want: BitMask<R>,
+    },
+}
+
+/// The first register where a candidate is not a lawful order, with its fault there. Our own.
+#[derive(Clone, Copy, PartialEq, Eq, Debug)]
+pub enum VerifyFault {
+    /// At `u8`.
+    U8(OrderFault<u8>),
+    /// At `u16`.
+    U16(OrderFault<u16>),
+    /// At `u32`.
+    U32(OrderFault<u32>),
+    /// At `usize`.
+    Usize(OrderFault<usize>),
+    /// At `u64`.
+    U64(OrderFault<u64>),
+}
+
+// Whether a lower index has the position of this one.
+fn is_repeated<R: BitRegister, O: OrderCandidate<R>>(index: BitIdx<R>, position: BitPos<R>) -> bool
+    requires { position ≡ O.at_of index }
+    ensures { result ≡ is_repeated O.at_of index }
+{
+    for lower in 0..index.into_inner() {
+        if O::at(BitIdx::new_unchecked(lower)) == position {
+            return true;
+        }
+    }
+    false
+}
+
+// Tests each index: its selector, and then whether a lower one has its position.
+fn verify_indices<R: BitRegister, O: OrderCandidate<R>>() -> Result<(), OrderFault<R>>
+    ensures first { let c = candidate R.BITS O.at_of O.select_of O.mask_of in
+        first_fault c (index_tests R.BITS) ≡ fault_in result }
+    ensures below { OnOk result ((i : ℕ) → i < R.BITS → O.at_of i < R.BITS) }
+{
+    for i in 0..R::BITS {
+        let index = BitIdx::new_unchecked(i);
+        let position = O::at(index);
+        let got = O::select(index);
+        let want = position.select();
+        if got.into_inner() != want.into_inner() {
+            return Err(OrderFault::Select { index, got, want });
+        }
+        if is_repeated::<R, O>(index, position) {
+            return Err(OrderFault::Repeated { index, position });
+        }
+    }
+    Ok(())
+}
+
+// Tests the mask between two bounds.
+fn verify_mask<R: BitRegister, O: OrderCandidate<R>>(
+    from: Option<BitIdx<R>>,
+    upto: Option<BitEnd<R>>,
+) -> Result<(), OrderFault<R>>
+    requires { mask_start from ≤ mask_end R.BITS upto }
+    ensures { let c = candidate R.BITS O.at_of O.select_of O.mask_of in
+        fault_of c (masked from upto) ≡ fault_in result }
+{
+    // A call moves an `Option` of a generic type, so each has a copy of its own.
+    let (start, end) = (from, upto);
+    let got = O::mask(start, end);
+    let (start, end) = (from, upto);
+    let want = plain_mask::<R, O>(start, end);
+    if got.into_inner() != want.into_inner() {
+        return Err(OrderFault::Mask {
+            from,
+            upto,
+            got,
+            want,
+        });
+    }
+    Ok(())
+}
+
+// Tests the masks from one start, to each end from there on.
+fn verify_start<R: BitRegister, O: OrderCandidate<R>>(from: BitIdx<R>) -> Result<(), OrderFault<R>>
+    ensures { let c = candidate R.BITS O.at_of O.select_of O.mask_of in
+        first_fault c (start_tests R.BITS from) ≡ fault_in result }
+{
+    for upto in from.into_inner()..=R::BITS {
+        verify_mask::<R, O>(Some(from), Some(BitEnd::new_unchecked(upto)))?;
+    }
+    Ok(())
+}
+
+// Tests the masks of each pair of present bounds.
+fn verify_pairs<R: BitRegister, O: OrderCandidate<R>>() -> Result<(), OrderFault<R>>
+    ensures { let c = candidate R.BITS O.at_of O.select_of O.mask_of in
+        first_fault c (pair_tests R.BITS) ≡ fault_in result }
+{
+    for from in 0..R::BITS {
+        verify_start::<R, O>(BitIdx::new_unchecked(from))?;
+    }
+    Ok(())
+}
+
+// Tests the masks with an absent bound.
+fn verify_absent<R: BitRegister, O: OrderCandidate<R>>() -> Result<(), OrderFault<R>>
+    ensures { let c = candidate R.BITS O.at_of O.select_of O.mask_of in
+        first_fault c (absent_tests R.BITS) ≡ fault_in result }
+{
+    verify_mask::<R, O>(None, None)?;
+    for from in 0..R::BITS {
+        verify_mask::<R, O>(Some(BitIdx::new_unchecked(from)), None)?;
+    }
+    for upto in 0..=R::BITS {
+        verify_mask::<R, O>(None, Some(BitEnd::new_unchecked(upto)))?;
+    }
+    Ok(())
+}
+
+// The whole scan.
+fn scan<R: BitRegister, O: OrderCandidate<R>>() -> Result<(), OrderFault<R>>
+    ensures first { let c = candidate R.BITS O.at_of O.select_of O.mask_of in
+        first_fault c (tests R.BITS) ≡ fault_in result }
+    ensures below { OnOk result ((i : ℕ) → i < R.BITS → O.at_of i < R.BITS) }
+{
+    verify_indices::<R, O>()?;
+    verify_pairs::<R, O>()?;
+    verify_absent::<R, O>()
+}
+
+/// Whether a candidate is a lawful order of a register: `Ok`, or the first fault of the scan.
+///
+/// The scan tests each index in rising order, first its selector and then whether a lower index has
+/// its position; then the mask of each pair of present bounds, starts in rising order and for each
+/// the ends from there to the width; then both bounds absent, an absent end for each start, and an
+/// absent start for each end. As in the Rust crate, which panics at a fault, prints on demand and
+/// tests no absent bound.
+pub fn verify_for_type<R: BitRegister, O: OrderCandidate<R>>() -> Result<(), OrderFault<R>>
+    ensures lawful { IsOk result ↔ IsLawful (candidate R.BITS O.at_of O.select_of O.mask_of) }
+    ensures first { let c = candidate R.BITS O.at_of O.select_of O.mask_of in
+        fault_in result ≡ first_fault c (tests R.BITS) }
+{
+    scan::<R, O>()
+}
+
+/// Whether a candidate is a lawful order of each register: `Ok`, or the first fault at the first
+/// register that has one.
+///
+/// The registers are scanned in the order `u8`, `u16`, `u32`, `usize`, `u64`. As in the Rust crate,
+/// which panics at a fault.
+pub fn verify<O>() -> Result<(), VerifyFault>
+where
+    O: OrderCandidate<u8>
+        + OrderCandidate<u16>
+        + OrderCandidate<u32>
+        + OrderCandidate<usize>
+        + OrderCandidate<u64>,
+    ensures { let cs : Candidates = record {
+      at_u8 = candidate 8 ⟦<O as BitAt<u8>>⟧.at_of ⟦<O as OrderCandidate<u8>>⟧.select_of ⟦<O as OrderCandidate<u8>>⟧.mask_of;
+      at_u16 = candidate 16 ⟦<O as BitAt<u16>>⟧.at_of ⟦<O as OrderCandidate<u16>>⟧.select_of ⟦<O as OrderCandidate<u16>>⟧.mask_of;
+      at_u32 = candidate 32 ⟦<O as BitAt<u32>>⟧.at_of ⟦<O as OrderCandidate<u32>>⟧.select_of ⟦<O as OrderCandidate<u32>>⟧.mask_of;
+      at_usize = candidate 64 ⟦<O as BitAt<usize>>⟧.at_of ⟦<O as OrderCandidate<usize>>⟧.select_of ⟦<O as OrderCandidate<usize>>⟧.mask_of;
+      at_u64 = candidate 64 ⟦<O as BitAt<u64>>⟧.at_of ⟦<O as OrderCandidate<u64>>⟧.select_of ⟦<O as OrderCandidate<u64>>⟧.mask_of;
+    } in
+        Verifies cs result }
+{
+    verify_for_type::<u8, O>().map_err(VerifyFault::U8)?;
+    verify_for_type::<u16, O>().map_err(VerifyFault::U16)?;
+    verify_for_type::<u32, O>().map_err(VerifyFault::U32)?;
+    verify_for_type::<usize, O>().map_err(VerifyFault::Usize)?;
+    verify_for_type::<u64, O>().map_err(VerifyFault::U64)
+}
+
+/// A law: how many tests a scan has, by the width of the register.
+///
+/// A register of 8, 16, 32 or 64 bits has 44, 152, 560 or 2,144 masks of two present bounds, and
+/// twice its width plus two with an absent bound. It takes and answers nothing; its contract is the
+/// law. Our own.
+pub fn scan_counts()
+    ensures pairs_8 { length (pair_tests 8) ≡ 44 }
+    ensures pairs_16 { length (pair_tests 16) ≡ 152 }
+    ensures pairs_32 { length (pair_tests 32) ≡ 560 }
+    ensures pairs_64 { length (pair_tests 64) ≡ 2144 }
+    ensures pairs { (width : ℕ) → 2 * length (pair_tests width) ≡ width * (width + 3) }
+    ensures absent { (width : ℕ) → length (absent_tests width) ≡ 2 * width + 2 }
+    ensures indices { (width : ℕ) → length (index_tests width) ≡ 2 * width }
+{}
+
+#[cfg(test)]
+mod tests;
