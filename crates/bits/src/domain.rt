@@ -4,13 +4,11 @@ ghost use Rattle.std.specs.Prelude.{◌^◌, ◌<◌};
 
 use crate::answer::Fault;
 use crate::names::Call;
-use crate::number::number;
+use crate::spans::{place, span_at};
 use crate::words::words_of;
 use bitvec::domain::Domain;
-use bitvec::index::BitIdx;
 use bitvec::mem::BitRegister;
 use bitvec::order::BitOrder;
-use bitvec::ptr::span::BitSpan;
 use std::alloc::{AllocError, Allocator};
 use std::fmt::Write as _;
 
@@ -32,7 +30,9 @@ impl Call for DomainCall<'_> {
         alloc: &'a A,
     ) -> Result<String<&'a A>, Fault<&'a A>> {
         let memory = words_of::<R, A>(alloc, self.words)?;
-        let span = span_of::<R, O, A>(alloc, self.start, self.len)?;
+        let start = place(self.start).ok_or(Fault::Usage)?;
+        let len = place(self.len).ok_or(Fault::Usage)?;
+        let span = span_at::<R, O, A>(alloc, start, len)?;
         if !span.fits(memory.len()) {
             return Err(Fault::line(alloc, &"span does not fit")?);
         }
@@ -84,26 +84,4 @@ fn write_item<R: BitRegister, A: Allocator>(
 ) -> Result<(), AllocError> {
     let value = value.to_u128();
     writeln!(text, "{part} {word} {value:x}")
-}
-
-// The span of `len` bits from a place on.
-fn span_of<'a, R: BitRegister, O, A: Allocator>(
-    alloc: &'a A,
-    start: &str,
-    len: &str,
-) -> Result<BitSpan<R, O>, Fault<&'a A>> {
-    let start = place(start).ok_or(Fault::Usage)?;
-    let len = place(len).ok_or(Fault::Usage)?;
-    let width = u64::from(R::BITS);
-    let head = BitIdx::new_unchecked((start % width) as u8);
-    match BitSpan::new((start / width) as isize, head, len as usize) {
-        Ok(span) => Ok(span),
-        Err(error) => Err(Fault::line(alloc, &error)?),
-    }
-}
-
-// A decimal number of 64 bits.
-fn place(text: &str) -> Option<u64> {
-    let n = number(text, 10, u64::MAX as u128)?;
-    Some(n as u64)
 }

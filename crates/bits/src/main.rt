@@ -8,6 +8,7 @@ mod hilo;
 mod mask;
 mod names;
 mod number;
+mod spans;
 #[cfg(test)]
 mod tests;
 mod verify;
