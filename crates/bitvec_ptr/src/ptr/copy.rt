@@ -1,6 +1,6 @@
 //! Copies of runs of bits, between two memories and inside one.
 
-ghost use Rattle.std.specs.Prelude.{◌≡◌, ℕ, ℤ, pos, ◌+◌, ◌-◌, ◌*◌, ◌<◌, ◌≤◌, ◌+ℤ◌, ◌≤ℤ◌, Some, true, false, length, map, slice_get, slice_set};
+ghost use Rattle.std.specs.Prelude.{◌≡◌, ⊤, ℕ, ℤ, pos, ◌+◌, ◌-◌, ◌*◌, ◌<◌, ◌≤◌, ◌+ℤ◌, ◌≤ℤ◌, Some, true, false, length, map, slice_get, slice_set};
 ghost use Rattle.std.specs.Int.{int_div_euclid};
 ghost use Rattle.bitvec_ptr.specs.BitPtr.{ptr_of};
 ghost use Rattle.bitvec_ptr.specs.Memory.{memory_bits, copied};
@@ -26,6 +26,10 @@ struct Cursor<R: BitRegister> {
 }
 
 impl<R: BitRegister> Clone for Cursor<R> {
+    ghost is_clone = { λ it copy. copy ≡ it };
+
+    ghost is_infallible = { λ _. ⊤ };
+
     fn clone(&self) -> Result<Self, AllocError> {
         Ok(*self)
     }
