@@ -1,5 +1,6 @@
 pub mod DisjointLemmas
 pub mod EditLemmas
+pub mod FillLemmas
 pub mod ItemLemmas
 pub mod LentSlices
 pub mod LoanEnds

@@ -110,6 +110,12 @@ module _ (bits : ℕ) (span : Span) where
       by_rows (λ e b f o. not (inside e b f o) ≡ false → (heads e b ≡ true) × (tails e b f o ≡ false))
       (λ e t. absurd (true_false t)) (λ e t. absurd (true_false t)) (λ e t. absurd (true_false t)) (λ e t. absurd (true_false t)) (λ e o t. (refl, refl)) (λ e o t. absurd (true_false t))
 
+  -- and no body
+  pub inside-none : is_inside bits span ≡ true → body_words bits span ≡ 0
+  inside-none =
+      by_rows (λ e b f o. inside e b f o ≡ true → met - (if heads e b then 1 else 0) - (if tails e b f o then 1 else 0) ≡ 0)
+      (λ e t. absurd (false_true t)) (λ e t. absurd (false_true t)) (λ e t. absurd (false_true t)) (λ e t. absurd (false_true t)) (λ e o t. let one = eqb-true met 1 o in omega arith) (λ e o t. absurd (false_true t))
+
   module _ {R : Type 0} (number : R → ℕ) (memory : List R) where
     head-is : slot_part (slot_at bits span 0 (nat_abs span.word)) (map number (take (nat_abs span.word + 1) memory)) ≡ part_of bits span (map number memory) 0
     head-is = part_same _ _ _ _ _ _
