@@ -8,6 +8,9 @@ ghost use Rattle.bitvec_domain.specs.Domain.{parts_of, enclave, region, is_encla
 ghost use Rattle.bitvec_domain.specs.Edit.{slot_at};
 ghost use Rattle.bitvec_domain.specs.Loans.{is_inside, has_head, has_tail, words_before, body_words, slots_of, lists_of, word_of_bit, filled_slot, filled_slot_if, filled};
 ghost use Rattle.bitvec_domain.specs.Lending.{name_of};
+ghost use Rattle.bitvec_domain.specs.EditView.{memory_of, slot_in};
+ghost use Rattle.bitvec_domain.specs.Pieces.{names_of, piece_list, piece_lists};
+ghost use Rattle.bitvec_domain.specs.LoansView.{part_name, part_slot, part_words, loan_names, loan_slots, loan_words, lent_part, lent_part_if, lent_parts, LendsDomain};
 
 use super::edit::PartialElementMut;
 use crate::lend::{Pieces, pieces_mut};
@@ -51,8 +54,6 @@ impl<'a, R: BitRegister, O> Default for DomainMut<'a, R, O> {
 }
 
 impl<'a, R: BitRegister, O> DomainMut<'a, R, O> {
-    ghost use Rattle.bitvec_domain.specs.LoansView.{part_name, part_words, loan_names, loan_words, lent_part, lent_part_if, lent_parts};
-
     /// The part of one word, where the domain is that alone.
     pub fn enclave(self) -> Option<PartialElementMut<'a, R, O>>
         ensures parts { MatchOption result
@@ -60,6 +61,7 @@ impl<'a, R: BitRegister, O> DomainMut<'a, R, O> {
             (λ part. lent_parts R.number self.entry ≡ enclave (lent_part R.number part)) }
         ensures names { IfSome result (λ part. loan_names self.entry ≡ (part_name (Some part), None, None)) }
         ensures words { IfSome result (λ part. loan_words self.entry ≡ (part_words (Some part), [], [])) }
+        ensures slots { IfSome result (λ part. loan_slots self.entry ≡ (part_slot (Some part), false, None)) }
     {
         match self {
             DomainMut::Enclave(part) => Some(part),
@@ -87,6 +89,7 @@ impl<'a, R: BitRegister, O> DomainMut<'a, R, O> {
                 ≡ region (lent_part_if R.number all.0) (map R.number all.1.now) (lent_part_if R.number all.2)) }
         ensures names { IfSome result (λ all. loan_names self.entry ≡ (part_name all.0, Some all.1.ghost_name, part_name all.2)) }
         ensures words { IfSome result (λ all. loan_words self.entry ≡ (part_words all.0, all.1.now, part_words all.2)) }
+        ensures slots { IfSome result (λ all. loan_slots self.entry ≡ (part_slot all.0, true, part_slot all.2)) }
     {
         match self {
             DomainMut::Enclave(_) => None,
@@ -97,8 +100,6 @@ impl<'a, R: BitRegister, O> DomainMut<'a, R, O> {
 
 impl<R: BitRegister, O> BitSpan<R, O> {
     ghost use Rattle.bitvec_domain.specs.BitSpan.{span_of};
-    ghost use Rattle.bitvec_domain.specs.Pieces.{names_of, piece_lists};
-    ghost use Rattle.bitvec_domain.specs.LoansView.{loan_names, loan_words, loan_slots, lent_parts, LendsDomain};
 
     // Whether the span does not begin with its first word's first bit.
     fn has_head(self) -> bool
@@ -200,10 +201,6 @@ impl<R: BitRegister, O> BitSpan<R, O> {
         self.assemble(pieces)
     }
 }
-
-ghost use Rattle.bitvec_domain.specs.EditView.{memory_of, slot_in};
-ghost use Rattle.bitvec_domain.specs.Pieces.{names_of, piece_list};
-ghost use Rattle.bitvec_domain.specs.LoansView.{part_name, part_slot, part_words, loan_names, loan_slots, loan_words};
 
 // Makes each bit of some words the same.
 fn fill_words<R: BitRegister>(words: &mut [R], bit: bool)
