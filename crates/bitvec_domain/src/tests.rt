@@ -245,15 +245,17 @@ fn writes_through_all_parts_at_once(rt: HostRuntime) -> Result<(), Fail> {
     let mut memory = [0u8; 3];
     let span: BitSpan<u8, Lsb0> = span_at(4, 16).ok_or("refused")?;
     assert!(rt; span.fits(memory.len()));
-    let domain = span.domain_mut(&mut memory);
-    let (head, body, tail) = domain.region().ok_or("an enclave")?;
-    let mut head = head.ok_or("no head")?;
-    let mut tail = tail.ok_or("no tail")?;
-    assert_eq!(rt; head.set(), 0);
-    for word in body.iter_mut() {
-        *word = 0xAA;
+    {
+        let domain = span.domain_mut(&mut memory);
+        let (head, body, tail) = domain.region().ok_or("an enclave")?;
+        let mut head = head.ok_or("no head")?;
+        let mut tail = tail.ok_or("no tail")?;
+        assert_eq!(rt; head.set(), 0);
+        for word in body.iter_mut() {
+            *word = 0xAA;
+        }
+        assert_eq!(rt; tail.store_value(0x55), 0);
     }
-    assert_eq!(rt; tail.store_value(0x55), 0);
     assert_eq!(rt; memory.as_slice(), [0xF0, 0xAA, 0x05].as_slice());
     Ok(())
 }
