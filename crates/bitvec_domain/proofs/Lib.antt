@@ -1,6 +1,7 @@
 pub mod AppendLemmas
 pub mod DisjointLemmas
 pub mod EditLemmas
+pub mod FillLemmas
 pub mod ItemLemmas
 pub mod JoinLemmas
 pub mod LentSlices

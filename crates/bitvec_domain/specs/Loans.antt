@@ -1,8 +1,8 @@
 -- The loans that the parts of a span are in a memory: the words up to the head's, those of the body, and those from the tail's on.
-use Rattle.std.specs.Prelude.{ℕ, nat_abs, ◌+◌, ◌-◌, ◌==◌, ◌&&◌, Bool, true, false, not, if◌then◌else◌, List, [], take, drop, Option, Some, None}
+use Rattle.std.specs.Prelude.{ℕ, nat_abs, ◌+◌, ◌-◌, ◌^◌, ◌==◌, ◌&&◌, Bool, true, false, not, if◌then◌else◌, List, [], ◌++◌, take, drop, replicate, slice_set, Option, Some, None}
 use Rattle.bitvec_ptr.specs.Place.{words_met, tail_of}
 use Rattle.bitvec_domain.specs.Span.{Span}
-use Rattle.bitvec_domain.specs.Edit.{Slot, slot_at}
+use Rattle.bitvec_domain.specs.Edit.{Slot, slot_at, slot_part, edited_word}
 
 -- the span has bits of one word alone, with neither its first nor its last
 abbrev pub is_inside : ℕ → Span → Bool
@@ -37,3 +37,24 @@ lists_of bits span memory =
     ( (if has_head span then take (words_before span) memory else [])
     , (if is_inside bits span then [] else take (body_words bits span) (drop (words_before span) memory))
     , (if has_tail bits span then drop (body_words bits span) (drop (words_before span) memory) else []) )
+
+-- the word whose bits are all the same
+abbrev pub word_of_bit : ℕ → Bool → ℕ
+word_of_bit bits bit = if bit then 2 ^ bits - 1 else 0
+
+-- some words with each bit of the part that lies in a slot made the same
+abbrev pub filled_slot : ℕ → (ℕ → ℕ) → Bool → Slot → List ℕ → List ℕ
+filled_slot bits at bit slot words = slice_set words slot.word (edited_word bits at (slot_part slot words) (λ i. bit))
+
+-- the same where there may be no part
+abbrev pub filled_slot_if : ℕ → (ℕ → ℕ) → Bool → Option Slot → List ℕ → List ℕ
+filled_slot_if bits at bit (Some slot) words = filled_slot bits at bit slot words
+filled_slot_if bits at bit None words = words
+
+-- a memory with each bit of a span made the same: its words up to the head's, those of the body, and those from the
+-- tail's on
+abbrev pub filled : ℕ → (ℕ → ℕ) → Bool → Span → List ℕ → List ℕ
+filled bits at bit span words =
+    filled_slot_if bits at bit (slots_of bits span).0 (take (words_before span) words)
+    ++ (replicate (body_words bits span) (word_of_bit bits bit)
+    ++ filled_slot_if bits at bit (slots_of bits span).2 (drop (body_words bits span) (drop (words_before span) words)))

@@ -1,6 +1,6 @@
 //! Spans and domains of worked examples.
 
-use crate::domain::Domain;
+use crate::domain::{Domain, DomainMut};
 use crate::ptr::span::{BitSpan, BitSpanError, SpanLimits};
 use bitvec_mem::mem::BitRegister;
 use bitvec_order::index::BitIdx;
@@ -237,5 +237,79 @@ fn is_copied_out_of_a_slice(rt: HostRuntime) -> Result<(), Fail> {
     let found = copied(&all, 0).ok_or("none")?;
     assert!(rt; found.span == span);
     assert!(rt; found.pointer == span.to_bitptr());
+    Ok(())
+}
+
+#[test]
+fn writes_through_all_parts_at_once(rt: HostRuntime) -> Result<(), Fail> {
+    let mut memory = [0u8; 3];
+    let span: BitSpan<u8, Lsb0> = span_at(4, 16).ok_or("refused")?;
+    assert!(rt; span.fits(memory.len()));
+    {
+        let domain = span.domain_mut(&mut memory);
+        let (head, body, tail) = domain.region().ok_or("an enclave")?;
+        let mut head = head.ok_or("no head")?;
+        let mut tail = tail.ok_or("no tail")?;
+        assert_eq!(rt; head.set(), 0);
+        for word in body.iter_mut() {
+            *word = 0xAA;
+        }
+        assert_eq!(rt; tail.store_value(0x55), 0);
+    }
+    assert_eq!(rt; memory.as_slice(), [0xF0, 0xAA, 0x05].as_slice());
+    Ok(())
+}
+
+#[test]
+fn lends_the_parts_of_the_span(rt: HostRuntime) -> Result<(), Fail> {
+    for (start, len, want) in [
+        (3, 5, Some((true, 0, false))),
+        (0, 5, Some((false, 0, true))),
+        (0, 8, Some((false, 1, false))),
+        (4, 16, Some((true, 1, true))),
+        (3, 0, Some((false, 0, false))),
+        (18, 4, None),
+    ] {
+        let mut memory = [0x12u8, 0x34, 0x56];
+        let span: BitSpan<u8, Lsb0> = span_at(start, len).ok_or("refused")?;
+        assert!(rt; span.fits(memory.len()), "at {start}+{len}");
+        let got = match span.domain_mut(&mut memory).region() {
+            Some((head, body, tail)) => Some((head.is_some(), body.len(), tail.is_some())),
+            None => None,
+        };
+        assert_eq!(rt; got, want, "at {start}+{len}");
+    }
+    let none: DomainMut<u8, Lsb0> = DomainMut::default();
+    assert!(rt; none.enclave().is_none());
+    Ok(())
+}
+
+#[test]
+fn writes_an_enclave(rt: HostRuntime) -> Result<(), Fail> {
+    let mut memory = [0x12u8, 0x34, 0x56];
+    let span: BitSpan<u8, Lsb0> = span_at(18, 4).ok_or("refused")?;
+    assert!(rt; span.fits(memory.len()));
+    let mut part = span.domain_mut(&mut memory).enclave().ok_or("a region")?;
+    assert_eq!(rt; part.invert(), 0x14);
+    let words = part.into_memory();
+    assert_eq!(rt; words.len(), 3);
+    assert_eq!(rt; memory.as_slice(), [0x12, 0x34, 0x6A].as_slice());
+    Ok(())
+}
+
+#[test]
+fn fills_a_span(rt: HostRuntime) -> Result<(), Fail> {
+    for (start, len, bit, want) in [
+        (4, 16, true, [0xF2u8, 0xFF, 0x5F]),
+        (4, 16, false, [0x02, 0x00, 0x50]),
+        (18, 4, true, [0x12, 0x34, 0x7E]),
+        (3, 0, true, [0x12, 0x34, 0x56]),
+    ] {
+        let mut memory = [0x12u8, 0x34, 0x56];
+        let span: BitSpan<u8, Lsb0> = span_at(start, len).ok_or("refused")?;
+        assert!(rt; span.fits(memory.len()), "at {start}+{len}");
+        span.fill(&mut memory, bit);
+        assert_eq!(rt; memory.as_slice(), want.as_slice(), "at {start}+{len}");
+    }
     Ok(())
 }

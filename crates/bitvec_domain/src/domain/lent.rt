@@ -1,12 +1,16 @@
 //! The words and parts of words that a span meets, for writing.
 
-ghost use Rattle.std.specs.Prelude.{◌≡◌, pos, ◌+◌, ◌-◌, ◌<◌, ◌≤◌, ◌≤ℤ◌, nat_abs, if◌then◌else◌, not, true, false, length, map, IfSome, MatchOption, is_some, Some, None, []};
+ghost use Rattle.std.specs.Prelude.{◌≡◌, pos, ◌+◌, ◌-◌, ◌<◌, ◌≤◌, ◌≤ℤ◌, nat_abs, if◌then◌else◌, not, true, false, length, map, IfSome, MatchOption, is_some, Some, None, [], replicate};
 ghost use Rattle.std.specs.Borrow.{sem};
 ghost use Rattle.bitvec_ptr.specs.Place.{words_met};
 ghost use Rattle.bitvec_domain.specs.Span.{Fits};
 ghost use Rattle.bitvec_domain.specs.Domain.{parts_of, enclave, region, is_enclave};
 ghost use Rattle.bitvec_domain.specs.Edit.{slot_at};
-ghost use Rattle.bitvec_domain.specs.Loans.{is_inside, has_head, has_tail, words_before, body_words, slots_of, lists_of};
+ghost use Rattle.bitvec_domain.specs.Loans.{is_inside, has_head, has_tail, words_before, body_words, slots_of, lists_of, word_of_bit, filled_slot, filled_slot_if, filled};
+ghost use Rattle.bitvec_domain.specs.Lending.{name_of};
+ghost use Rattle.bitvec_domain.specs.EditView.{memory_of, slot_in};
+ghost use Rattle.bitvec_domain.specs.Pieces.{names_of, piece_list, piece_lists};
+ghost use Rattle.bitvec_domain.specs.LoansView.{part_name, part_slot, part_words, loan_names, loan_slots, loan_words, lent_part, lent_part_if, lent_parts, LendsDomain};
 
 use super::edit::PartialElementMut;
 use crate::lend::{Pieces, pieces_mut};
@@ -50,8 +54,6 @@ impl<'a, R: BitRegister, O> Default for DomainMut<'a, R, O> {
 }
 
 impl<'a, R: BitRegister, O> DomainMut<'a, R, O> {
-    ghost use Rattle.bitvec_domain.specs.LoansView.{part_name, part_words, loan_names, loan_words, lent_part, lent_part_if, lent_parts};
-
     /// The part of one word, where the domain is that alone.
     pub fn enclave(self) -> Option<PartialElementMut<'a, R, O>>
         ensures parts { MatchOption result
@@ -59,6 +61,7 @@ impl<'a, R: BitRegister, O> DomainMut<'a, R, O> {
             (λ part. lent_parts R.number self.entry ≡ enclave (lent_part R.number part)) }
         ensures names { IfSome result (λ part. loan_names self.entry ≡ (part_name (Some part), None, None)) }
         ensures words { IfSome result (λ part. loan_words self.entry ≡ (part_words (Some part), [], [])) }
+        ensures slots { IfSome result (λ part. loan_slots self.entry ≡ (part_slot (Some part), false, None)) }
     {
         match self {
             DomainMut::Enclave(part) => Some(part),
@@ -86,6 +89,7 @@ impl<'a, R: BitRegister, O> DomainMut<'a, R, O> {
                 ≡ region (lent_part_if R.number all.0) (map R.number all.1.now) (lent_part_if R.number all.2)) }
         ensures names { IfSome result (λ all. loan_names self.entry ≡ (part_name all.0, Some all.1.ghost_name, part_name all.2)) }
         ensures words { IfSome result (λ all. loan_words self.entry ≡ (part_words all.0, all.1.now, part_words all.2)) }
+        ensures slots { IfSome result (λ all. loan_slots self.entry ≡ (part_slot all.0, true, part_slot all.2)) }
     {
         match self {
             DomainMut::Enclave(_) => None,
@@ -96,8 +100,6 @@ impl<'a, R: BitRegister, O> DomainMut<'a, R, O> {
 
 impl<R: BitRegister, O> BitSpan<R, O> {
     ghost use Rattle.bitvec_domain.specs.BitSpan.{span_of};
-    ghost use Rattle.bitvec_domain.specs.Pieces.{names_of, piece_lists};
-    ghost use Rattle.bitvec_domain.specs.LoansView.{loan_names, loan_words, loan_slots, lent_parts, LendsDomain};
 
     // Whether the span does not begin with its first word's first bit.
     fn has_head(self) -> bool
@@ -197,5 +199,94 @@ impl<R: BitRegister, O> BitSpan<R, O> {
         let tail = self.has_tail();
         let pieces = pieces_mut(memory, before, count, head, body, tail);
         self.assemble(pieces)
+    }
+}
+
+// Makes each bit of some words the same.
+fn fill_words<R: BitRegister>(words: &mut [R], bit: bool)
+    ensures { map R.number words.new ≡ replicate (length words.old) (word_of_bit R.BITS bit) }
+{
+    let word = if bit { R::ALL } else { R::ZERO };
+    let mut k = 0;
+    while k < words.len() {
+        words[k] = word;
+        k += 1;
+    }
+}
+
+// Makes each bit of a part the same, and gives the words that it borrows.
+fn fill_part<'a, R: BitRegister, O: BitOrder<R>>(
+    part: PartialElementMut<'a, R, O>,
+    bit: bool,
+) -> &'a mut [R]
+    ensures reference { result.ghost_name ≡ (memory_of part.entry).ghost_name }
+    ensures words { map R.number result.now ≡ filled_slot R.BITS O.at_of bit (slot_in part.entry) (map R.number (memory_of part.entry).now) }
+{
+    let mut part = part;
+    if bit {
+        part.set();
+    } else {
+        part.clear();
+    }
+    part.into_memory()
+}
+
+// The same of a part that may not be there.
+fn fill_part_if<'a, R: BitRegister, O: BitOrder<R>>(
+    part: Option<PartialElementMut<'a, R, O>>,
+    bit: bool,
+) -> Option<&'a mut [R]>
+    ensures reference { name_of result ≡ part_name part.entry }
+    ensures words { map R.number (piece_list result) ≡ filled_slot_if R.BITS O.at_of bit (part_slot part.entry) (map R.number (part_words part.entry)) }
+{
+    match part {
+        Some(part) => Some(fill_part(part, bit)),
+        None => None,
+    }
+}
+
+// Makes each bit of a domain the same, and gives the words that it borrows.
+fn fill_domain<'a, R: BitRegister, O: BitOrder<R>>(
+    domain: DomainMut<'a, R, O>,
+    bit: bool,
+) -> Pieces<'a, R>
+    ensures names { names_of result ≡ loan_names domain.entry }
+    ensures front { map R.number (piece_list result.front) ≡ filled_slot_if R.BITS O.at_of bit (loan_slots domain.entry).0 (map R.number (loan_words domain.entry).0) }
+    ensures body { map R.number (piece_list result.body) ≡ replicate (length (loan_words domain.entry).1) (word_of_bit R.BITS bit) }
+    ensures back { map R.number (piece_list result.back) ≡ filled_slot_if R.BITS O.at_of bit (loan_slots domain.entry).2 (map R.number (loan_words domain.entry).2) }
+{
+    match domain {
+        DomainMut::Enclave(part) => Pieces {
+            front: Some(fill_part(part, bit)),
+            body: None,
+            back: None,
+        },
+        DomainMut::Region { head, body, tail } => {
+            fill_words(body, bit);
+            let front = fill_part_if(head, bit);
+            let back = fill_part_if(tail, bit);
+            Pieces {
+                front,
+                body: Some(body),
+                back,
+            }
+        }
+    }
+}
+
+impl<R: BitRegister, O: BitOrder<R>> BitSpan<R, O> {
+    ghost use Rattle.bitvec_domain.specs.BitSpan.{span_of};
+
+    /// Makes each bit of the span in a memory the same, and leaves every other bit as it is. Our own.
+    pub fn fill(self, memory: &mut [R], bit: bool)
+        requires { Fits R.BITS (span_of self) (length memory.old) }
+        ensures { map R.number memory.new ≡ filled R.BITS O.at_of bit (span_of self) (map R.number memory.old) }
+    {
+        let domain = self.domain_mut(memory);
+        let Pieces {
+            front: _,
+            body: _,
+            back: _,
+        } = fill_domain(domain, bit);
     }
 }
