@@ -9,6 +9,6 @@ pub use bitvec_mem::mem;
 pub use bitvec_order::{index, order};
 
 pub mod laws;
-mod run;
+pub mod run;
 #[cfg(test)]
 mod tests;
