@@ -1,3 +1,5 @@
+pub mod Commands
+pub mod Run
 pub use Rattle.bitvec_mem.specs.Digit
 pub use Rattle.bitvec_mem.specs.Numeral
 pub use Rattle.bitvec_order.specs.Index

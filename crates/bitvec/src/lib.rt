@@ -10,6 +10,6 @@ pub use bitvec_order::index;
 
 pub mod laws;
 pub mod order;
-mod run;
+pub mod run;
 #[cfg(test)]
 mod tests;

@@ -1,0 +1,79 @@
+-- The pointer to a bit of a span.
+use Rattle.std.proofs.Common.{◌≡◌, ℕ, pos, negsuc, nat_abs, ◌+◌, ◌-◌, ◌*◌, ◌/◌, ◌%◌, ◌<◌, ◌≤◌, ◌+ℤ◌, ◌≤ℤ◌, sym, ◌∙◌, ap, arith, inl, inr}
+use Rattle.std.specs.Prelude.{ℤ}
+use Rattle.std.proofs.lemmas.Int.{ints}
+use Rattle.std.proofs.lemmas.Nat.{mul-le, div-add-mod', div-mul-add, mod_below}
+use Rattle.std.proofs.lemmas.Bool.{cases_eq, cases_lt}
+use Rattle.bitvec_ptr.specs.Place.{Ptr, index_of, words_met}
+use Rattle.bitvec_ptr.specs.Steps.{IsIn, RunsIn}
+use Rattle.bitvec_ptr.proofs.MemoryLemmas.{place_parts}
+use Rattle.bitvec_ptr.proofs.PlaceLemmas.{words_met-none, words_met-some}
+use Rattle.bitvec_domain.specs.Span.{Span, Fits}
+
+-- a greater number has no smaller quotient
+pub quotient_up : (a b k : ℕ) → 0 < k → a ≤ b → a / k ≤ b / k
+quotient_up a b k some h =
+    elim (cases_lt (b / k) (a / k)) [
+      | inl less ↦ absurd (
+          let row : (b / k + 1) * k ≤ a / k * k = mul-le (b / k + 1) k (a / k) k (omega arith) (omega arith) in
+          omega (arith, row, div-add-mod' a k, div-add-mod' b k, mod_below b k some))
+      | inr most ↦ most
+    ]
+
+-- the pointer to the place `i` places on from the first of a span
+abbrev pub pointer_at : ℕ → Span → ℕ → Ptr
+pointer_at bits span i = record { word = span.word +ℤ pos ((span.head + i) / bits); bit = (span.head + i) % bits }
+
+index_from : (word : ℤ) (bits head i : ℕ) → pos 0 ≤ℤ word → nat_abs (word +ℤ pos ((head + i) / bits)) * bits + (head + i) % bits ≡ nat_abs word * bits + head + i
+index_from (pos w) bits head i from = let parts = div-add-mod' (head + i) bits in omega arith
+index_from (negsuc w) bits head i from = absurd (omega (arith, ints))
+
+word_from : (word : ℤ) (q : ℕ) → pos 0 ≤ℤ word → nat_abs (word +ℤ pos q) ≡ nat_abs word + q
+word_from (pos w) q from = omega arith
+word_from (negsuc w) q from = absurd (omega (arith, ints))
+
+module _ (bits : ℕ) (span : Span) (words : ℕ) (in_head : span.head < bits) (fits : Fits bits span words) where
+  -- its place in the memory
+  pub index-pointer_at : (i : ℕ) → index_of bits (pointer_at bits span i) ≡ nat_abs span.word * bits + span.head + i
+  index-pointer_at i = index_from span.word bits span.head i fits.0
+
+  met-pointer_at : (i : ℕ) → i < span.len → (span.head + i) / bits < words_met bits span.head span.len
+  met-pointer_at i h = let up = quotient_up (span.head + i) (span.head + span.len - 1) bits (omega arith) (omega arith) in omega (arith, up, words_met-some bits span.head span.len (omega arith))
+
+  -- a bit of the span is in the memory
+  pub in-pointer_at : (i : ℕ) → i < span.len → IsIn (pointer_at bits span i) words
+  in-pointer_at i h =
+      let met = met-pointer_at i h in
+      let word = word_from span.word ((span.head + i) / bits) fits.0 in
+      (omega (arith, ints, fits.0), omega (arith, ints, fits.0, fits.1, met))
+
+  -- so is a run of its bits
+  pub runs-pointer_at : (i count : ℕ) → i + count ≤ span.len → RunsIn bits (pointer_at bits span i) words count
+  runs-pointer_at i count h =
+      let some : 0 < bits = omega arith in
+      let word = word_from span.word ((span.head + i) / bits) fits.0 in
+      let parts = div-add-mod' (span.head + i) bits in (
+        omega (arith, ints, fits.0),
+        elim (cases_eq count 0) [
+          | inl none ↦ (
+              let no_more = words_met-none bits ((span.head + i) % bits) count none in
+              elim (cases_eq i 0) [
+                | inl first ↦ (
+                    let small : span.head + i < bits = omega arith in
+                    let zero = ap (λ n. n / bits) (let same : span.head + i ≡ 0 * bits + (span.head + i) = omega arith in same) ∙ div-mul-add 0 bits (span.head + i) small in
+                    omega (arith, word, fits.1, no_more, zero))
+                | inr later ↦ (
+                    let before = met-pointer_at (i - 1) (omega arith) in
+                    let next = quotient_up (span.head + i) (1 * bits + (span.head + (i - 1))) bits some (omega arith) in
+                    let row = (place_parts 1 bits (span.head + (i - 1)) some).0 in
+                    omega (arith, word, fits.1, no_more, before, next, row))
+              ])
+          | inr more ↦ (
+              let met = words_met-some bits ((span.head + i) % bits) count (omega arith) in
+              let last = met-pointer_at (i + count - 1) (omega arith) in
+              let there = (place_parts ((span.head + i) / bits) bits ((span.head + i) % bits + count - 1) some).0 in
+              let same : (span.head + i) / bits * bits + ((span.head + i) % bits + count - 1) ≡ span.head + (i + count - 1) = omega (arith, parts) in
+              let end : (span.head + (i + count - 1)) / bits ≡ (span.head + i) / bits + ((span.head + i) % bits + count - 1) / bits = ap (λ n. n / bits) (sym same) ∙ there in
+              omega (arith, word, fits.1, met, last, end))
+        ],
+      )

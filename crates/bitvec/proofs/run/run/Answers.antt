@@ -1,0 +1,12 @@
+use Rattle.std.proofs.Common.{◌<◌, length, arith}
+use Rattle.std.proofs.lemmas.List.{take_more, take_more_set, map_push}
+use Rattle.bitvec_domain.specs.BitSpan.{span_of}
+use Rattle.bitvec.proofs.RunLemmas.{run-more}
+use Rattle.bitvec.proofs.run.run.Goals as goal
+
+pub loop-n-preserved : goal.loop-n-preserved
+loop-n-preserved g c =
+    let within : c.loop-n.n < length c.args.requests.now = omega arith in
+    let room : c.loop-n.n < length c.loop-n.replies = omega arith in
+    rw (take_more c.args.requests.now c.loop-n.n c.index-requests-n.result within, take_more_set c.loop-n.replies c.loop-n.n c.serve.result room, ← c.index-requests-n.is, map_push, map_push)
+    (run-more _ _ span_of c.args.spans.now _ _ _ _ _ _ _ c.loop-n.invariant c.serve.ensures)

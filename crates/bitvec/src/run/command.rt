@@ -1,0 +1,62 @@
+//! What is asked of a span, and what is answered.
+
+/// A command to one span. Our own.
+///
+/// A `k` counts the words that the span meets, from 0 on; a bit is named by its place in the span, from
+/// 0 to before the span's length. Which commands are refused, [`Reply::PastEnd`] says.
+#[derive(Clone, Copy, PartialEq, Eq, Debug)]
+pub enum Command<R> {
+    /// Answers the span's bits in its word `k`, each as the digit that it has there, and all others
+    /// zero.
+    Load(usize),
+    /// Puts the digits of the number in the places of the span's bits in its word `k`, and answers as
+    /// `Load` did before.
+    Store(usize, R),
+    /// Makes the span's bits in its word `k` one, and answers as `Load` did before.
+    Set(usize),
+    /// Makes the span's bits in its word `k` zero, and answers as `Load` did before.
+    Clear(usize),
+    /// Turns the span's bits in its word `k` over, and answers as `Load` did before.
+    Invert(usize),
+    /// Answers a bit.
+    Read(usize),
+    /// Writes a bit, and answers it as it was.
+    Replace(usize, bool),
+    /// Exchanges two bits.
+    Swap(usize, usize),
+    /// Copies bits inside the span, as they were before; the two runs may overlap.
+    Copy {
+        /// The first bit that is copied.
+        from: usize,
+        /// Where it is copied to.
+        to: usize,
+        /// How many bits are copied.
+        count: usize,
+    },
+}
+
+/// A command to the span of a number, from 0 on. Our own.
+#[derive(Clone, Copy, PartialEq, Eq, Debug)]
+pub struct Request<R> {
+    /// The number of the span in the list of spans.
+    pub span: usize,
+    /// What is asked of it.
+    pub command: Command<R>,
+}
+
+/// The reply to a request. Our own.
+#[derive(Clone, Copy, PartialEq, Eq, Debug)]
+pub enum Reply<R> {
+    /// A word, to `Load`, `Store`, `Set`, `Clear` and `Invert`.
+    Word(R),
+    /// A bit, to `Read` and `Replace`.
+    Bit(bool),
+    /// To `Swap` and `Copy`.
+    Done,
+    /// The command is refused and changes nothing: `k` is at least the number of words that the span
+    /// meets, a bit's place is at least the span's length, or `from + count` or `to + count`, as whole
+    /// numbers, passes the length.
+    PastEnd,
+    /// There is no span of that number, and nothing is changed.
+    NoSpan,
+}

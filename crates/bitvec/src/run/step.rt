@@ -1,0 +1,182 @@
+//! One command through one span, each with what it does to the span's list and to the whole memory.
+
+ghost use Rattle.std.specs.Prelude.{◌≡◌, ℕ, length, map};
+ghost use Rattle.bitvec_domain.specs.Span.{Fits};
+ghost use Rattle.bitvec_domain.specs.BitSpan.{span_of};
+ghost use Rattle.bitvec.specs.Commands.{command_number, reply_number};
+ghost use Rattle.bitvec.specs.Run.{IsStep};
+ghost use Rattle.bitvec.specs.declared.run.command.Command.TheVariants.{Load, Store, Set, Clear, Invert, Read, Replace, Swap, Copy};
+
+use crate::mem::BitRegister;
+use crate::order::BitOrder;
+use crate::ptr::span::BitSpan;
+use crate::run::bit::bit_pointer;
+use crate::run::command::{Command, Reply};
+use crate::run::word;
+
+// Answers the value of a word of the span.
+fn load<R: BitRegister, O: BitOrder<R>>(span: BitSpan<R, O>, memory: &[R], k: usize) -> Reply<R>
+    requires { Fits R.BITS (span_of span) (length memory.now) }
+    ensures { IsStep R.BITS O.at_of (span_of span) (map R.number memory.now) (Load k) (reply_number R.number result) (map R.number memory.now) }
+{
+    if k < span.elements() {
+        Reply::Word(span.part(memory, k).load_value())
+    } else {
+        Reply::PastEnd
+    }
+}
+
+// Puts the digits of a number in place into a word of the span.
+fn store<R: BitRegister, O: BitOrder<R>>(
+    span: BitSpan<R, O>,
+    memory: &mut [R],
+    k: usize,
+    value: R,
+) -> Reply<R>
+    requires { Fits R.BITS (span_of span) (length memory.old) }
+    ensures { IsStep R.BITS O.at_of (span_of span) (map R.number memory.old) (Store k (R.number value)) (reply_number R.number result) (map R.number memory.new) }
+{
+    if k < span.elements() {
+        Reply::Word(word::store(span, memory, k, value))
+    } else {
+        Reply::PastEnd
+    }
+}
+
+// Makes the span's bits in a word one.
+fn set<R: BitRegister, O: BitOrder<R>>(span: BitSpan<R, O>, memory: &mut [R], k: usize) -> Reply<R>
+    requires { Fits R.BITS (span_of span) (length memory.old) }
+    ensures { IsStep R.BITS O.at_of (span_of span) (map R.number memory.old) (Set k) (reply_number R.number result) (map R.number memory.new) }
+{
+    if k < span.elements() {
+        Reply::Word(word::set(span, memory, k))
+    } else {
+        Reply::PastEnd
+    }
+}
+
+// Makes the span's bits in a word zero.
+fn clear<R: BitRegister, O: BitOrder<R>>(
+    span: BitSpan<R, O>,
+    memory: &mut [R],
+    k: usize,
+) -> Reply<R>
+    requires { Fits R.BITS (span_of span) (length memory.old) }
+    ensures { IsStep R.BITS O.at_of (span_of span) (map R.number memory.old) (Clear k) (reply_number R.number result) (map R.number memory.new) }
+{
+    if k < span.elements() {
+        Reply::Word(word::clear(span, memory, k))
+    } else {
+        Reply::PastEnd
+    }
+}
+
+// Turns the span's bits in a word over.
+fn invert<R: BitRegister, O: BitOrder<R>>(
+    span: BitSpan<R, O>,
+    memory: &mut [R],
+    k: usize,
+) -> Reply<R>
+    requires { Fits R.BITS (span_of span) (length memory.old) }
+    ensures { IsStep R.BITS O.at_of (span_of span) (map R.number memory.old) (Invert k) (reply_number R.number result) (map R.number memory.new) }
+{
+    if k < span.elements() {
+        Reply::Word(word::invert(span, memory, k))
+    } else {
+        Reply::PastEnd
+    }
+}
+
+// Answers a bit of the span.
+fn read<R: BitRegister, O: BitOrder<R>>(span: BitSpan<R, O>, memory: &[R], index: usize) -> Reply<R>
+    requires { Fits R.BITS (span_of span) (length memory.now) }
+    ensures { IsStep R.BITS O.at_of (span_of span) (map R.number memory.now) (Read index) (reply_number R.number result) (map R.number memory.now) }
+{
+    if index < span.len() {
+        Reply::Bit(bit_pointer(span, index).read(memory))
+    } else {
+        Reply::PastEnd
+    }
+}
+
+// Writes a bit of the span, and answers it as it was.
+fn replace<R: BitRegister, O: BitOrder<R>>(
+    span: BitSpan<R, O>,
+    memory: &mut [R],
+    index: usize,
+    bit: bool,
+) -> Reply<R>
+    requires { Fits R.BITS (span_of span) (length memory.old) }
+    ensures { IsStep R.BITS O.at_of (span_of span) (map R.number memory.old) (Replace index bit) (reply_number R.number result) (map R.number memory.new) }
+{
+    if index < span.len() {
+        Reply::Bit(bit_pointer(span, index).replace(memory, bit))
+    } else {
+        Reply::PastEnd
+    }
+}
+
+// Exchanges two bits of the span.
+fn swap<R: BitRegister, O: BitOrder<R>>(
+    span: BitSpan<R, O>,
+    memory: &mut [R],
+    index: usize,
+    with: usize,
+) -> Reply<R>
+    requires { Fits R.BITS (span_of span) (length memory.old) }
+    ensures { IsStep R.BITS O.at_of (span_of span) (map R.number memory.old) (Swap index with) (reply_number R.number result) (map R.number memory.new) }
+{
+    let len = span.len();
+    if index < len && with < len {
+        let here = bit_pointer(span, index);
+        let there = bit_pointer(span, with);
+        here.swap_within(memory, there);
+        Reply::Done
+    } else {
+        Reply::PastEnd
+    }
+}
+
+// Copies bits inside the span.
+fn copy<R: BitRegister, O: BitOrder<R>>(
+    span: BitSpan<R, O>,
+    memory: &mut [R],
+    from: usize,
+    to: usize,
+    count: usize,
+) -> Reply<R>
+    requires { Fits R.BITS (span_of span) (length memory.old) }
+    ensures { IsStep R.BITS O.at_of (span_of span) (map R.number memory.old) (Copy from to count) (reply_number R.number result) (map R.number memory.new) }
+{
+    let len = span.len();
+    if count <= len && from <= len - count && to <= len - count {
+        let source = bit_pointer(span, from);
+        let target = bit_pointer(span, to);
+        source.copy_within(memory, target, count);
+        Reply::Done
+    } else {
+        Reply::PastEnd
+    }
+}
+
+// Gives a span one command.
+pub(crate) fn step<R: BitRegister, O: BitOrder<R>>(
+    span: BitSpan<R, O>,
+    memory: &mut [R],
+    command: Command<R>,
+) -> Reply<R>
+    requires { Fits R.BITS (span_of span) (length memory.old) }
+    ensures { IsStep R.BITS O.at_of (span_of span) (map R.number memory.old) (command_number R.number command) (reply_number R.number result) (map R.number memory.new) }
+{
+    match command {
+        Command::Load(k) => load(span, memory, k),
+        Command::Store(k, value) => store(span, memory, k, value),
+        Command::Set(k) => set(span, memory, k),
+        Command::Clear(k) => clear(span, memory, k),
+        Command::Invert(k) => invert(span, memory, k),
+        Command::Read(index) => read(span, memory, index),
+        Command::Replace(index, bit) => replace(span, memory, index, bit),
+        Command::Swap(index, with) => swap(span, memory, index, with),
+        Command::Copy { from, to, count } => copy(span, memory, from, to, count),
+    }
+}
