@@ -4,6 +4,7 @@ ghost use Rattle.std.specs.Prelude.{◌≡◌, ◌⊎◌};
 
 use crate::domain::DomainCall;
 use crate::mask::MaskCall;
+use crate::run::RunCall;
 use crate::{names, verify};
 use std::alloc::{AllocError, Allocator};
 use std::fmt::{self, Write as _};
@@ -85,6 +86,14 @@ fn text<'a, A: Allocator>(alloc: &'a A, args: &[String]) -> Result<String<&'a A>
             let call = MaskCall {
                 from: from.as_str(),
                 upto: upto.as_str(),
+            };
+            names::text(alloc, order.as_str(), register.as_str(), &call)
+        }
+        [call, order, register, words, spans, commands] if call.as_str() == "run" => {
+            let call = RunCall {
+                words: words.as_str(),
+                spans: spans.as_str(),
+                commands: commands.as_str(),
             };
             names::text(alloc, order.as_str(), register.as_str(), &call)
         }

@@ -8,6 +8,7 @@ mod hilo;
 mod mask;
 mod names;
 mod number;
+mod run;
 mod spans;
 #[cfg(test)]
 mod tests;
@@ -19,11 +20,11 @@ use std::io;
 use std::process::ExitCode;
 
 fn main(rt: HostRuntime) -> ExitCode {
-    ExitCode::from(run(&rt))
+    ExitCode::from(status(&rt))
 }
 
 // The exit status. Arguments that cannot be read are answered as want of memory is.
-fn run<R: Env + AllocGlobal + Print>(rt: &R) -> u8 {
+fn status<R: Env + AllocGlobal + Print>(rt: &R) -> u8 {
     let alloc = rt.alloc();
     let mut out = io::writer(rt);
     let Ok(all) = env::args(rt) else {

@@ -133,6 +133,25 @@ fn answers(rt: HostRuntime) -> Result<(), Fail> {
             0,
             "u8 mask - 8 got 00000000 want 11111111\n",
         ),
+        (
+            "run lsb0 u8 0,0 2+4,6+4 1:store:0:ff,0:invert:0,1:store:1:55,0:load:0,1:swap:0:3,0:load:1,1:read:4,1:copy:18446744073709551615:0:2,2:load:0",
+            0,
+            "word 0\nword 0\nword 0\nword 3c\ndone\npast end\npast end\npast end\nno span\nmemory bc,3\n",
+        ),
+        (
+            "run hilo u8 0 0+4,4+4 0:set:0,1:store:0:33,0:load:0,1:read:0,1:read:2",
+            0,
+            "word 0\nword 0\nword f0\nbit 1\nbit 0\nmemory f3\n",
+        ),
+        ("run lsb0 u8 - - -", 0, "memory -\n"),
+        ("run lsb0 u8 0 0+4,3+4 -", 2, "fault: spans overlap\n"),
+        ("run lsb0 u8 0 0+9 -", 2, "fault: span does not fit\n"),
+        ("run lsb0 u8 0 0+4 0:clear:0,0:copy:4:0:0", 0, "word 0\ndone\nmemory 0\n"),
+        ("run lsb0 u8 0 0+4 0:load", 2, USAGE),
+        ("run lsb0 u8 0 0+4 0:replace:0:2", 2, USAGE),
+        ("run lsb0 u8 0 0+4 0:store:0:100", 2, USAGE),
+        ("run lsb0 u8 0 0:4 -", 2, USAGE),
+        ("run lsb0 u8 0 0+4 :", 2, USAGE),
         ("verify good", 2, USAGE),
         ("verify", 2, USAGE),
         ("", 2, USAGE),
@@ -152,6 +171,23 @@ fn answers(rt: HostRuntime) -> Result<(), Fail> {
         assert_eq!(rt; answer(&rt.alloc(), &args, &mut out), status, "at {line}");
         assert_eq!(rt; out.taken.as_slice(), want.as_bytes(), "at {line}");
         assert_eq!(rt; out.flushes, 1, "at {line}");
+    }
+    Ok(())
+}
+
+// The commands that make bits 0, 1, 2 and 3 of four nibbles one.
+const NIBBLES: &str =
+    "u8 0,0 0+4,4+4,8+4,12+4 0:replace:0:1,1:replace:1:1,2:replace:2:1,3:replace:3:1";
+
+#[test]
+fn writes_four_nibbles(rt: HostRuntime) -> Result<(), Fail> {
+    for (order, memory) in [("lsb0", "21,84"), ("msb0", "84,21"), ("hilo", "12,48")] {
+        let line = format!(in rt.alloc(); "run {order} {NIBBLES}")?;
+        let want = format!(in rt.alloc(); "bit 0\nbit 0\nbit 0\nbit 0\nmemory {memory}\n")?;
+        let args = words(rt.alloc(), line.as_str())?;
+        let mut out = Slow::new(rt.alloc(), 7, 1000);
+        assert_eq!(rt; answer(&rt.alloc(), &args, &mut out), 0, "by {order}");
+        assert_eq!(rt; out.taken.as_slice(), want.as_bytes(), "by {order}");
     }
     Ok(())
 }

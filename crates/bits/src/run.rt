@@ -1,0 +1,198 @@
+//! The lines of `bits run`: commands through disjoint spans of one memory.
+
+use crate::answer::Fault;
+use crate::names::Call;
+use crate::number::number;
+use crate::spans::{place, span_at};
+use crate::words::words_of;
+use bitvec::mem::BitRegister;
+use bitvec::order::BitOrder;
+use bitvec::ptr::span::BitSpan;
+use bitvec::run::{Command, Reply, Request, can_run, run};
+use std::alloc::{AllocError, Allocator};
+use std::fmt::Write as _;
+
+/// The call `bits run` with its words, spans and commands.
+#[derive(Clone, Copy)]
+pub struct RunCall<'a> {
+    /// The memory.
+    pub words: &'a str,
+    /// The spans, as their first places and lengths.
+    pub spans: &'a str,
+    /// The commands, each with the number of its span.
+    pub commands: &'a str,
+}
+
+impl Call for RunCall<'_> {
+    // One line a reply, and the memory.
+    fn text<'a, R: BitRegister, O: BitOrder<R>, A: Allocator>(
+        &self,
+        alloc: &'a A,
+    ) -> Result<String<&'a A>, Fault<&'a A>> {
+        let mut memory = words_of::<R, A>(alloc, self.words)?;
+        let places = places_of(alloc, self.spans)?;
+        let requests = requests_of::<R, A>(alloc, self.commands)?;
+        let spans = spans_of::<R, O, A>(alloc, &places)?;
+        if !spans.iter().all(|span| span.fits(memory.len())) {
+            return Err(Fault::line(alloc, &"span does not fit")?);
+        }
+        if !can_run(&spans, memory.len()) {
+            return Err(Fault::line(alloc, &"spans overlap")?);
+        }
+        let mut replies = no_replies::<R, A>(alloc, requests.len())?;
+        run(&spans, &mut memory, &requests, &mut replies);
+        let mut text = String::new(alloc);
+        write_replies(&mut text, &replies)?;
+        write_memory(&mut text, &memory)?;
+        Ok(text)
+    }
+}
+
+// A comma list of places and lengths with a plus sign between them, or `-` for none.
+fn places_of<'a, A: Allocator>(
+    alloc: &'a A,
+    text: &str,
+) -> Result<Vec<(u64, u64), &'a A>, Fault<&'a A>> {
+    let mut all = Vec::new(alloc);
+    if text == "-" {
+        return Ok(all);
+    }
+    for pair in text.split(',') {
+        let (start, len) = pair.split_once('+').ok_or(Fault::Usage)?;
+        let start = place(start).ok_or(Fault::Usage)?;
+        let len = place(len).ok_or(Fault::Usage)?;
+        all.push((start, len)).map_err(AllocError::from)?;
+    }
+    Ok(all)
+}
+
+// The spans of these places and lengths; the fault is of the first that is refused.
+fn spans_of<'a, R: BitRegister, O: BitOrder<R>, A: Allocator>(
+    alloc: &'a A,
+    places: &[(u64, u64)],
+) -> Result<Vec<BitSpan<R, O>, &'a A>, Fault<&'a A>> {
+    let mut spans = Vec::new(alloc);
+    for (start, len) in places {
+        let span = span_at::<R, O, A>(alloc, *start, *len)?;
+        spans.push(span).map_err(AllocError::from)?;
+    }
+    Ok(spans)
+}
+
+// A comma list of commands, or `-` for none.
+fn requests_of<'a, R: BitRegister, A: Allocator>(
+    alloc: &'a A,
+    text: &str,
+) -> Result<Vec<Request<R>, &'a A>, Fault<&'a A>> {
+    let mut all = Vec::new(alloc);
+    if text == "-" {
+        return Ok(all);
+    }
+    for text in text.split(',') {
+        let mut words = Vec::new(alloc);
+        for word in text.split(':') {
+            words.push(word).map_err(AllocError::from)?;
+        }
+        let request = request(&words).ok_or(Fault::Usage)?;
+        all.push(request).map_err(AllocError::from)?;
+    }
+    Ok(all)
+}
+
+// The number of a span and its command, from the words between the colons.
+fn request<R: BitRegister>(words: &[&str]) -> Option<Request<R>> {
+    let [span, name, rest @ ..] = words else {
+        return None;
+    };
+    let span = count(span)?;
+    let command = command(name, rest)?;
+    Some(Request { span, command })
+}
+
+// The command of a name with its numbers.
+fn command<R: BitRegister>(name: &str, words: &[&str]) -> Option<Command<R>> {
+    match words {
+        [k] => one_number(name, count(k)?),
+        [k, value] if name == "store" => {
+            let value = R::from_u128(number(value, 16, u128::MAX)?)?;
+            Some(Command::Store(count(k)?, value))
+        }
+        [i, bit] if name == "replace" => match number(bit, 10, 1)? {
+            0 => Some(Command::Replace(count(i)?, false)),
+            _ => Some(Command::Replace(count(i)?, true)),
+        },
+        [i, j] if name == "swap" => Some(Command::Swap(count(i)?, count(j)?)),
+        [from, to, len] if name == "copy" => Some(Command::Copy {
+            from: count(from)?,
+            to: count(to)?,
+            count: count(len)?,
+        }),
+        _ => None,
+    }
+}
+
+// The command of a name with one number.
+fn one_number<R: BitRegister>(name: &str, n: usize) -> Option<Command<R>> {
+    match name {
+        "load" => Some(Command::Load(n)),
+        "set" => Some(Command::Set(n)),
+        "clear" => Some(Command::Clear(n)),
+        "invert" => Some(Command::Invert(n)),
+        "read" => Some(Command::Read(n)),
+        _ => None,
+    }
+}
+
+// A decimal number of 64 bits, as a number of bits or words.
+fn count(text: &str) -> Option<usize> {
+    Some(place(text)? as usize)
+}
+
+// As many replies as requests, for the run to write.
+fn no_replies<'a, R: BitRegister, A: Allocator>(
+    alloc: &'a A,
+    count: usize,
+) -> Result<Vec<Reply<R>, &'a A>, Fault<&'a A>> {
+    let mut replies = Vec::new(alloc);
+    for _ in 0..count {
+        replies.push(Reply::NoSpan).map_err(AllocError::from)?;
+    }
+    Ok(replies)
+}
+
+// Writes a line a reply.
+fn write_replies<R: BitRegister, A: Allocator>(
+    text: &mut String<A>,
+    replies: &[Reply<R>],
+) -> Result<(), AllocError> {
+    for reply in replies {
+        match *reply {
+            Reply::Word(word) => {
+                let word = word.to_u128();
+                writeln!(text, "word {word:x}")?;
+            }
+            Reply::Bit(bit) => writeln!(text, "bit {}", u8::from(bit))?,
+            Reply::Done => writeln!(text, "done")?,
+            Reply::PastEnd => writeln!(text, "past end")?,
+            Reply::NoSpan => writeln!(text, "no span")?,
+        }
+    }
+    Ok(())
+}
+
+// Writes the line of the memory: its words in hexadecimal with commas between them, or `-`.
+fn write_memory<R: BitRegister, A: Allocator>(
+    text: &mut String<A>,
+    memory: &[R],
+) -> Result<(), AllocError> {
+    if memory.is_empty() {
+        return writeln!(text, "memory -");
+    }
+    let mut before = "memory ";
+    for word in memory {
+        let word = word.to_u128();
+        write!(text, "{before}{word:x}")?;
+        before = ",";
+    }
+    writeln!(text)
+}
