@@ -1,3 +1,4 @@
+pub mod BitLoansView
 pub mod BitSpan
 pub mod Domain
 pub mod DomainView

@@ -83,7 +83,7 @@ impl<'a, R: BitRegister, O> DomainMut<'a, R, O> {
         ensures parts { MatchOption result
             (is_enclave (lent_parts R.number self.entry) ≡ true)
             (λ all. lent_parts R.number self.entry
-                ≡ region (lent_part_if R.number all.0) (map R.number all.1.now) (lent_part_if R.number all.2)) }
+            ≡ region (lent_part_if R.number all.0) (map R.number all.1.now) (lent_part_if R.number all.2)) }
         ensures names { IfSome result (λ all. loan_names self.entry ≡ (part_name all.0, Some all.1.ghost_name, part_name all.2)) }
         ensures words { IfSome result (λ all. loan_words self.entry ≡ (part_words all.0, all.1.now, part_words all.2)) }
     {
@@ -156,8 +156,11 @@ impl<R: BitRegister, O> BitSpan<R, O> {
         ensures names { loan_names result ≡ names_of pieces.entry }
         ensures words { loan_words result ≡ piece_lists pieces.entry }
         ensures slots { loan_slots result
-            ≡ ((if is_some pieces.entry.front then Some (slot_at R.BITS (span_of self) 0 (nat_abs (span_of self).word)) else None), is_some pieces.entry.body,
-            (if is_some pieces.entry.back then Some (slot_at R.BITS (span_of self) (words_met R.BITS (span_of self).head (span_of self).len - 1) 0) else None)) }
+            ≡ (
+              (if is_some pieces.entry.front then Some (slot_at R.BITS (span_of self) 0 (nat_abs (span_of self).word)) else None),
+              is_some pieces.entry.body,
+              (if is_some pieces.entry.back then Some (slot_at R.BITS (span_of self) (words_met R.BITS (span_of self).head (span_of self).len - 1) 0) else None),
+            ) }
     {
         let Pieces { front, body, back } = pieces;
         let head = match front {
