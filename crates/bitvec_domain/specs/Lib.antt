@@ -1,3 +1,4 @@
+pub mod BitLoans
 pub mod BitLoansView
 pub mod BitSpan
 pub mod Domain

@@ -1,11 +1,16 @@
 //! The bits of a span by the words in which they lie, for writing.
 
-ghost use Rattle.std.specs.Prelude.{◌≡◌, true, false, MatchOption, IfSome, Some, None, []};
-ghost use Rattle.bitvec_domain.specs.Words.{bit_enclave, bit_region, is_bit_enclave};
+ghost use Rattle.std.specs.Prelude.{◌≡◌, ◌/◌, ◌≤◌, true, false, if◌then◌else◌, MatchOption, IfSome, Some, None, is_some, [], length, map};
+ghost use Rattle.bitvec_domain.specs.Span.{region_max_bits};
+ghost use Rattle.bitvec_domain.specs.Domain.{HasShortBody};
+ghost use Rattle.bitvec_domain.specs.Words.{optional_bits, body_bits, bit_enclave, bit_region, bit_parts_of, is_bit_enclave};
+ghost use Rattle.bitvec_domain.specs.WordsMut.{slot_stretch_if, whole_stretch};
+ghost use Rattle.bitvec_domain.specs.BitLoans.{names_if, places_of};
 
-use crate::domain::BitWordsMut;
+use crate::domain::{BitWordsMut, DomainMut, PartialElementMut};
 use bitvec_mem::mem::BitRegister;
 use bitvec_order::order::Lsb0;
+use std::marker::PhantomData;
 
 /// The bits that a span has in the words of a memory borrowed for writing: one run of them, or those
 /// of a head, of whole words and of a tail.
@@ -88,6 +93,74 @@ impl<'a, R: BitRegister, O> BitDomainMut<'a, R, O> {
         match self {
             BitDomainMut::Enclave(_) => None,
             BitDomainMut::Region { head, body, tail } => Some((head, body, tail)),
+        }
+    }
+}
+
+impl<'a, R: BitRegister, O> BitWordsMut<'a, R, O> {
+    ghost use Rattle.bitvec_domain.specs.WordsMutView.{words_memory, stretch_in};
+    ghost use Rattle.bitvec_domain.specs.LoansView.{part_name, part_words, part_slot, lent_part_if};
+    ghost use Rattle.bitvec_domain.specs.BitLoansView.{run_bits};
+
+    // The bits of a part, or none.
+    fn of_part(part: Option<PartialElementMut<'a, R, O>>) -> Self
+        ensures name { (if is_some (part_name part.entry) then Some (words_memory result).ghost_name else None) ≡ part_name part.entry }
+        ensures words { (words_memory result).now ≡ part_words part.entry }
+        ensures place { stretch_in result ≡ slot_stretch_if (part_slot part.entry) }
+        ensures bits { run_bits R.number result ≡ optional_bits (lent_part_if R.number part.entry) }
+    {
+        let run = match part {
+            Some(part) => Some(part.into_bitslice()),
+            None => None,
+        };
+        run.unwrap_or_default()
+    }
+
+    // All bits of whole words.
+    fn of_body(body: &'a mut [R]) -> Self
+        requires { length body.old ≤ region_max_bits / R.BITS }
+        ensures name { (words_memory result).ghost_name ≡ body.entry.ghost_name }
+        ensures words { (words_memory result).now ≡ body.old }
+        ensures place { stretch_in result ≡ whole_stretch R.BITS (length body.old) }
+        ensures bits { run_bits R.number result ≡ body_bits R.BITS (map R.number body.old) }
+    {
+        let count = body.len();
+        BitWordsMut {
+            memory: body,
+            first: 0,
+            count,
+            head: 0,
+            len: count * usize::from(R::BITS),
+            order: PhantomData,
+        }
+    }
+}
+
+impl<'a, R: BitRegister, O> DomainMut<'a, R, O> {
+    ghost use Rattle.bitvec_domain.specs.LoansView.{loan_names, loan_words, loan_slots, lent_parts};
+    ghost use Rattle.bitvec_domain.specs.BitLoansView.{lent_bits, run_names, run_places, run_words};
+
+    /// The bits of the parts: each part's as its
+    /// [`into_bitslice`](PartialElementMut::into_bitslice) has them, and all bits of the body.
+    ///
+    /// Each run has the loan of its part, and lies in it where the part does; an absent part is a
+    /// run without bits. It asks a body that is no longer than one span's can be, as each from
+    /// [`domain_mut`](BitSpan::domain_mut) is. Our own, for the Rust crate's `into_bit_domain` over a
+    /// mutable memory.
+    pub fn into_bit_domain(self) -> BitDomainMut<'a, R, O>
+        requires { HasShortBody R.BITS (lent_parts R.number self) }
+        ensures bits { lent_bits R.number result ≡ bit_parts_of R.BITS (lent_parts R.number self.entry) }
+        ensures names { names_if (is_some (loan_names self.entry).0) (is_some (loan_names self.entry).2) (run_names result) ≡ loan_names self.entry }
+        ensures places { run_places result ≡ places_of R.BITS (loan_slots self.entry) (length (loan_words self.entry).1) }
+        ensures words { run_words result ≡ loan_words self.entry }
+    {
+        match self {
+            DomainMut::Enclave(part) => BitDomainMut::Enclave(part.into_bitslice()),
+            DomainMut::Region { head, body, tail } => BitDomainMut::Region {
+                head: BitWordsMut::of_part(head),
+                body: BitWordsMut::of_body(body),
+                tail: BitWordsMut::of_part(tail),
+            },
         }
     }
 }
