@@ -1,9 +1,11 @@
 -- What a `BitDomainMut` shows.
-use Rattle.std.specs.Prelude.{ℕ, List, [], Option, Some, None, map}
-use Rattle.std.specs.Borrow.{GName}
+use Rattle.std.specs.Prelude.{ℕ, Bool, List, [], Option, Some, None, map}
+use Rattle.std.specs.Borrow.{Fml, GName, RattleType, MutBor}
 use Rattle.bitvec_domain.specs.declared.domain.words_mut.BitWordsMut.{BitWordsMut}
 use Rattle.bitvec_domain.specs.declared.domain.bits_lent.BitDomainMut.{BitDomainMut}
 use Rattle.bitvec_domain.specs.declared.domain.bits_lent.BitDomainMut.TheVariants.{Enclave, Region}
+use Rattle.bitvec_domain.specs.Lending.{LendsNamed}
+use Rattle.bitvec_domain.specs.BitLoans.{names_if}
 use Rattle.bitvec_domain.specs.Words.{WordBits, BitParts, bit_enclave, bit_region}
 use Rattle.bitvec_domain.specs.WordsMut.{Stretch, stretch_bits}
 use Rattle.bitvec_domain.specs.WordsMutView.{words_memory, stretch_in}
@@ -31,3 +33,7 @@ run_places (Region head body tail) = (stretch_in head, Some (stretch_in body, st
 abbrev pub run_words : {R O : Type 0} {a b c d e f g : _} → BitDomainMut R O a b c d e f g → List R × List R × List R
 run_words (Enclave run) = ((words_memory run).now, [], [])
 run_words (Region head body tail) = ((words_memory head).now, (words_memory body).now, (words_memory tail).now)
+
+-- s ends as the last words behind the loans of the domain's runs, one behind the other, and where there is no head or no tail its words are as they were
+abbrev pub LendsBits : (R : RattleType) {O : Type 0} {a b c d e f g : _} → MutBor (List R.Denot) → ℕ → ℕ → Bool → Bool → BitDomainMut R.Denot O a b c d e f g → Fml
+LendsBits R s i n head tail domain = LendsNamed R s i n (names_if head tail (run_names domain))

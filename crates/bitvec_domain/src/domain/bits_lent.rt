@@ -1,13 +1,16 @@
 //! The bits of a span by the words in which they lie, for writing.
 
 ghost use Rattle.std.specs.Prelude.{◌≡◌, ◌/◌, ◌≤◌, true, false, if◌then◌else◌, MatchOption, IfSome, Some, None, is_some, [], length, map};
-ghost use Rattle.bitvec_domain.specs.Span.{region_max_bits};
-ghost use Rattle.bitvec_domain.specs.Domain.{HasShortBody};
+ghost use Rattle.std.specs.Borrow.{sem};
+ghost use Rattle.bitvec_domain.specs.Span.{region_max_bits, Fits};
+ghost use Rattle.bitvec_domain.specs.Domain.{HasShortBody, parts_of};
+ghost use Rattle.bitvec_domain.specs.Loans.{has_head, has_tail, words_before, body_words, slots_of, lists_of};
 ghost use Rattle.bitvec_domain.specs.Words.{optional_bits, body_bits, bit_enclave, bit_region, bit_parts_of, is_bit_enclave};
 ghost use Rattle.bitvec_domain.specs.WordsMut.{slot_stretch_if, whole_stretch};
 ghost use Rattle.bitvec_domain.specs.BitLoans.{names_if, places_of};
 
 use crate::domain::{BitWordsMut, DomainMut, PartialElementMut};
+use crate::ptr::span::BitSpan;
 use bitvec_mem::mem::BitRegister;
 use bitvec_order::order::Lsb0;
 use std::marker::PhantomData;
@@ -162,5 +165,28 @@ impl<'a, R: BitRegister, O> DomainMut<'a, R, O> {
                 tail: BitWordsMut::of_part(tail),
             },
         }
+    }
+}
+
+impl<R: BitRegister, O> BitSpan<R, O> {
+    ghost use Rattle.bitvec_domain.specs.BitSpan.{span_of};
+    ghost use Rattle.bitvec_domain.specs.BitLoansView.{lent_bits, run_places, run_words, LendsBits};
+
+    /// The bits of the span in a memory, by the words in which they lie, each run for writing, all
+    /// at once.
+    ///
+    /// They are those of [`bit_domain`](BitSpan::bit_domain). When the loans end, the memory is the
+    /// last words of the head's loan, of the body's and of the tail's, one behind the other; the
+    /// words of an absent part are as before. The loans are those of
+    /// [`domain_mut`](BitSpan::domain_mut). It asks that the span lies within the memory. Our own,
+    /// for the Rust crate's `bit_domain_mut`.
+    pub fn bit_domain_mut<'a>(self, memory: &'a mut [R]) -> BitDomainMut<'a, R, O>
+        requires { Fits R.BITS (span_of self) (length memory.old) }
+        ensures* ends { sem 𝓛 (LendsBits R.row memory.entry (words_before (span_of self)) (body_words R.BITS (span_of self)) (has_head (span_of self)) (has_tail R.BITS (span_of self)) result) }
+        ensures bits { lent_bits R.number result ≡ bit_parts_of R.BITS (parts_of R.BITS (span_of self) (map R.number memory.old)) }
+        ensures places { run_places result ≡ places_of R.BITS (slots_of R.BITS (span_of self)) (body_words R.BITS (span_of self)) }
+        ensures words { run_words result ≡ lists_of R.BITS (span_of self) memory.old }
+    {
+        self.domain_mut(memory).into_bit_domain()
     }
 }

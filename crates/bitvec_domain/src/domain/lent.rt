@@ -4,7 +4,7 @@ ghost use Rattle.std.specs.Prelude.{◌≡◌, pos, ◌+◌, ◌-◌, ◌<◌, �
 ghost use Rattle.std.specs.Borrow.{sem};
 ghost use Rattle.bitvec_ptr.specs.Place.{words_met};
 ghost use Rattle.bitvec_domain.specs.Span.{Fits};
-ghost use Rattle.bitvec_domain.specs.Domain.{parts_of, enclave, region, is_enclave};
+ghost use Rattle.bitvec_domain.specs.Domain.{parts_of, enclave, region, is_enclave, HasShortBody};
 ghost use Rattle.bitvec_domain.specs.Edit.{slot_at};
 ghost use Rattle.bitvec_domain.specs.Loans.{is_inside, has_head, has_tail, words_before, body_words, slots_of, lists_of};
 
@@ -192,6 +192,7 @@ impl<R: BitRegister, O> BitSpan<R, O> {
         ensures parts { lent_parts R.number result ≡ parts_of R.BITS (span_of self) (map R.number memory.old) }
         ensures slots { loan_slots result ≡ slots_of R.BITS (span_of self) }
         ensures words { loan_words result ≡ lists_of R.BITS (span_of self) memory.old }
+        ensures short { HasShortBody R.BITS (lent_parts R.number result) }
     {
         let before = self.words_before();
         let count = self.body_words();

@@ -34,13 +34,15 @@ use denote.Triple.Walked.{Stays, stay_dropped, walk_of, Goes-dropped, Goes-spent
 use Rattle.bitvec_ptr.specs.Place.{words_met}
 use Rattle.bitvec_domain.specs.Span.{Span, Fits}
 use Rattle.bitvec_domain.specs.BitSpan.{span_of}
-use Rattle.bitvec_domain.specs.Domain.{parts_of}
+use Rattle.bitvec_domain.specs.Domain.{parts_of, HasShortBody}
 use Rattle.bitvec_domain.specs.Edit.{Slot, slot_at}
 use Rattle.bitvec_domain.specs.Lending.{LendsNamed, name_of}
 use Rattle.bitvec_domain.specs.Pieces.{names_of, piece_lists}
 use Rattle.bitvec_domain.specs.Loans.{is_inside, has_head, has_tail, words_before, body_words, slots_of, lists_of}
 use Rattle.bitvec_domain.specs.LoansView.{loan_names, loan_words, loan_slots, lent_parts}
 use Rattle.bitvec_domain.proofs.LoanLemmas.{loans-within, head-within, tail-within, inside-alone, lent_parts-of, loan_has, listed_if, listed_unless}
+use Rattle.bitvec_domain.proofs.ItemLemmas.{short-words_of}
+use Rattle.bitvec_ptr.proofs.PlaceOrder.{bit_below}
 use Rattle.bitvec_domain.specs.contracts.ptr.span.BitSpan as S
 use Rattle.bitvec_domain.proofs.ptr.span.BitSpan.TheLaws.{the_told as span_told, the_row_laws as span_laws, the_plain as span_plain}
 use Rattle.bitvec_domain.specs.contracts.lend.Pieces as P
@@ -187,7 +189,8 @@ domain_mut_spec 𝓤 𝓛 𝓜 𝓡 wired X O L LO copy rb rbd rc rcd rd rdd re 
     let words : loan_words e ≡ lists_of rb.BITS span xs = listed ∙ (λ k. (l0 k, l1 k, l2 k)) in
     let slots : loan_slots e ≡ slots_of rb.BITS span = slotted ∙ (λ k. ((if fr.0 k then Some (slot_at rb.BITS span 0 (nat_abs span.word)) else None), bo.0 k, (if ba.0 k then Some (slot_at rb.BITS span (words_met rb.BITS span.head span.len - 1) 0) else None))) in
     let parts : lent_parts rb.number e ≡ parts_of rb.BITS span (map rb.number xs) = lent_parts-of rb.BITS span rb.number xs e slots words in
-    use0 𝓛 (raw (fact 𝓤 (loan_words e ≡ lists_of rb.BITS span xs))) (fact_i 𝓤 _ (emp 𝓤) words) $ use0 𝓛 (raw (fact 𝓤 (loan_slots e ≡ slots_of rb.BITS span))) (fact_i 𝓤 _ (emp 𝓤) slots) $ join ! $
+    let short : HasShortBody rb.BITS (lent_parts rb.number e) = short-words_of rb.BITS (λ k. k) span rb.number xs (lent_parts rb.number e) (bit_below rb.BITS s.head m1.eight_law s.in_word) s.short fits parts in
+    use0 𝓛 (raw (fact 𝓤 (HasShortBody rb.BITS (lent_parts rb.number e)))) (fact_i 𝓤 _ (emp 𝓤) short) $ use0 𝓛 (raw (fact 𝓤 (loan_words e ≡ lists_of rb.BITS span xs))) (fact_i 𝓤 _ (emp 𝓤) words) $ join ! $ use0 𝓛 (raw (fact 𝓤 (loan_slots e ≡ slots_of rb.BITS span))) (fact_i 𝓤 _ (emp 𝓤) slots) $ join ! $
     use0 𝓛 (raw (fact 𝓤 (lent_parts rb.number e ≡ parts_of rb.BITS span (map rb.number xs)))) (fact_i 𝓤 _ (emp 𝓤) parts) $ join ! $ move ! (3 ∷ 0 ∷ []) $ join ! $
     -- [the `ensures`; the domain; the tokens]
     nothing ! $ nothing ! $ fjoin ! $ nothing ! $ fjoin ! $ keep ! (3 ∷ 0 ∷ 2 ∷ 1 ∷ []) $
