@@ -8,6 +8,7 @@ pub mod LentSlices
 pub mod LoanEnds
 pub mod LoanLemmas
 pub mod PartLemmas
+pub mod RunLemmas
 pub mod SameSpans
 pub mod SliceLemmas
 pub mod TextLemmas

@@ -1,3 +1,5 @@
+pub mod BitLoans
+pub mod BitLoansView
 pub mod BitSpan
 pub mod Domain
 pub mod DomainView

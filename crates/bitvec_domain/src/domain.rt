@@ -14,6 +14,7 @@ use std::alloc::AllocError;
 use std::iter::FusedIterator;
 use std::marker::PhantomData;
 
+mod bits_lent;
 mod edit;
 mod lent;
 #[cfg(test)]
@@ -22,6 +23,7 @@ mod text;
 mod words;
 mod words_mut;
 
+pub use self::bits_lent::BitDomainMut;
 pub use self::edit::PartialElementMut;
 pub use self::lent::DomainMut;
 pub use self::words::{BitDomain, BitWords};

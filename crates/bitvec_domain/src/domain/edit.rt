@@ -7,6 +7,7 @@ ghost use Rattle.bitvec_ptr.specs.Place.{words_met};
 ghost use Rattle.bitvec_domain.specs.Span.{Fits};
 ghost use Rattle.bitvec_domain.specs.Domain.{value_of};
 ghost use Rattle.bitvec_domain.specs.Edit.{slot_part, slot_at, slot_of, EditsPart};
+ghost use Rattle.bitvec_domain.specs.Words.{part_bits};
 ghost use Rattle.bitvec_domain.specs.WordsMut.{slot_stretch};
 
 use crate::domain::BitWordsMut;
@@ -191,12 +192,15 @@ impl<'a, R: BitRegister, O: BitOrder<R>> PartialElementMut<'a, R, O> {
 impl<'a, R: BitRegister, O> PartialElementMut<'a, R, O> {
     ghost use Rattle.bitvec_domain.specs.EditView.{memory_of, slot_in};
     ghost use Rattle.bitvec_domain.specs.WordsMutView.{words_memory, stretch_in};
+    ghost use Rattle.bitvec_domain.specs.LoansView.{lent_part};
+    ghost use Rattle.bitvec_domain.specs.BitLoansView.{run_bits};
 
     /// The bits of the part, in its one word.
     pub fn into_bitslice(self) -> BitWordsMut<'a, R, O>
         ensures reference { (words_memory result).ghost_name ≡ (memory_of self.entry).ghost_name }
         ensures memory { (words_memory result).now ≡ (memory_of self.entry).now }
         ensures stretch { stretch_in result ≡ slot_stretch (slot_in self.entry) }
+        ensures bits { run_bits R.number result ≡ part_bits (lent_part R.number self.entry) }
     {
         let PartialElementMut {
             memory,
@@ -235,7 +239,12 @@ impl<R: BitRegister, O> BitSpan<R, O> {
     }
 
     // The part of the `k`-th word that the span meets, as that of the word `word` of a memory.
-    pub(crate) fn part_at<'a>(self, memory: &'a mut [R], word: usize, k: usize) -> PartialElementMut<'a, R, O>
+    pub(crate) fn part_at<'a>(
+        self,
+        memory: &'a mut [R],
+        word: usize,
+        k: usize,
+    ) -> PartialElementMut<'a, R, O>
         requires word { word < length memory.old }
         requires met { k < words_met R.BITS (span_of self).head (span_of self).len }
         ensures reference { (memory_of result).ghost_name ≡ memory.entry.ghost_name }

@@ -4,7 +4,7 @@ ghost use Rattle.std.specs.Prelude.{◌≡◌, pos, ◌+◌, ◌-◌, ◌<◌, �
 ghost use Rattle.std.specs.Borrow.{sem};
 ghost use Rattle.bitvec_ptr.specs.Place.{words_met};
 ghost use Rattle.bitvec_domain.specs.Span.{Fits};
-ghost use Rattle.bitvec_domain.specs.Domain.{parts_of, enclave, region, is_enclave};
+ghost use Rattle.bitvec_domain.specs.Domain.{parts_of, enclave, region, is_enclave, HasShortBody};
 ghost use Rattle.bitvec_domain.specs.Edit.{slot_at};
 ghost use Rattle.bitvec_domain.specs.Loans.{is_inside, has_head, has_tail, words_before, body_words, slots_of, lists_of, word_of_bit, filled_slot, filled_slot_if, filled};
 ghost use Rattle.bitvec_domain.specs.Lending.{name_of};
@@ -86,7 +86,7 @@ impl<'a, R: BitRegister, O> DomainMut<'a, R, O> {
         ensures parts { MatchOption result
             (is_enclave (lent_parts R.number self.entry) ≡ true)
             (λ all. lent_parts R.number self.entry
-                ≡ region (lent_part_if R.number all.0) (map R.number all.1.now) (lent_part_if R.number all.2)) }
+            ≡ region (lent_part_if R.number all.0) (map R.number all.1.now) (lent_part_if R.number all.2)) }
         ensures names { IfSome result (λ all. loan_names self.entry ≡ (part_name all.0, Some all.1.ghost_name, part_name all.2)) }
         ensures words { IfSome result (λ all. loan_words self.entry ≡ (part_words all.0, all.1.now, part_words all.2)) }
         ensures slots { IfSome result (λ all. loan_slots self.entry ≡ (part_slot all.0, true, part_slot all.2)) }
@@ -158,8 +158,11 @@ impl<R: BitRegister, O> BitSpan<R, O> {
         ensures names { loan_names result ≡ names_of pieces.entry }
         ensures words { loan_words result ≡ piece_lists pieces.entry }
         ensures slots { loan_slots result
-            ≡ ((if is_some pieces.entry.front then Some (slot_at R.BITS (span_of self) 0 (nat_abs (span_of self).word)) else None), is_some pieces.entry.body,
-            (if is_some pieces.entry.back then Some (slot_at R.BITS (span_of self) (words_met R.BITS (span_of self).head (span_of self).len - 1) 0) else None)) }
+            ≡ (
+              (if is_some pieces.entry.front then Some (slot_at R.BITS (span_of self) 0 (nat_abs (span_of self).word)) else None),
+              is_some pieces.entry.body,
+              (if is_some pieces.entry.back then Some (slot_at R.BITS (span_of self) (words_met R.BITS (span_of self).head (span_of self).len - 1) 0) else None),
+            ) }
     {
         let Pieces { front, body, back } = pieces;
         let head = match front {
@@ -191,6 +194,7 @@ impl<R: BitRegister, O> BitSpan<R, O> {
         ensures parts { lent_parts R.number result ≡ parts_of R.BITS (span_of self) (map R.number memory.old) }
         ensures slots { loan_slots result ≡ slots_of R.BITS (span_of self) }
         ensures words { loan_words result ≡ lists_of R.BITS (span_of self) memory.old }
+        ensures short { HasShortBody R.BITS (lent_parts R.number result) }
     {
         let before = self.words_before();
         let count = self.body_words();

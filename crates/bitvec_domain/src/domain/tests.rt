@@ -1,6 +1,6 @@
 //! Domains of worked examples, from both ends, as texts, as bits and for writing.
 
-use crate::domain::{BitDomain, BitWords, Domain, PartialElement};
+use crate::domain::{BitDomain, BitDomainMut, BitWords, Domain, PartialElement};
 use crate::ptr::span::BitSpan;
 use bitvec_mem::mem::BitRegister;
 use bitvec_order::index::BitIdx;
@@ -256,4 +256,69 @@ fn edits_one_word(rt: HostRuntime) -> Result<(), Fail> {
     assert!(rt; !bits.replace(1, true));
     assert!(rt; bits.read(1));
     Ok(())
+}
+
+// Makes a bit of each run of a span's bits one, and answers the bits before.
+fn replaces<R: BitRegister, O: BitOrder<R>>(
+    memory: &mut [R],
+    start: u32,
+    len: usize,
+) -> Option<[bool; 3]> {
+    let span = span_at::<R, O>(start, len)?;
+    if !span.fits(memory.len()) {
+        return None;
+    }
+    let (head, body, tail) = span.bit_domain_mut(memory).region()?;
+    let mut head = head;
+    let mut body = body;
+    let mut tail = tail;
+    if head.is_empty() || body.len() <= 7 || tail.len() <= 3 {
+        return None;
+    }
+    let first = head.replace(0, true);
+    let middle = body.replace(7, true);
+    let last = tail.replace(3, true);
+    Some([first, middle, last])
+}
+
+// Makes the first bit of a span one, where the span is one run alone, and answers the bit before.
+fn replaces_first<R: BitRegister, O: BitOrder<R>>(
+    memory: &mut [R],
+    start: u32,
+    len: usize,
+) -> Option<bool> {
+    let span = span_at::<R, O>(start, len)?;
+    if !span.fits(memory.len()) {
+        return None;
+    }
+    let run = span.bit_domain_mut(memory).enclave()?;
+    let mut run = run;
+    if run.is_empty() {
+        return None;
+    }
+    Some(run.replace(0, true))
+}
+
+// Whether the bits of no span are three runs without bits.
+fn default_is_empty<R: BitRegister, O>() -> bool {
+    let none: BitDomainMut<R, O> = BitDomainMut::default();
+    match none.region() {
+        Some((head, body, tail)) => head.is_empty() && body.is_empty() && tail.is_empty(),
+        None => false,
+    }
+}
+
+#[test]
+fn replaces_bits_of_three_words(rt: HostRuntime) {
+    let mut memory = [0u8; 3];
+    assert_eq!(rt; replaces::<u8, Lsb0>(&mut memory, 4, 16), Some([false; 3]));
+    assert_eq!(rt; memory, [0x10, 0x80, 0x08]);
+    assert_eq!(rt; replaces::<u8, Lsb0>(&mut memory, 4, 16), Some([true; 3]));
+    assert_eq!(rt; memory, [0x10, 0x80, 0x08]);
+    assert!(rt; replaces::<u8, Lsb0>(&mut memory, 2, 4).is_none());
+    assert!(rt; replaces::<u8, Lsb0>(&mut memory, 4, 21).is_none());
+    assert_eq!(rt; replaces_first::<u8, Lsb0>(&mut memory, 10, 4), Some(false));
+    assert_eq!(rt; memory, [0x10, 0x84, 0x08]);
+    assert!(rt; replaces_first::<u8, Lsb0>(&mut memory, 4, 16).is_none());
+    assert!(rt; default_is_empty::<u8, Lsb0>());
 }

@@ -46,6 +46,26 @@ impl<R: BitRegister, O> Drop for BitWordsMut<'_, R, O> {
     }
 }
 
+/// No bits, in no words.
+impl<'a, R: BitRegister, O> Default for BitWordsMut<'a, R, O> {
+    ghost use Rattle.std.specs.Prelude.{[], ◌≡◌};
+    ghost use Rattle.bitvec_domain.specs.WordsMut.{no_stretch};
+    ghost use Rattle.bitvec_domain.specs.WordsMutView.{words_memory, stretch_in};
+
+    ghost is_default = { λ run. (stretch_in run ≡ no_stretch) × ((words_memory run).now ≡ []) };
+
+    fn default() -> Self {
+        BitWordsMut {
+            memory: &mut [],
+            first: 0,
+            count: 0,
+            head: 0,
+            len: 0,
+            order: PhantomData,
+        }
+    }
+}
+
 impl<'a, R: BitRegister, O> BitWordsMut<'a, R, O> {
     ghost use Rattle.bitvec_domain.specs.WordsMutView.{words_memory, stretch_in};
 
