@@ -259,3 +259,32 @@ fn copies_between_runs_apart(rt: HostRuntime) -> Result<(), Fail> {
     assert_eq!(rt; memory, [0x0F, 0x06]);
     Ok(())
 }
+
+#[test]
+fn copies_and_swaps_at_the_edges(rt: HostRuntime) -> Result<(), Fail> {
+    let mut memory = [0x01u8];
+    let mut other = [0u16];
+    let first = at::<u8>(0);
+    let with: BitPtr<u16, Msb0> = BitPtr::new(0, BitIdx::MIN);
+    assert!(rt; first.is_in(memory.len()) && with.is_in(other.len()));
+    first.swap(&mut memory, with, &mut other);
+    assert_eq!(rt; memory, [0x00]);
+    assert_eq!(rt; other, [0x8000]);
+    let mut memory = [0x12u8, 0x34, 0x56];
+    let (first, fifth, past) = (at::<u8>(0), at::<u8>(4), at::<u8>(24));
+    assert!(rt; fifth.is_in(memory.len()));
+    fifth.swap_within(&mut memory, fifth);
+    assert_eq!(rt; memory, [0x12, 0x34, 0x56]);
+    assert!(rt; past.run_in(memory.len(), 0));
+    past.copy_within(&mut memory, past, 0);
+    assert_eq!(rt; memory, [0x12, 0x34, 0x56]);
+    assert!(rt; first.run_in(memory.len(), 16) && fifth.run_in(memory.len(), 16));
+    first.copy_within(&mut memory, fifth, 16);
+    assert_eq!(rt; memory, [0x22, 0x41, 0x53]);
+    let mut target = [0u8];
+    let source = [0x0fu8];
+    assert!(rt; fifth.run_in(target.len(), 4) && first.run_in(source.len(), 4));
+    fifth.copy_from(&mut target, first, &source, 4);
+    assert_eq!(rt; target, [0xf0]);
+    Ok(())
+}
