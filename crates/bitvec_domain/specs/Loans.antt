@@ -1,5 +1,5 @@
 -- The loans that the parts of a span are in a memory: the words up to the head's, those of the body, and those from the tail's on.
-use Rattle.std.specs.Prelude.{ℕ, nat_abs, ◌+◌, ◌-◌, ◌^◌, ◌==◌, ◌&&◌, Bool, true, false, not, if◌then◌else◌, List, [], ◌++◌, take, drop, replicate, slice_set, Option, Some, None}
+use Rattle.std.specs.Prelude.{ℕ, nat_abs, ◌+◌, ◌-◌, ◌^◌, ◌==◌, ◌&&◌, Bool, not, if◌then◌else◌, List, [], ◌++◌, take, drop, replicate, slice_set, Option, Some, None}
 use Rattle.bitvec_ptr.specs.Place.{words_met, tail_of}
 use Rattle.bitvec_domain.specs.Span.{Span}
 use Rattle.bitvec_domain.specs.Edit.{Slot, slot_at, slot_part, edited_word}
@@ -26,17 +26,19 @@ body_words bits span = words_met bits span.head span.len - (if has_head span the
 
 -- where the parts lie in their loans, and between them whether there is a body
 abbrev pub slots_of : ℕ → Span → Option Slot × Bool × Option Slot
-slots_of bits span =
-    ( (if has_head span then Some (slot_at bits span 0 (nat_abs span.word)) else None)
-    , not (is_inside bits span)
-    , (if has_tail bits span then Some (slot_at bits span (words_met bits span.head span.len - 1) 0) else None) )
+slots_of bits span = (
+  (if has_head span then Some (slot_at bits span 0 (nat_abs span.word)) else None),
+  not (is_inside bits span),
+  (if has_tail bits span then Some (slot_at bits span (words_met bits span.head span.len - 1) 0) else None),
+)
 
 -- the words of a memory that are lent for the head, the body and the tail, and none for an absent part
 abbrev pub lists_of : {R : Type 0} → ℕ → Span → List R → List R × List R × List R
-lists_of bits span memory =
-    ( (if has_head span then take (words_before span) memory else [])
-    , (if is_inside bits span then [] else take (body_words bits span) (drop (words_before span) memory))
-    , (if has_tail bits span then drop (body_words bits span) (drop (words_before span) memory) else []) )
+lists_of bits span memory = (
+  (if has_head span then take (words_before span) memory else []),
+  (if is_inside bits span then [] else take (body_words bits span) (drop (words_before span) memory)),
+  (if has_tail bits span then drop (body_words bits span) (drop (words_before span) memory) else []),
+)
 
 -- the word whose bits are all the same
 abbrev pub word_of_bit : ℕ → Bool → ℕ

@@ -205,7 +205,12 @@ impl<R: BitRegister, O> BitSpan<R, O> {
     }
 
     // The part of the `k`-th word that the span meets, as that of the word `word` of a memory.
-    pub(crate) fn part_at<'a>(self, memory: &'a mut [R], word: usize, k: usize) -> PartialElementMut<'a, R, O>
+    pub(crate) fn part_at<'a>(
+        self,
+        memory: &'a mut [R],
+        word: usize,
+        k: usize,
+    ) -> PartialElementMut<'a, R, O>
         requires word { word < length memory.old }
         requires met { k < words_met R.BITS (span_of self).head (span_of self).len }
         ensures reference { (memory_of result).ghost_name ≡ memory.entry.ghost_name }

@@ -37,6 +37,7 @@ pub enum DomainMut<'a, R: BitRegister = usize, O = Lsb0> {
     },
 }
 
+/// The region of no words.
 impl<'a, R: BitRegister, O> Default for DomainMut<'a, R, O> {
     ghost use Rattle.std.specs.Prelude.{[], None, ◌≡◌};
     ghost use Rattle.bitvec_domain.specs.Domain.{region};
@@ -86,7 +87,7 @@ impl<'a, R: BitRegister, O> DomainMut<'a, R, O> {
         ensures parts { MatchOption result
             (is_enclave (lent_parts R.number self.entry) ≡ true)
             (λ all. lent_parts R.number self.entry
-                ≡ region (lent_part_if R.number all.0) (map R.number all.1.now) (lent_part_if R.number all.2)) }
+            ≡ region (lent_part_if R.number all.0) (map R.number all.1.now) (lent_part_if R.number all.2)) }
         ensures names { IfSome result (λ all. loan_names self.entry ≡ (part_name all.0, Some all.1.ghost_name, part_name all.2)) }
         ensures words { IfSome result (λ all. loan_words self.entry ≡ (part_words all.0, all.1.now, part_words all.2)) }
         ensures slots { IfSome result (λ all. loan_slots self.entry ≡ (part_slot all.0, true, part_slot all.2)) }
@@ -158,8 +159,11 @@ impl<R: BitRegister, O> BitSpan<R, O> {
         ensures names { loan_names result ≡ names_of pieces.entry }
         ensures words { loan_words result ≡ piece_lists pieces.entry }
         ensures slots { loan_slots result
-            ≡ ((if is_some pieces.entry.front then Some (slot_at R.BITS (span_of self) 0 (nat_abs (span_of self).word)) else None), is_some pieces.entry.body,
-            (if is_some pieces.entry.back then Some (slot_at R.BITS (span_of self) (words_met R.BITS (span_of self).head (span_of self).len - 1) 0) else None)) }
+            ≡ (
+              (if is_some pieces.entry.front then Some (slot_at R.BITS (span_of self) 0 (nat_abs (span_of self).word)) else None),
+              is_some pieces.entry.body,
+              (if is_some pieces.entry.back then Some (slot_at R.BITS (span_of self) (words_met R.BITS (span_of self).head (span_of self).len - 1) 0) else None),
+            ) }
     {
         let Pieces { front, body, back } = pieces;
         let head = match front {
@@ -179,12 +183,13 @@ impl<R: BitRegister, O> BitSpan<R, O> {
         }
     }
 
-    /// The words and parts of words of a memory that the span meets, each for writing, all at once.
+    /// The words and parts of words of a memory that the span meets, for writing, all at once.
     ///
-    /// They are those of [`domain`](BitSpan::domain). When the loans end, the memory is the last
-    /// words of the head's loan, of the body and of the tail's loan, one behind the other; the words
-    /// of an absent part are as before. The head's loan has all words up to its own, the tail's all
-    /// words from its own on, and so all words of the memory are lent that a part can be in. Our own.
+    /// They are those of [`domain`](BitSpan::domain), and none is copied. The head's loan has all
+    /// words up to its own, which is its last, and the tail's all words from its own on. When the
+    /// loans end, the memory is what they leave, one behind the other; the words before and behind
+    /// the loans that there are, are as before. It asks a span that [`fits`](BitSpan::fits). Our own,
+    /// for the Rust crate's domains over a mutable memory.
     pub fn domain_mut<'a>(self, memory: &'a mut [R]) -> DomainMut<'a, R, O>
         requires { Fits R.BITS (span_of self) (length memory.old) }
         ensures* ends { sem 𝓛 (LendsDomain R.row memory.entry (words_before (span_of self)) (body_words R.BITS (span_of self)) result) }
@@ -277,7 +282,9 @@ fn fill_domain<'a, R: BitRegister, O: BitOrder<R>>(
 impl<R: BitRegister, O: BitOrder<R>> BitSpan<R, O> {
     ghost use Rattle.bitvec_domain.specs.BitSpan.{span_of};
 
-    /// Makes each bit of the span in a memory the same, and leaves every other bit as it is. Our own.
+    /// Makes each bit of the span in a memory the same, and leaves every other bit as it is.
+    ///
+    /// It asks a span that [`fits`](BitSpan::fits). Our own.
     pub fn fill(self, memory: &mut [R], bit: bool)
         requires { Fits R.BITS (span_of self) (length memory.old) }
         ensures { map R.number memory.new ≡ filled R.BITS O.at_of bit (span_of self) (map R.number memory.old) }

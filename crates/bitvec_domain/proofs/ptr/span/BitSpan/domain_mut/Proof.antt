@@ -1,5 +1,5 @@
 -- `domain_mut` computes where the span's parts lie, and makes a domain of the pieces that `pieces_mut` lends. Assumes `Logic`.
-use Rattle.std.proofs.Common.{◌≡◌, ℕ, ◌+◌, ◌-◌, ◌^◌, ◌<◌, ◌≤◌, pos, ◌≤ℤ◌, List, [], ◌∷◌, ◌++◌, Bool, true, false, not, if◌then◌else◌, refl, sym, ap, ◌∙◌, subst, arith, length, map, take, drop as drop_l, MutBor}
+use Rattle.std.proofs.Common.{◌≡◌, ℕ, ◌+◌, ◌-◌, ◌^◌, ◌<◌, ◌≤◌, pos, ◌≤ℤ◌, List, [], ◌∷◌, Bool, true, false, not, if◌then◌else◌, refl, sym, ◌∙◌, arith, length, map, take, drop as drop_l, MutBor}
 use Rattle.std.specs.Prelude.{nat_abs, Option, Some, None, is_some, IfSome}
 use Rattle.std.proofs.raw_atomic.Walks.{proved, leaves}
 use mir.Syntax.{dcons, dnil, a_type, named, w64}
@@ -15,7 +15,7 @@ use contract.Running.{tables}
 use contract.Monad.{fact, fact_i}
 use contract.BorrowLft.{◌⊑◌}
 use contract.Lifetimes.{Lfts, Shares}
-use denote.Exit.{yes, no}
+use denote.Exit.{no}
 use denote.Laws.{Is, shows}
 use denote.RattleType.{RattleType, owns}
 use denote.Signature.{types_at, plain, mut_slice_of, named_lft}
@@ -24,7 +24,7 @@ use denote.Param.{param, copied, bounded}
 use denote.Param.Laws.{param_laws, copied_laws}
 use denote.Builtin.{usize, bool}
 use denote.Plain.{uint_Lawful, bool_Lawful}
-use denote.Slice.{MutSlice, slice_val, mut_slice_vals, mut_slice_Tells}
+use denote.Slice.{slice_val, mut_slice_vals, mut_slice_Tells}
 use denote.Struct.Laws.{makes}
 use denote.Triple.Spec.{triple_of}
 use denote.Triple.Clauses.{Lasts, lasts}
@@ -36,7 +36,7 @@ use Rattle.bitvec_domain.specs.Span.{Span, Fits}
 use Rattle.bitvec_domain.specs.BitSpan.{span_of}
 use Rattle.bitvec_domain.specs.Domain.{parts_of}
 use Rattle.bitvec_domain.specs.Edit.{Slot, slot_at}
-use Rattle.bitvec_domain.specs.Lending.{LendsNamed, name_of}
+use Rattle.bitvec_domain.specs.Lending.{LendsNamed}
 use Rattle.bitvec_domain.specs.Pieces.{names_of, piece_lists}
 use Rattle.bitvec_domain.specs.Loans.{is_inside, has_head, has_tail, words_before, body_words, slots_of, lists_of}
 use Rattle.bitvec_domain.specs.LoansView.{loan_names, loan_words, loan_slots, lent_parts}
@@ -103,7 +103,7 @@ domain_mut_spec 𝓤 𝓛 𝓜 𝓡 wired X O L LO copy rb rbd rc rcd rd rdd re 
     use0 𝓛 (raw (fact 𝓤 (κs.1.0 ⊑ X.lives))) (fact_i 𝓤 _ (emp 𝓤) alive_in) $ join ! $ move ! (1 ∷ 0 ∷ []) $ join ! $ use1 𝓛 (raw (T1.pre z1)) (id⊢ 𝓤 _) $
     calls_at ! (framed 𝓤 H 𝓜 𝓣) T1 (met_n1 𝓤 𝓛 𝓜 𝓡 (code.calls-bitvec_domain::ptr::span::BitSpan::words_before 𝓡.env wired) X O L LO copy rb rbd rc rcd rd rdd re red rp rpd ro rod rq rqd rh rhd rg rgd m1 m2 m3 m4 m5 m6 m7 m8 m9) z1 (and_then ! (get ! refl) (no_more !)) (λ v1.
     use1 𝓛 (later (some (λ (r : usize.Denot). (‵ others ⊛ ‵ (usize.own_val r (v1 ∷ []))) ⊛ some (λ (ws : Lasts (n1.ended X O rb rbd rc rcd rd rdd re red rp rpd ro rod rq rqd rh rhd rg rgd) κs2 (s, tt)). ‵ (lasts (n1.ended X O rb rbd rc rcd rd rdd re red rp rpd ro rod rq rqd rh rhd rg rgd) κs2 (s, tt) ws)
-      ⊛ raw (fact 𝓤 (r ≡ i)))))) (id⊢ 𝓤 _) $ await ! tt $ pick ! (λ r1. split ! $ split ! $ move ! (2 ∷ []) $ pick ! (λ ws. split ! $ drop ! $ heard ! _ (λ is1. move ! (1 ∷ []) $ rewrite ! 0 (λ (k : ℕ). ‵ (usize.own_val k (v1 ∷ []))) is1 refl $
+    ⊛ raw (fact 𝓤 (r ≡ i)))))) (id⊢ 𝓤 _) $ await ! tt $ pick ! (λ r1. split ! $ split ! $ move ! (2 ∷ []) $ pick ! (λ ws. split ! $ drop ! $ heard ! _ (λ is1. move ! (1 ∷ []) $ rewrite ! 0 (λ (k : ℕ). ‵ (usize.own_val k (v1 ∷ []))) is1 refl $
     peeks ! usize (Is usize) (shows 𝓛 usize) i (v1 ∷ []) (λ as1. lands_as ! refl refl (((uint_Lawful 𝓛 w64).typed i (v1 ∷ []) as1).0) $ move ! (1 ∷ []) $
     -- body_words
     let T2 = triple_of 𝓛 (n2.signature X O rb rbd rc rcd rd rdd re red rp rpd ro rod rq rqd rh rhd rg rgd) (n2.spec X O rb rbd rc rcd rd rdd re red rp rpd ro rod rq rqd rh rhd rg rgd 𝓛 𝓜.mem 𝓡.returns) in
@@ -112,7 +112,7 @@ domain_mut_spec 𝓤 𝓛 𝓜 𝓡 wired X O L LO copy rb rbd rc rcd rd rdd re 
     use0 𝓛 (raw (fact 𝓤 (κs.1.0 ⊑ X.lives))) (fact_i 𝓤 _ (emp 𝓤) alive_in) $ join ! $ move ! (1 ∷ 0 ∷ []) $ join ! $ use1 𝓛 (raw (T2.pre z2)) (id⊢ 𝓤 _) $
     calls_at ! (framed 𝓤 H 𝓜 𝓣) T2 (met_n2 𝓤 𝓛 𝓜 𝓡 (code.calls-bitvec_domain::ptr::span::BitSpan::body_words 𝓡.env wired) X O L LO copy rb rbd rc rcd rd rdd re red rp rpd ro rod rq rqd rh rhd rg rgd m1 m2 m3 m4 m5 m6 m7 m8 m9) z2 (and_then ! (get ! refl) (no_more !)) (λ v2.
     use1 𝓛 (later (some (λ (r : usize.Denot). (‵ others ⊛ ‵ (usize.own_val r (v2 ∷ []))) ⊛ some (λ (ws : Lasts (n2.ended X O rb rbd rc rcd rd rdd re red rp rpd ro rod rq rqd rh rhd rg rgd) κs2 (s, tt)). ‵ (lasts (n2.ended X O rb rbd rc rcd rd rdd re red rp rpd ro rod rq rqd rh rhd rg rgd) κs2 (s, tt) ws)
-      ⊛ raw (fact 𝓤 (r ≡ n)))))) (id⊢ 𝓤 _) $ await ! tt $ pick ! (λ r2. split ! $ split ! $ move ! (2 ∷ []) $ pick ! (λ ws. split ! $ drop ! $ heard ! _ (λ is2. move ! (1 ∷ []) $ rewrite ! 0 (λ (k : ℕ). ‵ (usize.own_val k (v2 ∷ []))) is2 refl $
+    ⊛ raw (fact 𝓤 (r ≡ n)))))) (id⊢ 𝓤 _) $ await ! tt $ pick ! (λ r2. split ! $ split ! $ move ! (2 ∷ []) $ pick ! (λ ws. split ! $ drop ! $ heard ! _ (λ is2. move ! (1 ∷ []) $ rewrite ! 0 (λ (k : ℕ). ‵ (usize.own_val k (v2 ∷ []))) is2 refl $
     peeks ! usize (Is usize) (shows 𝓛 usize) n (v2 ∷ []) (λ as2. lands_as ! refl refl (((uint_Lawful 𝓛 w64).typed n (v2 ∷ []) as2).0) $ move ! (1 ∷ []) $
     -- has_head
     let T3 = triple_of 𝓛 (n3.signature X O rb rbd rc rcd rd rdd re red rp rpd ro rod rq rqd rh rhd rg rgd) (n3.spec X O rb rbd rc rcd rd rdd re red rp rpd ro rod rq rqd rh rhd rg rgd 𝓛 𝓜.mem 𝓡.returns) in
@@ -121,7 +121,7 @@ domain_mut_spec 𝓤 𝓛 𝓜 𝓡 wired X O L LO copy rb rbd rc rcd rd rdd re 
     use0 𝓛 (raw (fact 𝓤 (κs.1.0 ⊑ X.lives))) (fact_i 𝓤 _ (emp 𝓤) alive_in) $ join ! $ move ! (1 ∷ 0 ∷ []) $ join ! $ use1 𝓛 (raw (T3.pre z3)) (id⊢ 𝓤 _) $
     calls_at ! (framed 𝓤 H 𝓜 𝓣) T3 (met_n3 𝓤 𝓛 𝓜 𝓡 (code.calls-bitvec_domain::ptr::span::BitSpan::has_head 𝓡.env wired) X O L LO copy rb rbd rc rcd rd rdd re red rp rpd ro rod rq rqd rh rhd rg rgd m1 m2 m3 m4 m5 m6 m7 m8 m9) z3 (and_then ! (get ! refl) (no_more !)) (λ v3.
     use1 𝓛 (later (some (λ (r : bool.Denot). (‵ others ⊛ ‵ (bool.own_val r (v3 ∷ []))) ⊛ some (λ (ws : Lasts (n3.ended X O rb rbd rc rcd rd rdd re red rp rpd ro rod rq rqd rh rhd rg rgd) κs2 (s, tt)). ‵ (lasts (n3.ended X O rb rbd rc rcd rd rdd re red rp rpd ro rod rq rqd rh rhd rg rgd) κs2 (s, tt) ws)
-      ⊛ raw (fact 𝓤 (r ≡ on0)))))) (id⊢ 𝓤 _) $ await ! tt $ pick ! (λ r3. split ! $ split ! $ move ! (2 ∷ []) $ pick ! (λ ws. split ! $ drop ! $ heard ! _ (λ is3. move ! (1 ∷ []) $ rewrite ! 0 (λ (k : Bool). ‵ (bool.own_val k (v3 ∷ []))) is3 refl $
+    ⊛ raw (fact 𝓤 (r ≡ on0)))))) (id⊢ 𝓤 _) $ await ! tt $ pick ! (λ r3. split ! $ split ! $ move ! (2 ∷ []) $ pick ! (λ ws. split ! $ drop ! $ heard ! _ (λ is3. move ! (1 ∷ []) $ rewrite ! 0 (λ (k : Bool). ‵ (bool.own_val k (v3 ∷ []))) is3 refl $
     peeks ! bool (Is bool) (shows 𝓛 bool) on0 (v3 ∷ []) (λ as3. lands_as ! refl refl (((bool_Lawful 𝓛).typed on0 (v3 ∷ []) as3).0) $ move ! (1 ∷ []) $
     -- has_body
     let T4 = triple_of 𝓛 (n4.signature X O rb rbd rc rcd rd rdd re red rp rpd ro rod rq rqd rh rhd rg rgd) (n4.spec X O rb rbd rc rcd rd rdd re red rp rpd ro rod rq rqd rh rhd rg rgd 𝓛 𝓜.mem 𝓡.returns) in
@@ -130,7 +130,7 @@ domain_mut_spec 𝓤 𝓛 𝓜 𝓡 wired X O L LO copy rb rbd rc rcd rd rdd re 
     use0 𝓛 (raw (fact 𝓤 (κs.1.0 ⊑ X.lives))) (fact_i 𝓤 _ (emp 𝓤) alive_in) $ join ! $ move ! (1 ∷ 0 ∷ []) $ join ! $ use1 𝓛 (raw (T4.pre z4)) (id⊢ 𝓤 _) $
     calls_at ! (framed 𝓤 H 𝓜 𝓣) T4 (met_n4 𝓤 𝓛 𝓜 𝓡 (code.calls-bitvec_domain::ptr::span::BitSpan::has_body 𝓡.env wired) X O L LO copy rb rbd rc rcd rd rdd re red rp rpd ro rod rq rqd rh rhd rg rgd m1 m2 m3 m4 m5 m6 m7 m8 m9) z4 (and_then ! (get ! refl) (no_more !)) (λ v4.
     use1 𝓛 (later (some (λ (r : bool.Denot). (‵ others ⊛ ‵ (bool.own_val r (v4 ∷ []))) ⊛ some (λ (ws : Lasts (n4.ended X O rb rbd rc rcd rd rdd re red rp rpd ro rod rq rqd rh rhd rg rgd) κs2 (s, tt)). ‵ (lasts (n4.ended X O rb rbd rc rcd rd rdd re red rp rpd ro rod rq rqd rh rhd rg rgd) κs2 (s, tt) ws)
-      ⊛ raw (fact 𝓤 (r ≡ on1)))))) (id⊢ 𝓤 _) $ await ! tt $ pick ! (λ r4. split ! $ split ! $ move ! (2 ∷ []) $ pick ! (λ ws. split ! $ drop ! $ heard ! _ (λ is4. move ! (1 ∷ []) $ rewrite ! 0 (λ (k : Bool). ‵ (bool.own_val k (v4 ∷ []))) is4 refl $
+    ⊛ raw (fact 𝓤 (r ≡ on1)))))) (id⊢ 𝓤 _) $ await ! tt $ pick ! (λ r4. split ! $ split ! $ move ! (2 ∷ []) $ pick ! (λ ws. split ! $ drop ! $ heard ! _ (λ is4. move ! (1 ∷ []) $ rewrite ! 0 (λ (k : Bool). ‵ (bool.own_val k (v4 ∷ []))) is4 refl $
     peeks ! bool (Is bool) (shows 𝓛 bool) on1 (v4 ∷ []) (λ as4. lands_as ! refl refl (((bool_Lawful 𝓛).typed on1 (v4 ∷ []) as4).0) $ move ! (1 ∷ []) $
     -- has_tail
     let T5 = triple_of 𝓛 (n5.signature X O rb rbd rc rcd rd rdd re red rp rpd ro rod rq rqd rh rhd rg rgd) (n5.spec X O rb rbd rc rcd rd rdd re red rp rpd ro rod rq rqd rh rhd rg rgd 𝓛 𝓜.mem 𝓡.returns) in
@@ -139,7 +139,7 @@ domain_mut_spec 𝓤 𝓛 𝓜 𝓡 wired X O L LO copy rb rbd rc rcd rd rdd re 
     use0 𝓛 (raw (fact 𝓤 (κs.1.0 ⊑ X.lives))) (fact_i 𝓤 _ (emp 𝓤) alive_in) $ join ! $ move ! (1 ∷ 0 ∷ []) $ join ! $ use1 𝓛 (raw (T5.pre z5)) (id⊢ 𝓤 _) $
     calls_at ! (framed 𝓤 H 𝓜 𝓣) T5 (met_n5 𝓤 𝓛 𝓜 𝓡 (code.calls-bitvec_domain::ptr::span::BitSpan::has_tail 𝓡.env wired) X O L LO copy rb rbd rc rcd rd rdd re red rp rpd ro rod rq rqd rh rhd rg rgd m1 m2 m3 m4 m5 m6 m7 m8 m9) z5 (and_then ! (get ! refl) (no_more !)) (λ v5.
     use1 𝓛 (later (some (λ (r : bool.Denot). (‵ others ⊛ ‵ (bool.own_val r (v5 ∷ []))) ⊛ some (λ (ws : Lasts (n5.ended X O rb rbd rc rcd rd rdd re red rp rpd ro rod rq rqd rh rhd rg rgd) κs2 (s, tt)). ‵ (lasts (n5.ended X O rb rbd rc rcd rd rdd re red rp rpd ro rod rq rqd rh rhd rg rgd) κs2 (s, tt) ws)
-      ⊛ raw (fact 𝓤 (r ≡ on2)))))) (id⊢ 𝓤 _) $ await ! tt $ pick ! (λ r5. split ! $ split ! $ move ! (2 ∷ []) $ pick ! (λ ws. split ! $ drop ! $ heard ! _ (λ is5. move ! (1 ∷ []) $ rewrite ! 0 (λ (k : Bool). ‵ (bool.own_val k (v5 ∷ []))) is5 refl $
+    ⊛ raw (fact 𝓤 (r ≡ on2)))))) (id⊢ 𝓤 _) $ await ! tt $ pick ! (λ r5. split ! $ split ! $ move ! (2 ∷ []) $ pick ! (λ ws. split ! $ drop ! $ heard ! _ (λ is5. move ! (1 ∷ []) $ rewrite ! 0 (λ (k : Bool). ‵ (bool.own_val k (v5 ∷ []))) is5 refl $
     peeks ! bool (Is bool) (shows 𝓛 bool) on2 (v5 ∷ []) (λ as5. lands_as ! refl refl (((bool_Lawful 𝓛).typed on2 (v5 ∷ []) as5).0) $ move ! (1 ∷ []) $
     -- [the other tokens; the five numbers, the last first; the slice; the token of κ]
     let within = loans-within rb.BITS span in let le : i + n ≤ len = omega (arith, within, fits.1) in
@@ -155,8 +155,8 @@ domain_mut_spec 𝓤 𝓛 𝓜 𝓡 wired X O L LO copy rb rbd rc rcd rd rdd re 
     calls_at ! (framed 𝓤 H 𝓜 𝓣) G (met 𝓤 𝓛 𝓜 𝓡 (code.calls-bitvec_domain::lend::pieces_mut 𝓡.env wired) X L) z
     (and_then ! (get ! refl) (and_then ! (get ! refl) (and_then ! (get ! refl) (and_then ! (get ! refl) (and_then ! (get ! refl) (and_then ! (get ! refl) (no_more !))))))) (λ v.
     use1 𝓛 (later (some (λ (d : Row.Denot). ((‵ (flft κ qs.0) ⊛ ‵ some_others) ⊛ ‵ (Row.own_val d (v ∷ []))) ⊛ some (λ (ws : Lasts (g.ended X) (κs.0, (κs.1.0, tt)) z.0.3). ‵ (lasts (g.ended X) (κs.0, (κs.1.0, tt)) z.0.3 ws)
-      ⊛ ‵ (LendsNamed R m i n (names_of d)) ⊛ raw (fact 𝓤 ((is_some d.front ≡ on0) × IfSome d.front (λ (r : MutBor (List X.Denot)). r.now ≡ take i xs)))
-      ⊛ raw (fact 𝓤 ((is_some d.body ≡ on1) × IfSome d.body (λ (r : MutBor (List X.Denot)). r.now ≡ take n (drop_l i xs)))) ⊛ raw (fact 𝓤 ((is_some d.back ≡ on2) × IfSome d.back (λ (r : MutBor (List X.Denot)). r.now ≡ drop_l n (drop_l i xs)))))))) (id⊢ 𝓤 _) $ await ! tt $ pick ! (λ d. split ! $ split ! $ move ! (2 ∷ []) $ pick ! (λ ws. split ! $ drop ! $
+    ⊛ ‵ (LendsNamed R m i n (names_of d)) ⊛ raw (fact 𝓤 ((is_some d.front ≡ on0) × IfSome d.front (λ (r : MutBor (List X.Denot)). r.now ≡ take i xs)))
+    ⊛ raw (fact 𝓤 ((is_some d.body ≡ on1) × IfSome d.body (λ (r : MutBor (List X.Denot)). r.now ≡ take n (drop_l i xs)))) ⊛ raw (fact 𝓤 ((is_some d.back ≡ on2) × IfSome d.back (λ (r : MutBor (List X.Denot)). r.now ≡ drop_l n (drop_l i xs)))))))) (id⊢ 𝓤 _) $ await ! tt $ pick ! (λ d. split ! $ split ! $ move ! (2 ∷ []) $ pick ! (λ ws. split ! $ drop ! $
     split ! $ move ! (1 ∷ []) $ split ! $ heard ! _ (λ fr. split ! $ heard ! _ (λ bo. heard ! _ (λ ba. move ! (2 ∷ []) $ peeks ! Row (Is Row) (shows 𝓛 Row) d (v ∷ []) (λ as_pieces. let good = ((LP.lawful 𝓛).typed d (v ∷ []) as_pieces).0 in
     -- [the pieces; what the slice ends as; the callee's tokens; the other tokens]
     lands_as ! refl refl good $ sets ! (of_opd ! (get ! refl)) refl good $
@@ -177,7 +177,7 @@ domain_mut_spec 𝓤 𝓛 𝓜 𝓡 wired X O L LO copy rb rbd rc rcd rd rdd re 
     calls_at ! (framed 𝓤 H 𝓜 𝓣) K (met_h 𝓤 𝓛 𝓜 𝓡 (code.calls-bitvec_domain::ptr::span::BitSpan::assemble 𝓡.env wired) X O L LO copy rb rbd rc rcd rd rdd re red rp rpd ro rod rq rqd rh rhd rg rgd m1 m2 m3 m4 m5 m6 m7 m8 m9) z6 (and_then ! (get ! refl) (and_then ! (get ! refl) (no_more !))) (λ w.
     let Slots : Option Slot × Bool × Option Slot = ((if is_some d.front then Some (slot_at rb.BITS span 0 (nat_abs span.word)) else None), is_some d.body, (if is_some d.back then Some (slot_at rb.BITS span (words_met rb.BITS span.head span.len - 1) 0) else None)) in
     use1 𝓛 (later (some (λ (e : Dom.Denot). ((‵ (flft κ qs.0) ⊛ ‵ others) ⊛ ‵ (Dom.own_val e (w ∷ []))) ⊛ some (λ (zs : Lasts (h.ended X O rb rbd rc rcd rd rdd re red rp rpd ro rod rq rqd rh rhd rg rgd) κs (s, (d, tt))). ‵ (lasts (h.ended X O rb rbd rc rcd rd rdd re red rp rpd ro rod rq rqd rh rhd rg rgd) κs (s, (d, tt)) zs)
-      ⊛ raw (fact 𝓤 (loan_names e ≡ names_of d)) ⊛ raw (fact 𝓤 (loan_words e ≡ piece_lists d)) ⊛ raw (fact 𝓤 (loan_slots e ≡ Slots)))))) (id⊢ 𝓤 _) $ await ! tt $ pick ! (λ e. split ! $ split ! $ move ! (2 ∷ []) $ pick ! (λ zs. split ! $ drop ! $ split ! $ heard ! _ (λ same. split ! $ heard ! _ (λ listed. heard ! _ (λ slotted.
+    ⊛ raw (fact 𝓤 (loan_names e ≡ names_of d)) ⊛ raw (fact 𝓤 (loan_words e ≡ piece_lists d)) ⊛ raw (fact 𝓤 (loan_slots e ≡ Slots)))))) (id⊢ 𝓤 _) $ await ! tt $ pick ! (λ e. split ! $ split ! $ move ! (2 ∷ []) $ pick ! (λ zs. split ! $ drop ! $ split ! $ heard ! _ (λ same. split ! $ heard ! _ (λ listed. heard ! _ (λ slotted.
     -- [the tokens; the domain; what the slice ends as]
     rewrite ! 2 (λ (names : Option GName × Option GName × Option GName). ‵ (LendsNamed R m i n names)) (sym same) refl $
     move ! (1 ∷ []) $ peeks ! Dom (Is Dom) (shows 𝓛 Dom) e (w ∷ []) (λ as_domain. lands_as ! refl refl (((LD.lawful 𝓛).typed e (w ∷ []) as_domain).0) $
