@@ -1,5 +1,5 @@
 -- What a memory is, once the loans of a span's parts were filled.
-use Rattle.std.proofs.Common.{◌≡◌, ℕ, ◌+◌, ◌-◌, ◌≤◌, ◌^◌, Bool, true, false, not, if◌then◌else◌, T, List, [], ◌∷◌, ◌++◌, replicate, length, map, take, drop, refl, sym, ap, subst, ◌∙◌, arith, MutBor}
+use Rattle.std.proofs.Common.{◌≡◌, ℕ, ◌+◌, ◌-◌, ◌≤◌, Bool, true, false, not, if◌then◌else◌, T, List, [], ◌∷◌, ◌++◌, replicate, length, map, take, drop, refl, sym, ap, subst, ◌∙◌, arith, MutBor}
 use Rattle.std.proofs.lemmas.List.{take-map, drop-map, map-append, length-take-le, length-drop}
 use Rattle.std.specs.Prelude.{nat_abs, Option, Some, None, is_some}
 use Rattle.std.specs.Borrow.{GName}

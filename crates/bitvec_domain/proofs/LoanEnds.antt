@@ -1,5 +1,5 @@
 -- Three loans that lie side by side, some of which were let go. Assumes `Logic`.
-use Rattle.std.proofs.Common.{◌≡◌, ℕ, List, [], ◌∷◌, ◌++◌, sym, refl, ap, ◌∙◌, take, drop as drop_l, MutBor}
+use Rattle.std.proofs.Common.{◌≡◌, ℕ, List, [], ◌∷◌, ◌++◌, sym, refl, ◌∙◌, take, drop as drop_l, MutBor}
 use Rattle.std.specs.Prelude.{Option, Some, None}
 use mir.Syntax.{named}
 use seplogic.Ra.Ura.{Ura}
@@ -7,7 +7,7 @@ use base.Logic.{SProp, ent, sep, wand, all_e, apply∗, id⊢}
 use mir.Val.{Val}
 use base.Fml.{GName, Fml, fsep, feq, fex}
 use types.Logic.{Logic, sem}
-use types.Kit.{‵, raw, ◌⊛◌, later, ◌$◌, ◌∵◌, !, qed, by, move, drop, each, assume, use1, use2, use3, fsplit, fjoin, fpick, feq_l, feq_i, rewrite, keep, await, updating, now, done}
+use types.Kit.{‵, raw, later, ◌$◌, ◌∵◌, !, qed, by, move, drop, each, assume, use1, use2, use3, fsplit, fjoin, fpick, feq_l, feq_i, rewrite, keep, await, updating, now, done}
 use denote.RattleType.{RattleType, Valss}
 use denote.Ref.{NamedLft}
 use denote.Struct.Declared.{shape}
@@ -18,7 +18,7 @@ use Rattle.bitvec_domain.specs.declared.lend.Pieces.{Pieces}
 use Rattle.bitvec_domain.proofs.LentSlices.{let_go}
 use denote.Slice.{finally, MutSlice}
 use denote.Array.{Array}
-use denote.Follow.{both_by, follows_both}
+use denote.Follow.{both_by}
 use borrow.Rule.Slice.Followed.{joined}
 use Rattle.bitvec_domain.specs.Lending.{LendsThree}
 use Rattle.bitvec_domain.specs.Lending.{KeptIf, EndsAs, LendsNamed, name_of}

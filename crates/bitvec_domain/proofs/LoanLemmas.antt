@@ -11,12 +11,9 @@ use Rattle.bitvec_domain.proofs.PartLemmas.{part_same}
 use Rattle.bitvec_domain.proofs.SliceLemmas.{map-slice}
 use Rattle.bitvec_domain.specs.Domain.{Part, Parts, enclave, region, part_of, parts_of}
 use Rattle.bitvec_domain.specs.Edit.{Slot, slot_part, slot_at}
-use Rattle.bitvec_domain.specs.EditView.{slot_in, memory_of}
 use Rattle.bitvec_domain.specs.Loans.{is_inside, has_head, has_tail, words_before, body_words, slots_of, lists_of}
 use Rattle.bitvec_domain.specs.LoansView.{loan_slots, loan_words, lent_parts}
-use Rattle.bitvec_domain.specs.Lending.{name_of}
 use Rattle.bitvec_domain.specs.Pieces.{piece_list}
-use Rattle.bitvec_domain.specs.declared.domain.edit.PartialElementMut.{PartialElementMut}
 use Rattle.bitvec_domain.specs.declared.domain.lent.DomainMut.{DomainMut}
 use Rattle.bitvec_domain.specs.declared.domain.lent.DomainMut.TheVariants.{Enclave, Region}
 

@@ -37,6 +37,7 @@ pub enum DomainMut<'a, R: BitRegister = usize, O = Lsb0> {
     },
 }
 
+/// The region of no words.
 impl<'a, R: BitRegister, O> Default for DomainMut<'a, R, O> {
     ghost use Rattle.std.specs.Prelude.{[], None, ◌≡◌};
     ghost use Rattle.bitvec_domain.specs.Domain.{region};
@@ -182,12 +183,13 @@ impl<R: BitRegister, O> BitSpan<R, O> {
         }
     }
 
-    /// The words and parts of words of a memory that the span meets, each for writing, all at once.
+    /// The words and parts of words of a memory that the span meets, for writing, all at once.
     ///
-    /// They are those of [`domain`](BitSpan::domain). When the loans end, the memory is the last
-    /// words of the head's loan, of the body and of the tail's loan, one behind the other; the words
-    /// of an absent part are as before. The head's loan has all words up to its own, the tail's all
-    /// words from its own on, and so all words of the memory are lent that a part can be in. Our own.
+    /// They are those of [`domain`](BitSpan::domain), and none is copied. The head's loan has all
+    /// words up to its own, which is its last, and the tail's all words from its own on. When the
+    /// loans end, the memory is what they leave, one behind the other; words that no loan has are as
+    /// before. It asks a span that [`fits`](BitSpan::fits). Our own, for the Rust crate's domains
+    /// over a mutable memory.
     pub fn domain_mut<'a>(self, memory: &'a mut [R]) -> DomainMut<'a, R, O>
         requires { Fits R.BITS (span_of self) (length memory.old) }
         ensures* ends { sem 𝓛 (LendsDomain R.row memory.entry (words_before (span_of self)) (body_words R.BITS (span_of self)) result) }
@@ -281,7 +283,9 @@ fn fill_domain<'a, R: BitRegister, O: BitOrder<R>>(
 impl<R: BitRegister, O: BitOrder<R>> BitSpan<R, O> {
     ghost use Rattle.bitvec_domain.specs.BitSpan.{span_of};
 
-    /// Makes each bit of the span in a memory the same, and leaves every other bit as it is. Our own.
+    /// Makes each bit of the span in a memory the same, and leaves every other bit as it is.
+    ///
+    /// It asks a span that [`fits`](BitSpan::fits). Our own.
     pub fn fill(self, memory: &mut [R], bit: bool)
         requires { Fits R.BITS (span_of self) (length memory.old) }
         ensures { map R.number memory.new ≡ filled R.BITS O.at_of bit (span_of self) (map R.number memory.old) }

@@ -1,13 +1,13 @@
 -- `pieces_mut` lends three parts, those that are wanted. Assumes `Logic`.
 use Rattle.std.proofs.Common.{◌≡◌, ℕ, ◌+◌, ◌^◌, ◌<◌, ◌≤◌, List, [], ◌∷◌, ◌++◌, Bool, refl, ap, ◌∙◌, subst, length, take, drop as drop_l, MutBor}
-use Rattle.std.specs.Prelude.{Option, Some, None, is_some, IfSome}
+use Rattle.std.specs.Prelude.{Option, is_some, IfSome}
 use Rattle.std.proofs.raw_atomic.Walks.{proved, leaves}
 use mir.Syntax.{a_type, named, w64}
 use mir.Val.{Val, vint, vstruct, vcons, vnil, of_list}
 use mir.MapTy.{inst_fn}
 use mir.Facts.{yes_and}
 use base.Logic.{SProp, emp, id⊢}
-use base.Fml.{Lft, Fml, GName, ftrue, fsep, fex, flft}
+use base.Fml.{Lft, Fml, ftrue, fsep, fex, flft}
 use types.Kit.{‵, raw, ◌⊛◌, some, later, ◌$◌, ◌∵◌, !, qed, by, move, keep, drop, split, join, group, fsplit, fjoin, fpick, fpack, pick, use0, use1, await, feq_i, feq_l}
 use types.Run.{stop, fld, hop, addr, from, of_opd, no_more, and_then, returns, enter}
 use types.ByLocal.{alloc_all, pass_all, free_all, look_at, get, get_in, sets, lands_as, look_in_at}
@@ -21,7 +21,7 @@ use denote.RattleType.{RattleType, Valss, owns}
 use denote.Signature.{types_at, plain, mut_slice_of, named_lft}
 use denote.Steps.{nothing, only, heard, owned, peeks}
 use denote.Param.{param, layouts}
-use denote.Param.Laws.{Laws, param_laws, of_field, is_one, row_shared}
+use denote.Param.Laws.{param_laws, of_field, is_one, row_shared}
 use denote.Param.Shared.{mut_slice_shared}
 use denote.Struct.Field.{row_field}
 use denote.Struct.Laws.{mut_slice_laws}

@@ -2,11 +2,11 @@
 use Rattle.std.proofs.Common.{◌≡◌, ℕ, ◌^◌, ◌<◌, List, [], ◌∷◌, Bool, true, false, refl, lit<, length, MutBor}
 use Rattle.std.proofs.raw_atomic.Walks.{proved, leaves}
 use Rattle.std.proofs.VecSteps.Shapes.{after}
-use Rattle.std.specs.Prelude.{T, not, is_some, IfSome, Option, Some, None}
+use Rattle.std.specs.Prelude.{T, not, is_some, IfSome, Some, None}
 use mir.Syntax.{a_type, named}
 use mir.Val.{Val, of_list}
 use mir.MapTy.{inst_fn}
-use base.Logic.{SProp, emp, id⊢}
+use base.Logic.{SProp, emp}
 use base.Fml.{Lft, Fml, GName, ftrue, fsep, flft}
 use types.Kit.{‵, raw, ◌⊛◌, later, at_ret, ◌$◌, ◌∵◌, !, qed, by, move, keep, drop, split, join, fsplit, fjoin, use0, use1, await, feq_i}
 use types.Run.{lit, stop, fld, hop, addr, from, of_opd, no_more, and_then, first, branches, exec, returns, enter}
@@ -19,7 +19,7 @@ use contract.BorrowLft.{◌⊑◌}
 use denote.Exit.{yes, no}
 use denote.RattleType.{RattleType, owns}
 use denote.Signature.{types_at, plain, mut_slice_of}
-use denote.Steps.{nothing, heard}
+use denote.Steps.{nothing}
 use denote.Param.{param, layouts}
 use denote.Builtin.{bool}
 use denote.Plain.{bool_vals, bool_Tells}
@@ -27,7 +27,6 @@ use denote.Slice.{finally, MutSlice, slice_val, mut_slice_vals, mut_slice_Tells}
 use denote.Triple.Walked.{Stays, stay_dropped, walk_of, Goes-dropped, Goes-spent_slice}
 use Rattle.std.specs.contracts.option.Option as OP
 use Rattle.std.below.core.proofs.option.Made.{Some-of, none_of}
-use Rattle.bitvec_domain.specs.Lending.{KeptIf}
 use Rattle.bitvec_domain.proofs.LentSlices.{let_go}
 use Rattle.bitvec_domain.specs.contracts.lend.slice_if as f
 use Rattle.bitvec_domain.specs.contracts.lend.slice_if.Key.{name as #self}

@@ -1,4 +1,4 @@
-use Rattle.std.proofs.Common.{◌≡◌, ℕ, ◌-◌, ◌≤◌, length, map, take, replicate}
+use Rattle.std.proofs.Common.{◌≡◌, ◌-◌, ◌≤◌, length, take, replicate}
 use Rattle.bitvec_domain.proofs.domain.lent.fill_words.Given as goal
 
 abbrev pub invariant-loop-k : goal.invariant-loop-k
