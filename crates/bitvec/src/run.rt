@@ -81,6 +81,7 @@ pub fn run<R: BitRegister, O: BitOrder<R>>(
         (map (request_number R.number) requests.now) (map (reply_number R.number) replies.new) (map R.number memory.new) }
 {
     for n in 0..requests.len() {
-        replies[n] = serve(spans, memory, requests[n]);
+        let request = requests[n];
+        replies[n] = serve(spans, memory, request);
     }
 }

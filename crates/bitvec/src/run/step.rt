@@ -1,6 +1,6 @@
 //! One command through one span, each with what it does to the span's list and to the whole memory.
 
-ghost use Rattle.std.specs.Prelude.{◌≡◌, ℕ, length, map};
+ghost use Rattle.std.specs.Prelude.{◌≡◌, ℕ, ◌+◌, ◌≤◌, ◌↔◌, IsTrue, length, map};
 ghost use Rattle.bitvec_domain.specs.Span.{Fits};
 ghost use Rattle.bitvec_domain.specs.BitSpan.{span_of};
 ghost use Rattle.bitvec.specs.Commands.{command_number, reply_number};
@@ -137,6 +137,13 @@ fn swap<R: BitRegister, O: BitOrder<R>>(
     }
 }
 
+// Whether two runs of `count` of `len` bits end within them.
+fn can_copy(len: usize, from: usize, to: usize, count: usize) -> bool
+    ensures { IsTrue result ↔ ((from + count ≤ len) × (to + count ≤ len)) }
+{
+    count <= len && from <= len - count && to <= len - count
+}
+
 // Copies bits inside the span.
 fn copy<R: BitRegister, O: BitOrder<R>>(
     span: BitSpan<R, O>,
@@ -149,7 +156,7 @@ fn copy<R: BitRegister, O: BitOrder<R>>(
     ensures { IsStep R.BITS O.at_of (span_of span) (map R.number memory.old) (Copy from to count) (reply_number R.number result) (map R.number memory.new) }
 {
     let len = span.len();
-    if count <= len && from <= len - count && to <= len - count {
+    if can_copy(len, from, to, count) {
         let source = bit_pointer(span, from);
         let target = bit_pointer(span, to);
         source.copy_within(memory, target, count);
