@@ -9,9 +9,9 @@ ghost use Rattle.bitvec_order.specs.Order.{mask_start, mask_end};
 ghost use Rattle.bitvec_verify.specs.Scan.{candidate, IsLawful, is_repeated, masked, index_tests, start_tests, pair_tests, absent_tests, tests, fault_of, first_fault};
 ghost use Rattle.bitvec_verify.specs.Verified.{fault_in, Candidates, Verifies};
 
+use bitvec_mem::mem::BitRegister;
 use bitvec_order::index::{BitEnd, BitIdx, BitMask, BitPos, BitSel};
 use bitvec_order::order::{BitAt, OrderCandidate, plain_mask};
-use bitvec_mem::mem::BitRegister;
 
 /// Where a candidate is not a lawful order of a register: what it answered, and what it should have.
 ///
