@@ -1,5 +1,5 @@
 -- `domain_mut` computes where the span's parts lie, and makes a domain of the pieces that `pieces_mut` lends. Assumes `Logic`.
-use Rattle.std.proofs.Common.{◌≡◌, ℕ, ◌+◌, ◌-◌, ◌^◌, ◌<◌, ◌≤◌, pos, ◌≤ℤ◌, List, [], ◌∷◌, ◌++◌, Bool, true, false, not, if◌then◌else◌, refl, sym, ap, ◌∙◌, subst, arith, length, map, take, drop as drop_l, MutBor}
+use Rattle.std.proofs.Common.{◌≡◌, ℕ, ◌+◌, ◌-◌, ◌^◌, ◌<◌, ◌≤◌, pos, ◌≤ℤ◌, List, [], ◌∷◌, Bool, true, false, not, if◌then◌else◌, refl, sym, ◌∙◌, arith, length, map, take, drop as drop_l, MutBor}
 use Rattle.std.specs.Prelude.{nat_abs, Option, Some, None, is_some, IfSome}
 use Rattle.std.proofs.raw_atomic.Walks.{proved, leaves}
 use mir.Syntax.{dcons, dnil, a_type, named, w64}
@@ -15,7 +15,7 @@ use contract.Running.{tables}
 use contract.Monad.{fact, fact_i}
 use contract.BorrowLft.{◌⊑◌}
 use contract.Lifetimes.{Lfts, Shares}
-use denote.Exit.{yes, no}
+use denote.Exit.{no}
 use denote.Laws.{Is, shows}
 use denote.RattleType.{RattleType, owns}
 use denote.Signature.{types_at, plain, mut_slice_of, named_lft}
@@ -24,7 +24,7 @@ use denote.Param.{param, copied, bounded}
 use denote.Param.Laws.{param_laws, copied_laws}
 use denote.Builtin.{usize, bool}
 use denote.Plain.{uint_Lawful, bool_Lawful}
-use denote.Slice.{MutSlice, slice_val, mut_slice_vals, mut_slice_Tells}
+use denote.Slice.{slice_val, mut_slice_vals, mut_slice_Tells}
 use denote.Struct.Laws.{makes}
 use denote.Triple.Spec.{triple_of}
 use denote.Triple.Clauses.{Lasts, lasts}
@@ -36,7 +36,7 @@ use Rattle.bitvec_domain.specs.Span.{Span, Fits}
 use Rattle.bitvec_domain.specs.BitSpan.{span_of}
 use Rattle.bitvec_domain.specs.Domain.{parts_of, HasShortBody}
 use Rattle.bitvec_domain.specs.Edit.{Slot, slot_at}
-use Rattle.bitvec_domain.specs.Lending.{LendsNamed, name_of}
+use Rattle.bitvec_domain.specs.Lending.{LendsNamed}
 use Rattle.bitvec_domain.specs.Pieces.{names_of, piece_lists}
 use Rattle.bitvec_domain.specs.Loans.{is_inside, has_head, has_tail, words_before, body_words, slots_of, lists_of}
 use Rattle.bitvec_domain.specs.LoansView.{loan_names, loan_words, loan_slots, lent_parts}
