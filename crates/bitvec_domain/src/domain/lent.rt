@@ -185,7 +185,8 @@ impl<R: BitRegister, O> BitSpan<R, O> {
     /// They are those of [`domain`](BitSpan::domain). When the loans end, the memory is the last
     /// words of the head's loan, of the body and of the tail's loan, one behind the other; the words
     /// of an absent part are as before. The head's loan has all words up to its own, the tail's all
-    /// words from its own on, and so all words of the memory are lent that a part can be in. Our own.
+    /// words from its own on, and so all words of the memory are lent that a part can be in. The body
+    /// is no longer than one span's can be. Our own.
     pub fn domain_mut<'a>(self, memory: &'a mut [R]) -> DomainMut<'a, R, O>
         requires { Fits R.BITS (span_of self) (length memory.old) }
         ensures* ends { sem 𝓛 (LendsDomain R.row memory.entry (words_before (span_of self)) (body_words R.BITS (span_of self)) result) }

@@ -46,7 +46,7 @@ impl<R: BitRegister, O> Drop for BitWordsMut<'_, R, O> {
     }
 }
 
-/// No bits, in no words.
+/// No bits, in no words. As in the Rust crate, where it is the empty bit slice.
 impl<'a, R: BitRegister, O> Default for BitWordsMut<'a, R, O> {
     ghost use Rattle.std.specs.Prelude.{[], ◌≡◌};
     ghost use Rattle.bitvec_domain.specs.WordsMut.{no_stretch};
