@@ -7,7 +7,7 @@ use Rattle.bitvec_ptr.specs.Place.{words_met}
 use Rattle.bitvec_domain.specs.Span.{Span}
 use Rattle.bitvec_domain.specs.Edit.{Slot, slot_part}
 use Rattle.bitvec_domain.specs.Loans.{is_inside, has_head, has_tail, words_before, body_words, slots_of, lists_of}
-use Rattle.bitvec_domain.specs.LoansView.{loan_names, loan_slots, loan_words}
+use Rattle.bitvec_domain.specs.LoansView.{loan_names, loan_slots}
 use Rattle.bitvec_domain.specs.BitLoans.{names_if, places_of}
 use Rattle.bitvec_domain.specs.declared.domain.lent.DomainMut.{DomainMut}
 use Rattle.bitvec_domain.specs.declared.domain.lent.DomainMut.TheVariants.{Enclave, Region}

@@ -1,7 +1,14 @@
 -- What a `BitSpan` shows.
+use Rattle.std.specs.Prelude.{pos}
+use Rattle.std.proofs.Common.{zero-le}
+use Rattle.bitvec_domain.specs.SpanLemmas.{empty-low}
 use Rattle.bitvec_domain.specs.declared.ptr.span.BitSpan.{BitSpan}
 use Rattle.bitvec_domain.specs.Span.{Span}
 
 -- the word, the head and the length of a span
 abbrev pub span_of : {R O : Type 0} {a b c d e f g : _} → BitSpan R O a b c d e f g → Span
 span_of span = record { word = span.word; head = span.head; len = span.len }
+
+-- the span of no bits, from the first bit of the first word on
+abbrev pub empty_span : {R O : Type 0} {a b c d e f g : _} → BitSpan R O a b c d e f g
+empty_span {a = own} = record { word = pos 0; head = 0; len = 0; of = record {}; in_word = zero-le; short = zero-le; low = empty-low own.BITS }

@@ -35,6 +35,7 @@ pub enum BitDomainMut<'a, R: BitRegister = usize, O = Lsb0> {
     },
 }
 
+/// A head, a body and a tail without bits.
 impl<'a, R: BitRegister, O> Default for BitDomainMut<'a, R, O> {
     ghost use Rattle.std.specs.Prelude.{◌≡◌};
     ghost use Rattle.bitvec_domain.specs.Words.{no_bits, bit_region};
@@ -56,6 +57,8 @@ impl<'a, R: BitRegister, O> BitDomainMut<'a, R, O> {
     ghost use Rattle.bitvec_domain.specs.BitLoansView.{run_bits, lent_bits, run_names, run_places, run_words};
 
     /// The bits of one word, where the domain is those alone.
+    ///
+    /// As in the Rust crate, which answers a bit slice. The run keeps its loan.
     pub fn enclave(self) -> Option<BitWordsMut<'a, R, O>>
         ensures bits { MatchOption result
             (is_bit_enclave (lent_bits R.number self.entry) ≡ false)
@@ -75,6 +78,8 @@ impl<'a, R: BitRegister, O> BitDomainMut<'a, R, O> {
     }
 
     /// The head, the body and the tail, where the domain is not one run alone.
+    ///
+    /// As in the Rust crate, which answers bit slices. Each run keeps its loan.
     pub fn region(
         self,
     ) -> Option<

@@ -34,8 +34,10 @@ pub struct PartialElementMut<'a, R: BitRegister, O> {
 }
 
 impl<R: BitRegister, O> Drop for PartialElementMut<'_, R, O> {
+    ghost use Rattle.bitvec_domain.specs.EditView.{memory_of};
+
     fn drop(self)
-        ensures { self.exit.0.now ≡ self.entry.memory.now }
+        ensures { self.exit.0.now ≡ (memory_of self.entry).now }
     {
         let PartialElementMut {
             memory: _,

@@ -32,8 +32,10 @@ pub struct BitWordsMut<'a, R: BitRegister, O> {
 }
 
 impl<R: BitRegister, O> Drop for BitWordsMut<'_, R, O> {
+    ghost use Rattle.bitvec_domain.specs.WordsMutView.{words_memory};
+
     fn drop(self)
-        ensures { self.exit.0.now ≡ self.entry.memory.now }
+        ensures { self.exit.0.now ≡ (words_memory self.entry).now }
     {
         let BitWordsMut {
             memory: _,
@@ -46,7 +48,7 @@ impl<R: BitRegister, O> Drop for BitWordsMut<'_, R, O> {
     }
 }
 
-/// No bits, in no words.
+/// No bits, in no words. As in the Rust crate, where it is the empty bit slice.
 impl<'a, R: BitRegister, O> Default for BitWordsMut<'a, R, O> {
     ghost use Rattle.std.specs.Prelude.{[], ◌≡◌};
     ghost use Rattle.bitvec_domain.specs.WordsMut.{no_stretch};

@@ -3,10 +3,8 @@
 ghost use Rattle.std.specs.Prelude.{◌≡◌, ⊤, ℕ, ℤ, pos, ◌+◌, ◌-◌, ◌*◌, ◌/◌, ◌%◌, ◌==◌, if◌then◌else◌, ◌+ℤ◌, ◌≤ℤ◌, ◌<ℤ◌, ◌<◌, ◌≤◌, ◌↔◌, IsTrue, IsOk, IfOk, ◌++◌, codes, Some};
 ghost use Rattle.std.specs.Int.{int_div_euclid};
 ghost use Rattle.std.specs.Fmt.{DisplaysOnOk, WritesStyledOnOk};
-ghost use Rattle.std.proofs.Common.{zero-le};
 ghost use Rattle.bitvec_ptr.specs.Place.{place_at, place_of, words_met, tail_of};
 ghost use Rattle.bitvec_domain.specs.Span.{region_max_bits, Fits, AreDisjoint, span_places};
-ghost use Rattle.bitvec_domain.specs.SpanLemmas.{empty-low};
 ghost use Rattle.bitvec_domain.specs.SpanText.{case_text};
 ghost use Rattle.bitvec_domain.specs.Refusals.{signed_text, too_long_text, too_high_text, error_name, too_long_case, too_high_case};
 
@@ -197,6 +195,8 @@ const fn words_for<R: BitRegister>(bits: usize) -> usize
 }
 
 impl<R: BitRegister, O> SpanLimits for BitSpan<R, O> {
+    ghost use Rattle.bitvec_domain.specs.BitSpan.{empty_span};
+
     const EMPTY: Self = BitSpan {
         word: 0,
         head: 0,
@@ -208,15 +208,7 @@ impl<R: BitRegister, O> SpanLimits for BitSpan<R, O> {
 
     const REGION_MAX_ELTS: usize = words_for::<R>(2305843009213693951) + 1;
 
-    ghost EMPTY = { record {
-      word = pos 0;
-      head = 0;
-      len = 0;
-      of = record {};
-      in_word = zero-le;
-      short = zero-le;
-      low = empty-low R.BITS;
-    } };
+    ghost EMPTY = { empty_span };
 
     ghost REGION_MAX_BITS = { region_max_bits };
 

@@ -4,11 +4,9 @@ ghost use Rattle.std.specs.Prelude.{◌≡◌, ⊤, ℕ, ℤ, pos, ◌+◌, ◌-
 ghost use Rattle.std.specs.Iterator.{YieldsFirstBy, YieldsLastBy, item_count};
 ghost use Rattle.std.specs.Range.Bound.{bound_map};
 ghost use Rattle.std.specs.declared.ops.Bound.TheVariants.{Included, Excluded};
-ghost use Rattle.std.proofs.Common.{zero-le};
 ghost use Rattle.bitvec_ptr.specs.Place.{place_of};
 ghost use Rattle.bitvec_ptr.specs.Steps.{CanOffset, distance};
 ghost use Rattle.bitvec_ptr.specs.BitPtr.{ptr_of};
-ghost use Rattle.bitvec_ptr.specs.PtrRangeLemmas.{ordered-itself, near-itself};
 ghost use Rattle.bitvec_ptr.specs.PtrRange.{PtrRange, CanRange, Holds, count_of, places_of};
 
 use crate::ptr::single::{BitPtr, Dangling};
@@ -55,17 +53,14 @@ pub trait EmptyRange: Sized {
 }
 
 impl<R: BitRegister, O> EmptyRange for BitPtrRange<R, O> {
+    ghost use Rattle.bitvec_ptr.specs.BitPtrRange.{empty_range};
+
     const EMPTY: Self = BitPtrRange {
         start: BitPtr::DANGLING,
         end: BitPtr::DANGLING,
     };
 
-    ghost EMPTY = { record {
-      start = record { word = pos 0; bit = 0; of = record {}; in_word = zero-le };
-      end = record { word = pos 0; bit = 0; of = record {}; in_word = zero-le };
-      ordered = ordered-itself R.BITS (record { word = pos 0; bit = 0 });
-      near = near-itself R.BITS (record { word = pos 0; bit = 0 });
-    } };
+    ghost EMPTY = { empty_range };
 }
 
 impl<R: BitRegister, O> BitPtrRange<R, O> {

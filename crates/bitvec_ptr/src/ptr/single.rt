@@ -2,7 +2,6 @@
 
 ghost use Rattle.std.specs.Prelude.{◌≡◌, ⊤, ℕ, ℤ, pos, neg_ℤ, ◌+◌, ◌-◌, ◌/◌, ◌==◌, if◌then◌else◌, Some, length, map, slice_get, slice_set, swap, ◌<◌, ◌≤◌, ◌+ℤ◌, ◌≤ℤ◌, ◌↔◌, IsTrue, FitsSigned};
 ghost use Rattle.std.specs.Int.{w64, int_wrap, int_div_euclid, int_rem_euclid};
-ghost use Rattle.std.proofs.Common.{zero-le};
 ghost use Rattle.bitvec_ptr.specs.Place.{place_of, index_of, words_met};
 ghost use Rattle.bitvec_ptr.specs.Memory.{bit_of, memory_bits};
 ghost use Rattle.bitvec_mem.specs.Digit.{digit};
@@ -50,13 +49,15 @@ pub trait Dangling: Sized {
 }
 
 impl<R: BitRegister, O> Dangling for BitPtr<R, O> {
+    ghost use Rattle.bitvec_ptr.specs.BitPtr.{dangling};
+
     const DANGLING: Self = BitPtr {
         word: 0,
         bit: 0,
         of: PhantomData,
     };
 
-    ghost DANGLING = { record { word = pos 0; bit = 0; of = record {}; in_word = zero-le } };
+    ghost DANGLING = { dangling };
 }
 
 // The words and the index in the last that a number of bits makes up, rounded down.

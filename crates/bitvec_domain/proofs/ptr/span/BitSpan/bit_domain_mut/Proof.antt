@@ -1,6 +1,6 @@
 -- `bit_domain_mut` lends the parts by `domain_mut`, and makes runs of bits of them. Assumes `Logic`.
-use Rattle.std.proofs.Common.{◌≡◌, ℕ, ◌+◌, ◌^◌, ◌<◌, ◌≤◌, List, [], ◌∷◌, Bool, refl, sym, ap, ◌∙◌, arith, length, map, MutBor}
-use Rattle.std.specs.Prelude.{nat_abs, Option, Some, None, is_some}
+use Rattle.std.proofs.Common.{◌≡◌, ℕ, ◌^◌, ◌<◌, List, [], ◌∷◌, Bool, refl, ap, ◌∙◌, length, map, MutBor}
+use Rattle.std.specs.Prelude.{Option, is_some}
 use Rattle.std.proofs.raw_atomic.Walks.{proved, leaves}
 use mir.Syntax.{dcons, dnil, a_type, named}
 use mir.Val.{Val}
@@ -8,20 +8,20 @@ use mir.MapTy.{inst_fn}
 use base.Logic.{SProp, emp, id⊢}
 use base.Fml.{Lft, Fml, GName, ftrue, fsep, flft}
 use types.Kit.{‵, raw, ◌⊛◌, some, later, ◌$◌, ◌∵◌, !, qed, by, move, keep, drop, split, join, fsplit, fjoin, pick, use0, use1, await, rewrite}
-use types.Run.{stop, fld, hop, addr, from, of_opd, no_more, and_then, returns, enter}
+use types.Run.{stop, fld, hop, addr, from, no_more, and_then, returns, enter}
 use types.ByLocal.{alloc_all, pass_all, free_all, look_at, get, get_in, sets, lands_as, look_in_at}
 use types.Part.{agg, sub, whole}
 use contract.Running.{tables}
 use contract.Monad.{fact, fact_i}
 use contract.BorrowLft.{◌⊑◌}
-use denote.Exit.{yes, no}
+use denote.Exit.{no}
 use denote.Laws.{Is, shows}
 use denote.RattleType.{RattleType, owns}
 use denote.Signature.{types_at, plain, mut_slice_of, named_lft}
 use denote.Steps.{nothing, heard, owned, peeks}
 use denote.Param.{param, copied, bounded}
 use denote.Param.Laws.{param_laws, copied_laws}
-use denote.Slice.{MutSlice, slice_val, mut_slice_vals, mut_slice_Tells}
+use denote.Slice.{slice_val, mut_slice_vals, mut_slice_Tells}
 use denote.Struct.Laws.{makes}
 use denote.Triple.Spec.{triple_of}
 use denote.Triple.Clauses.{Lasts, lasts}
