@@ -39,7 +39,7 @@ use denote.Triple.Table.{framed}
 use denote.Triple.Walked.{Stays, stay_dropped, stay_slice, walk_of, Goes-dropped, Goes-slice}
 use Rattle.bitvec_domain.specs.Span.{Span, Fits}
 use Rattle.bitvec_domain.specs.BitSpan.{span_of}
-use Rattle.bitvec_domain.specs.Domain.{parts_of}
+use Rattle.bitvec_domain.specs.Domain.{parts_of, HasShortBody}
 use Rattle.bitvec_domain.specs.Lending.{LendsNamed}
 use Rattle.bitvec_domain.specs.Pieces.{names_of, piece_list}
 use Rattle.bitvec_domain.specs.Loans.{words_before, body_words, slots_of, lists_of, word_of_bit, filled_slot_if, filled}
@@ -110,8 +110,8 @@ fill_spec 𝓤 𝓛 𝓜 𝓡 wired X O L LO copy rb rbd rc rcd rd rdd re red rp
     use1 𝓛 (raw (G.pre z)) (id⊢ 𝓤 _) $
     calls_at ! (framed 𝓤 H 𝓜 𝓣) G (met 𝓤 𝓛 𝓜 𝓡 (code.calls-bitvec_domain::ptr::span::BitSpan::domain_mut 𝓡.env wired) X O L LO copy rb rbd rc rcd rd rdd re red rp rpd ro rod rq rqd rh rhd rg rgd m1 m2 m3 m4 m5 m6 m7 m8 m9) z (and_then ! (get ! refl) (and_then ! (get ! refl) (no_more !))) (λ v.
     use1 𝓛 (later (some (λ (e : Dom.Denot). ((‵ (flft αs (left t)) ⊛ ‵ others') ⊛ ‵ (Dom.own_val e (v ∷ []))) ⊛ some (λ (ws : Lasts (g.ended X O rb rbd rc rcd rd rdd re red rp rpd ro rod rq rqd rh rhd rg rgd) κs' (s₀, (s, tt))). ‵ (lasts (g.ended X O rb rbd rc rcd rd rdd re red rp rpd ro rod rq rqd rh rhd rg rgd) κs' (s₀, (s, tt)) ws)
-    ⊛ ‵ (LendsNamed R s i n (loan_names e)) ⊛ raw (fact 𝓤 (lent_parts rb.number e ≡ parts_of rb.BITS span (map rb.number xs))) ⊛ raw (fact 𝓤 (loan_slots e ≡ slots_of rb.BITS span)) ⊛ raw (fact 𝓤 (loan_words e ≡ lists_of rb.BITS span xs)))))) (id⊢ 𝓤 _) $ await ! tt $ pick ! (λ e. split ! $ split ! $ move ! (2 ∷ []) $ pick ! (λ ws. split ! $ drop ! $
-    split ! $ move ! (1 ∷ []) $ split ! $ drop ! $ split ! $ heard ! _ (λ slots. heard ! _ (λ listed. move ! (2 ∷ []) $ peeks ! Dom (Is Dom) (shows 𝓛 Dom) e (v ∷ []) (λ as_domain. let good = ((LD.lawful 𝓛).typed e (v ∷ []) as_domain).0 in
+    ⊛ ‵ (LendsNamed R s i n (loan_names e)) ⊛ raw (fact 𝓤 (lent_parts rb.number e ≡ parts_of rb.BITS span (map rb.number xs))) ⊛ raw (fact 𝓤 (loan_slots e ≡ slots_of rb.BITS span)) ⊛ raw (fact 𝓤 (loan_words e ≡ lists_of rb.BITS span xs)) ⊛ raw (fact 𝓤 (HasShortBody rb.BITS (lent_parts rb.number e))))))) (id⊢ 𝓤 _) $ await ! tt $ pick ! (λ e. split ! $ split ! $ move ! (2 ∷ []) $ pick ! (λ ws. split ! $ drop ! $
+    split ! $ move ! (1 ∷ []) $ split ! $ drop ! $ split ! $ heard ! _ (λ slots. split ! $ heard ! _ (λ listed. heard ! _ (λ short. move ! (2 ∷ []) $ peeks ! Dom (Is Dom) (shows 𝓛 Dom) e (v ∷ []) (λ as_domain. let good = ((LD.lawful 𝓛).typed e (v ∷ []) as_domain).0 in
     -- [the domain; what the loan ends as; the tokens; what the lender keeps; the way back]
     lands_as ! refl refl good $ sets ! (of_opd ! (get ! refl)) refl good $
     let J = triple_of 𝓛 (h.signature X O rb rbd rc rcd rd rdd re red rp rpd ro rod rq rqd rh rhd rg rgd obo obod ooc oocd oba obad) (h.spec X O rb rbd rc rcd rd rdd re red rp rpd ro rod rq rqd rh rhd rg rgd obo obod ooc oocd oba obad 𝓛 𝓜.mem 𝓡.returns) in
@@ -144,4 +144,4 @@ fill_spec 𝓤 𝓛 𝓜 𝓡 wired X O L LO copy rb rbd rc rcd rd rdd re red rp
     use0 𝓛 (raw (fact 𝓤 (map rb.number all ≡ filled rb.BITS oba.at_of bit span (map rb.number xs)))) (fact_i 𝓤 _ (emp 𝓤) (filled-loans rb.number rb.BITS oba.at_of bit span xs fits.1 e p slots listed nm pf pb pk)) $
     feq_i ! (List Val) (vunit ∷ []) (vunit ∷ []) refl $
     -- [the result; the `ensures`; the slice; the tokens]
-    keep ! (3 ∷ 2 ∷ 0 ∷ 1 ∷ []) $ by ! (leaves 𝓛 En hs c y vunit tt (tt, (all, (tt, tt))) (tt, (as_long, (tt, tt)))))))))))))))))))))))))))
+    keep ! (3 ∷ 2 ∷ 0 ∷ 1 ∷ []) $ by ! (leaves 𝓛 En hs c y vunit tt (tt, (all, (tt, tt))) (tt, (as_long, (tt, tt))))))))))))))))))))))))))))
