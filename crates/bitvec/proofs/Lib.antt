@@ -1,9 +1,9 @@
 pub mod CommandLemmas
 pub mod LaterLemmas
 pub mod MoveLemmas
-pub mod OneRequest
 pub mod PointerLaws
 pub mod PointerLemmas
+pub mod RequestLemmas
 pub mod RunLemmas
 pub mod SpanLemmas
 pub mod WordLemmas

@@ -3,7 +3,7 @@ use Rattle.std.proofs.lemmas.List.{length-map}
 use Rattle.std.proofs.lemmas.Option.{slice_get_read}
 use Rattle.bitvec_domain.specs.BitSpan.{span_of}
 use Rattle.bitvec.specs.Run.{CanRun}
-use Rattle.bitvec.proofs.OneRequest.{run-one, run-no_span}
+use Rattle.bitvec.proofs.RequestLemmas.{run-one, run-no_span}
 use Rattle.bitvec.proofs.run.serve.Goals as goal
 
 pub returns-then-request-spans : goal.returns-then-request-spans

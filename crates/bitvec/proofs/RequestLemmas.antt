@@ -10,12 +10,13 @@ use Rattle.bitvec.specs.declared.run.command.Reply.TheVariants.{NoSpan}
 use Rattle.bitvec.specs.Run.{CanRun, IsRun, IsStep}
 use Rattle.bitvec.proofs.SpanLemmas.{list_of-other}
 
-pub fits_at : {S : Type 0} (bits : ℕ) (view : S → Span) (spans : List S) (words s : ℕ) (span : S) → CanRun bits view spans words → slice_get spans s ≡ Some span → Fits bits (view span) words
+-- each span fits
+fits_at : {S : Type 0} (bits : ℕ) (view : S → Span) (spans : List S) (words s : ℕ) (span : S) → CanRun bits view spans words → slice_get spans s ≡ Some span → Fits bits (view span) words
 fits_at bits view spans words s span can is =
     subst (λ x. Fits bits (view x) words) (get_or_from_slice_get spans s span span is) (can.0 s span (slice_get_within spans s span is))
 
 -- spans of different numbers are disjoint
-pub apart_at : {S : Type 0} (bits : ℕ) (view : S → Span) (spans : List S) (words s t : ℕ) (a b : S) → CanRun bits view spans words → slice_get spans s ≡ Some a → slice_get spans t ≡ Some b → s ≢ t
+apart_at : {S : Type 0} (bits : ℕ) (view : S → Span) (spans : List S) (words s t : ℕ) (a b : S) → CanRun bits view spans words → slice_get spans s ≡ Some a → slice_get spans t ≡ Some b → s ≢ t
     → (place : ℤ) → Covers bits (view a) place → Covers bits (view b) place → ⊥
 apart_at bits view spans words s t a b can is it differ place in_a in_b =
     let at_s : (d : _) → get_or spans s d ≡ a = λ d. get_or_from_slice_get spans s a d is in
