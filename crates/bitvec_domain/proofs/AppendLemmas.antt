@@ -1,5 +1,5 @@
 -- The bits of a memory of which a part was written.
-use Rattle.std.proofs.Common.{◌≡◌, ℕ, ◌+◌, ◌-◌, ◌*◌, ◌/◌, ◌%◌, ◌<◌, ◌≤◌, Bool, false, List, ◌++◌, length, map, get_or, take, drop, sym, ap, ◌∙◌, inl, inr, arith, length-append, length-drop, length-take-le}
+use Rattle.std.proofs.Common.{◌≡◌, ℕ, ◌+◌, ◌-◌, ◌*◌, ◌/◌, ◌%◌, ◌<◌, ◌≤◌, Bool, false, List, ◌++◌, length, map, take, drop, sym, ap, ◌∙◌, inl, inr, arith, length-append, length-drop, length-take-le}
 use Rattle.std.specs.Prelude.{slice_set, slice_index}
 use Rattle.std.proofs.lemmas.Bool.{cases_lt}
 use Rattle.std.proofs.lemmas.List.{map-append, length-map, take-append-drop, get_or_append_left, get_or-append_right, get_or-append-add, set-append_left, set-append_right}

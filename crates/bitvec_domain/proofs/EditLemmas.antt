@@ -1,11 +1,11 @@
 -- Edits of a part of a word, from what they do under a mask.
-use Rattle.std.proofs.Common.{◌≡◌, ℕ, ◌<◌, ◌≤◌, ◌^◌, Bool, true, false, not, ◌&&◌, ◌||◌, if◌then◌else◌, nat_le, nat_lt, List, map, refl, sym, ap, ◌∙◌}
+use Rattle.std.proofs.Common.{◌≡◌, ℕ, ◌<◌, ◌≤◌, ◌^◌, Bool, true, false, not, ◌&&◌, ◌||◌, if◌then◌else◌, nat_le, nat_lt, List, map, refl, ap, ◌∙◌}
 use Rattle.std.proofs.lemmas.List.{map-set}
 use Rattle.std.specs.Prelude.{slice_index, slice_set}
 use Rattle.bitvec_mem.specs.Digit.{digit, differ}
 use Rattle.bitvec_order.specs.Order.{IsOneToOne, IsMaskOf}
 use Rattle.bitvec_order.proofs.IndexLemmas.{digit-mask_at, number_of-from_digits}
-use Rattle.bitvec_domain.specs.Edit.{Slot, slot_part, edited_word, EditsPart}
+use Rattle.bitvec_domain.specs.Edit.{Slot, slot_part, EditsPart}
 use Rattle.bitvec_domain.proofs.PartLemmas.{value_of-from_mask}
 
 -- a digit cleared, set or turned over where a mask has its position

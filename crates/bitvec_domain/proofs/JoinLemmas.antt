@@ -1,5 +1,5 @@
 -- The bits of a span's parts, one behind the other, are the bits of the span.
-use Rattle.std.proofs.Common.{◌≡◌, ◌⊎◌, ℕ, zero, suc, ◌+◌, ◌-◌, ◌*◌, ◌/◌, ◌%◌, ◌<◌, ◌≤◌, ◌==◌, Bool, false, List, [], ◌∷◌, ◌++◌, length, map, take, drop, Some, None, refl, sym, ap, ◌∙◌, inl, inr, arith, append-nil, append_assoc, length-drop, length-take-le}
+use Rattle.std.proofs.Common.{◌≡◌, ℕ, zero, suc, ◌+◌, ◌-◌, ◌*◌, ◌/◌, ◌%◌, ◌<◌, ◌≤◌, ◌==◌, Bool, false, List, [], ◌∷◌, ◌++◌, length, map, take, drop, Some, None, refl, sym, ap, ◌∙◌, inl, inr, arith, append-nil, append_assoc, length-drop, length-take-le}
 use Rattle.std.specs.Prelude.{nat_abs, slice_index, slice_range}
 use Rattle.std.specs.List.{range_with_len}
 use Rattle.std.proofs.lemmas.List.{length-map, get_or-take, get_or-drop}
@@ -10,12 +10,12 @@ use Rattle.std.proofs.Math.Nat.{lt_of_mul-lt-mul_right}
 use Rattle.bitvec_mem.specs.Digit.{digit}
 use Rattle.bitvec_ptr.specs.Memory.{tabulate, bit_of}
 use Rattle.bitvec_ptr.specs.Place.{words_met, tail_of}
-use Rattle.bitvec_ptr.proofs.PlaceLemmas.{words_met-none, words_met-some, tail_of-some}
+use Rattle.bitvec_ptr.proofs.PlaceLemmas.{words_met-some, tail_of-some}
 use Rattle.bitvec_ptr.proofs.MemoryLemmas.{tabulate_same, tabulate-from_elements, bit_of-place}
 use Rattle.bitvec_ptr.proofs.BitLemmas.{bit_of-word}
 use Rattle.bitvec_domain.specs.Span.{Span, Fits, list_of}
 use Rattle.bitvec_domain.specs.Domain.{Part, Parts, enclave, region, part_head, part_tail, part_of, parts_of}
-use Rattle.bitvec_domain.specs.Words.{WordBits, bits_list, part_bits, body_bits, no_bits, bit_parts_of, joined_bits}
+use Rattle.bitvec_domain.specs.Words.{bits_list, part_bits, body_bits, bit_parts_of, joined_bits}
 use Rattle.bitvec_domain.proofs.PartLemmas.{part_same}
 use Rattle.bitvec_domain.proofs.ItemLemmas.{table_cases, first_bound, last_bound}
 

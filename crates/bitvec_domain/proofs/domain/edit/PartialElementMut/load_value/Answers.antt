@@ -1,4 +1,4 @@
-use Rattle.std.proofs.Common.{map, ap, ◌∙◌}
+use Rattle.std.proofs.Common.{map}
 use Rattle.bitvec_order.specs.Order.{IsMaskOf}
 use Rattle.bitvec_domain.specs.Edit.{slot_part}
 use Rattle.bitvec_domain.specs.EditView.{memory_of, slot_in}

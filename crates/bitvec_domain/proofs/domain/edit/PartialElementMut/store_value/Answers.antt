@@ -1,4 +1,3 @@
-use Rattle.std.proofs.Common.{◌≡◌}
 use Rattle.bitvec_mem.specs.Digit.{digit}
 use Rattle.bitvec_order.specs.Order.{IsMaskOf}
 use Rattle.bitvec_domain.specs.EditView.{memory_of, slot_in}

@@ -1,6 +1,5 @@
-use Rattle.std.proofs.Common.{◌≡◌, ◌<◌, ◌≤◌, ◌*◌, length, ◌∙◌, arith}
+use Rattle.std.proofs.Common.{◌≡◌, ◌<◌, length, ◌∙◌, arith}
 use Rattle.std.proofs.Math.Nat.{le-div_iff_mul-le}
-use Rattle.bitvec_domain.specs.Span.{region_max_bits}
 use Rattle.bitvec_domain.proofs.WordsLemmas.{body_met}
 use Rattle.bitvec_domain.proofs.domain.words.BitWords.of_body.Goals as goal
 

@@ -1,4 +1,4 @@
-use Rattle.std.proofs.Common.{◌<◌, length, map, arith}
+use Rattle.std.proofs.Common.{◌<◌, length, arith}
 use Rattle.std.proofs.lemmas.List.{length-map}
 use Rattle.bitvec_domain.specs.WordsView.{word_bits}
 use Rattle.bitvec_domain.proofs.WordsLemmas.{met_within, read_known}

@@ -1,4 +1,4 @@
-use Rattle.std.proofs.Common.{◌≡◌, ◌<◌, ◌≤◌, ◌-◌, ◌+◌, length, map, take, drop, sym, ap, ◌∙◌, arith, length-drop, length-take-le}
+use Rattle.std.proofs.Common.{◌≡◌, ◌<◌, ◌-◌, ◌+◌, length, map, take, drop, sym, ap, ◌∙◌, arith, length-drop, length-take-le}
 use Rattle.std.specs.Prelude.{slice_get, slice_set}
 use Rattle.bitvec_ptr.specs.BitPtr.{ptr_of}
 use Rattle.bitvec_ptr.specs.Place.{index_of}
