@@ -8,5 +8,5 @@ pub loop-n-preserved : goal.loop-n-preserved
 loop-n-preserved g c =
     let within : c.loop-n.n < length c.args.requests.now = omega arith in
     let room : c.loop-n.n < length c.loop-n.replies = omega arith in
-    rw (take_more c.args.requests.now c.loop-n.n c.index-requests-n.result within, take_more_set c.loop-n.replies c.loop-n.n c.serve.result room, ← c.index-requests-n.is, map_push, map_push)
+    rw (take_more c.args.requests.now c.loop-n.n c.index-requests-n.result within, take_more_set c.loop-n.replies c.loop-n.n _ room, ← c.index-requests-n.is, map_push, map_push)
     (run-more _ _ span_of c.args.spans.now _ _ _ _ _ _ _ c.loop-n.invariant c.serve.ensures)
