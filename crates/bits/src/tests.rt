@@ -146,7 +146,11 @@ fn answers(rt: HostRuntime) -> Result<(), Fail> {
         ("run lsb0 u8 - - -", 0, "memory -\n"),
         ("run lsb0 u8 0 0+4,3+4 -", 2, "fault: spans overlap\n"),
         ("run lsb0 u8 0 0+9 -", 2, "fault: span does not fit\n"),
-        ("run lsb0 u8 0 0+4 0:clear:0,0:copy:4:0:0", 0, "word 0\ndone\nmemory 0\n"),
+        (
+            "run lsb0 u8 0 0+4 0:clear:0,0:copy:4:0:0",
+            0,
+            "word 0\ndone\nmemory 0\n",
+        ),
         ("run lsb0 u8 0 0+4 0:load", 2, USAGE),
         ("run lsb0 u8 0 0+4 0:replace:0:2", 2, USAGE),
         ("run lsb0 u8 0 0+4 0:store:0:100", 2, USAGE),
