@@ -1,5 +1,7 @@
 //! The lines of `bits run`: commands through disjoint spans of one memory.
 
+ghost use Rattle.std.specs.Prelude.{◌≡◌, IfOk, length};
+
 use crate::answer::Fault;
 use crate::names::Call;
 use crate::number::number;
@@ -152,7 +154,9 @@ fn count(text: &str) -> Option<usize> {
 fn no_replies<'a, R: BitRegister, A: Allocator>(
     alloc: &'a A,
     count: usize,
-) -> Result<Vec<Reply<R>, &'a A>, Fault<&'a A>> {
+) -> Result<Vec<Reply<R>, &'a A>, Fault<&'a A>>
+    ensures { IfOk result (λ replies. length replies.items ≡ count) }
+{
     let mut replies = Vec::new(alloc);
     for _ in 0..count {
         replies.push(Reply::NoSpan).map_err(AllocError::from)?;
