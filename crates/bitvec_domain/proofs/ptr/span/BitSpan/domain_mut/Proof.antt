@@ -99,47 +99,47 @@ domain_mut_spec 𝓤 𝓛 𝓜 𝓡 wired X O L LO copy rb rbd rc rcd rd rdd re 
     -- [the other tokens; the slice; the token of κ]
     let κs2 : Lfts 2 = (κs.1.0, (κs.1.1.0, tt)) in let qs2 : Shares 2 = (qs.1.0, (qs.1.1.0, tt)) in
     -- words_before
-    let T1 = triple_of 𝓛 (n1.signature X O rb rbd rc rcd rd rdd re red rp rpd ro rod rq rqd rh rhd rg rgd) (n1.spec X O rb rbd rc rcd rd rdd re red rp rpd ro rod rq rqd rh rhd rg rgd 𝓛 𝓜.mem 𝓡.returns) in
-    let z1 : T1.Ghost = ((κs2, qs2, tt, (s, tt), (sv ∷ [], tt)), tt) in
+    let Call1 = triple_of 𝓛 (n1.signature X O rb rbd rc rcd rd rdd re red rp rpd ro rod rq rqd rh rhd rg rgd) (n1.spec X O rb rbd rc rcd rd rdd re red rp rpd ro rod rq rqd rh rhd rg rgd 𝓛 𝓜.mem 𝓡.returns) in
+    let z1 : Call1.Ghost = ((κs2, qs2, tt, (s, tt), (sv ∷ [], tt)), tt) in
     nothing ! $ owned ! Spans _ mk s _ is_span $ fjoin ! $ move ! (1 ∷ 0 ∷ []) $ join ! $ use0 𝓛 (raw (fact 𝓤 (pos 0 ≤ℤ span.word))) (fact_i 𝓤 _ (emp 𝓤) fits.0) $ use0 𝓛 (raw (fact 𝓤 (κs.1.1.0 ⊑ O.lives))) (fact_i 𝓤 _ (emp 𝓤) alive_o) $ join ! $
-    use0 𝓛 (raw (fact 𝓤 (κs.1.0 ⊑ X.lives))) (fact_i 𝓤 _ (emp 𝓤) alive_in) $ join ! $ move ! (1 ∷ 0 ∷ []) $ join ! $ use1 𝓛 (raw (T1.pre z1)) (id⊢ 𝓤 _) $
-    calls_at ! (framed 𝓤 H 𝓜 𝓣) T1 (met_n1 𝓤 𝓛 𝓜 𝓡 (code.calls-bitvec_domain::ptr::span::BitSpan::words_before 𝓡.env wired) X O L LO copy rb rbd rc rcd rd rdd re red rp rpd ro rod rq rqd rh rhd rg rgd m1 m2 m3 m4 m5 m6 m7 m8 m9) z1 (and_then ! (get ! refl) (no_more !)) (λ v1.
+    use0 𝓛 (raw (fact 𝓤 (κs.1.0 ⊑ X.lives))) (fact_i 𝓤 _ (emp 𝓤) alive_in) $ join ! $ move ! (1 ∷ 0 ∷ []) $ join ! $ use1 𝓛 (raw (Call1.pre z1)) (id⊢ 𝓤 _) $
+    calls_at ! (framed 𝓤 H 𝓜 𝓣) Call1 (met_n1 𝓤 𝓛 𝓜 𝓡 (code.calls-bitvec_domain::ptr::span::BitSpan::words_before 𝓡.env wired) X O L LO copy rb rbd rc rcd rd rdd re red rp rpd ro rod rq rqd rh rhd rg rgd m1 m2 m3 m4 m5 m6 m7 m8 m9) z1 (and_then ! (get ! refl) (no_more !)) (λ v1.
     use1 𝓛 (later (some (λ (r : usize.Denot). (‵ others ⊛ ‵ (usize.own_val r (v1 ∷ []))) ⊛ some (λ (ws : Lasts (n1.ended X O rb rbd rc rcd rd rdd re red rp rpd ro rod rq rqd rh rhd rg rgd) κs2 (s, tt)). ‵ (lasts (n1.ended X O rb rbd rc rcd rd rdd re red rp rpd ro rod rq rqd rh rhd rg rgd) κs2 (s, tt) ws)
     ⊛ raw (fact 𝓤 (r ≡ i)))))) (id⊢ 𝓤 _) $ await ! tt $ pick ! (λ r1. split ! $ split ! $ move ! (2 ∷ []) $ pick ! (λ ws. split ! $ drop ! $ heard ! _ (λ is1. move ! (1 ∷ []) $ rewrite ! 0 (λ (k : ℕ). ‵ (usize.own_val k (v1 ∷ []))) is1 refl $
     peeks ! usize (Is usize) (shows 𝓛 usize) i (v1 ∷ []) (λ as1. lands_as ! refl refl (((uint_Lawful 𝓛 w64).typed i (v1 ∷ []) as1).0) $ move ! (1 ∷ []) $
     -- body_words
-    let T2 = triple_of 𝓛 (n2.signature X O rb rbd rc rcd rd rdd re red rp rpd ro rod rq rqd rh rhd rg rgd) (n2.spec X O rb rbd rc rcd rd rdd re red rp rpd ro rod rq rqd rh rhd rg rgd 𝓛 𝓜.mem 𝓡.returns) in
-    let z2 : T2.Ghost = ((κs2, qs2, tt, (s, tt), (sv ∷ [], tt)), tt) in
+    let Call2 = triple_of 𝓛 (n2.signature X O rb rbd rc rcd rd rdd re red rp rpd ro rod rq rqd rh rhd rg rgd) (n2.spec X O rb rbd rc rcd rd rdd re red rp rpd ro rod rq rqd rh rhd rg rgd 𝓛 𝓜.mem 𝓡.returns) in
+    let z2 : Call2.Ghost = ((κs2, qs2, tt, (s, tt), (sv ∷ [], tt)), tt) in
     nothing ! $ owned ! Spans _ mk s _ is_span $ fjoin ! $ move ! (1 ∷ 0 ∷ []) $ join ! $ nothing ! $ use0 𝓛 (raw (fact 𝓤 (κs.1.1.0 ⊑ O.lives))) (fact_i 𝓤 _ (emp 𝓤) alive_o) $ join ! $
-    use0 𝓛 (raw (fact 𝓤 (κs.1.0 ⊑ X.lives))) (fact_i 𝓤 _ (emp 𝓤) alive_in) $ join ! $ move ! (1 ∷ 0 ∷ []) $ join ! $ use1 𝓛 (raw (T2.pre z2)) (id⊢ 𝓤 _) $
-    calls_at ! (framed 𝓤 H 𝓜 𝓣) T2 (met_n2 𝓤 𝓛 𝓜 𝓡 (code.calls-bitvec_domain::ptr::span::BitSpan::body_words 𝓡.env wired) X O L LO copy rb rbd rc rcd rd rdd re red rp rpd ro rod rq rqd rh rhd rg rgd m1 m2 m3 m4 m5 m6 m7 m8 m9) z2 (and_then ! (get ! refl) (no_more !)) (λ v2.
+    use0 𝓛 (raw (fact 𝓤 (κs.1.0 ⊑ X.lives))) (fact_i 𝓤 _ (emp 𝓤) alive_in) $ join ! $ move ! (1 ∷ 0 ∷ []) $ join ! $ use1 𝓛 (raw (Call2.pre z2)) (id⊢ 𝓤 _) $
+    calls_at ! (framed 𝓤 H 𝓜 𝓣) Call2 (met_n2 𝓤 𝓛 𝓜 𝓡 (code.calls-bitvec_domain::ptr::span::BitSpan::body_words 𝓡.env wired) X O L LO copy rb rbd rc rcd rd rdd re red rp rpd ro rod rq rqd rh rhd rg rgd m1 m2 m3 m4 m5 m6 m7 m8 m9) z2 (and_then ! (get ! refl) (no_more !)) (λ v2.
     use1 𝓛 (later (some (λ (r : usize.Denot). (‵ others ⊛ ‵ (usize.own_val r (v2 ∷ []))) ⊛ some (λ (ws : Lasts (n2.ended X O rb rbd rc rcd rd rdd re red rp rpd ro rod rq rqd rh rhd rg rgd) κs2 (s, tt)). ‵ (lasts (n2.ended X O rb rbd rc rcd rd rdd re red rp rpd ro rod rq rqd rh rhd rg rgd) κs2 (s, tt) ws)
     ⊛ raw (fact 𝓤 (r ≡ n)))))) (id⊢ 𝓤 _) $ await ! tt $ pick ! (λ r2. split ! $ split ! $ move ! (2 ∷ []) $ pick ! (λ ws. split ! $ drop ! $ heard ! _ (λ is2. move ! (1 ∷ []) $ rewrite ! 0 (λ (k : ℕ). ‵ (usize.own_val k (v2 ∷ []))) is2 refl $
     peeks ! usize (Is usize) (shows 𝓛 usize) n (v2 ∷ []) (λ as2. lands_as ! refl refl (((uint_Lawful 𝓛 w64).typed n (v2 ∷ []) as2).0) $ move ! (1 ∷ []) $
     -- has_head
-    let T3 = triple_of 𝓛 (n3.signature X O rb rbd rc rcd rd rdd re red rp rpd ro rod rq rqd rh rhd rg rgd) (n3.spec X O rb rbd rc rcd rd rdd re red rp rpd ro rod rq rqd rh rhd rg rgd 𝓛 𝓜.mem 𝓡.returns) in
-    let z3 : T3.Ghost = ((κs2, qs2, tt, (s, tt), (sv ∷ [], tt)), tt) in
+    let Call3 = triple_of 𝓛 (n3.signature X O rb rbd rc rcd rd rdd re red rp rpd ro rod rq rqd rh rhd rg rgd) (n3.spec X O rb rbd rc rcd rd rdd re red rp rpd ro rod rq rqd rh rhd rg rgd 𝓛 𝓜.mem 𝓡.returns) in
+    let z3 : Call3.Ghost = ((κs2, qs2, tt, (s, tt), (sv ∷ [], tt)), tt) in
     nothing ! $ owned ! Spans _ mk s _ is_span $ fjoin ! $ move ! (1 ∷ 0 ∷ []) $ join ! $ nothing ! $ use0 𝓛 (raw (fact 𝓤 (κs.1.1.0 ⊑ O.lives))) (fact_i 𝓤 _ (emp 𝓤) alive_o) $ join ! $
-    use0 𝓛 (raw (fact 𝓤 (κs.1.0 ⊑ X.lives))) (fact_i 𝓤 _ (emp 𝓤) alive_in) $ join ! $ move ! (1 ∷ 0 ∷ []) $ join ! $ use1 𝓛 (raw (T3.pre z3)) (id⊢ 𝓤 _) $
-    calls_at ! (framed 𝓤 H 𝓜 𝓣) T3 (met_n3 𝓤 𝓛 𝓜 𝓡 (code.calls-bitvec_domain::ptr::span::BitSpan::has_head 𝓡.env wired) X O L LO copy rb rbd rc rcd rd rdd re red rp rpd ro rod rq rqd rh rhd rg rgd m1 m2 m3 m4 m5 m6 m7 m8 m9) z3 (and_then ! (get ! refl) (no_more !)) (λ v3.
+    use0 𝓛 (raw (fact 𝓤 (κs.1.0 ⊑ X.lives))) (fact_i 𝓤 _ (emp 𝓤) alive_in) $ join ! $ move ! (1 ∷ 0 ∷ []) $ join ! $ use1 𝓛 (raw (Call3.pre z3)) (id⊢ 𝓤 _) $
+    calls_at ! (framed 𝓤 H 𝓜 𝓣) Call3 (met_n3 𝓤 𝓛 𝓜 𝓡 (code.calls-bitvec_domain::ptr::span::BitSpan::has_head 𝓡.env wired) X O L LO copy rb rbd rc rcd rd rdd re red rp rpd ro rod rq rqd rh rhd rg rgd m1 m2 m3 m4 m5 m6 m7 m8 m9) z3 (and_then ! (get ! refl) (no_more !)) (λ v3.
     use1 𝓛 (later (some (λ (r : bool.Denot). (‵ others ⊛ ‵ (bool.own_val r (v3 ∷ []))) ⊛ some (λ (ws : Lasts (n3.ended X O rb rbd rc rcd rd rdd re red rp rpd ro rod rq rqd rh rhd rg rgd) κs2 (s, tt)). ‵ (lasts (n3.ended X O rb rbd rc rcd rd rdd re red rp rpd ro rod rq rqd rh rhd rg rgd) κs2 (s, tt) ws)
     ⊛ raw (fact 𝓤 (r ≡ on0)))))) (id⊢ 𝓤 _) $ await ! tt $ pick ! (λ r3. split ! $ split ! $ move ! (2 ∷ []) $ pick ! (λ ws. split ! $ drop ! $ heard ! _ (λ is3. move ! (1 ∷ []) $ rewrite ! 0 (λ (k : Bool). ‵ (bool.own_val k (v3 ∷ []))) is3 refl $
     peeks ! bool (Is bool) (shows 𝓛 bool) on0 (v3 ∷ []) (λ as3. lands_as ! refl refl (((bool_Lawful 𝓛).typed on0 (v3 ∷ []) as3).0) $ move ! (1 ∷ []) $
     -- has_body
-    let T4 = triple_of 𝓛 (n4.signature X O rb rbd rc rcd rd rdd re red rp rpd ro rod rq rqd rh rhd rg rgd) (n4.spec X O rb rbd rc rcd rd rdd re red rp rpd ro rod rq rqd rh rhd rg rgd 𝓛 𝓜.mem 𝓡.returns) in
-    let z4 : T4.Ghost = ((κs2, qs2, tt, (s, tt), (sv ∷ [], tt)), tt) in
+    let Call4 = triple_of 𝓛 (n4.signature X O rb rbd rc rcd rd rdd re red rp rpd ro rod rq rqd rh rhd rg rgd) (n4.spec X O rb rbd rc rcd rd rdd re red rp rpd ro rod rq rqd rh rhd rg rgd 𝓛 𝓜.mem 𝓡.returns) in
+    let z4 : Call4.Ghost = ((κs2, qs2, tt, (s, tt), (sv ∷ [], tt)), tt) in
     nothing ! $ owned ! Spans _ mk s _ is_span $ fjoin ! $ move ! (1 ∷ 0 ∷ []) $ join ! $ nothing ! $ use0 𝓛 (raw (fact 𝓤 (κs.1.1.0 ⊑ O.lives))) (fact_i 𝓤 _ (emp 𝓤) alive_o) $ join ! $
-    use0 𝓛 (raw (fact 𝓤 (κs.1.0 ⊑ X.lives))) (fact_i 𝓤 _ (emp 𝓤) alive_in) $ join ! $ move ! (1 ∷ 0 ∷ []) $ join ! $ use1 𝓛 (raw (T4.pre z4)) (id⊢ 𝓤 _) $
-    calls_at ! (framed 𝓤 H 𝓜 𝓣) T4 (met_n4 𝓤 𝓛 𝓜 𝓡 (code.calls-bitvec_domain::ptr::span::BitSpan::has_body 𝓡.env wired) X O L LO copy rb rbd rc rcd rd rdd re red rp rpd ro rod rq rqd rh rhd rg rgd m1 m2 m3 m4 m5 m6 m7 m8 m9) z4 (and_then ! (get ! refl) (no_more !)) (λ v4.
+    use0 𝓛 (raw (fact 𝓤 (κs.1.0 ⊑ X.lives))) (fact_i 𝓤 _ (emp 𝓤) alive_in) $ join ! $ move ! (1 ∷ 0 ∷ []) $ join ! $ use1 𝓛 (raw (Call4.pre z4)) (id⊢ 𝓤 _) $
+    calls_at ! (framed 𝓤 H 𝓜 𝓣) Call4 (met_n4 𝓤 𝓛 𝓜 𝓡 (code.calls-bitvec_domain::ptr::span::BitSpan::has_body 𝓡.env wired) X O L LO copy rb rbd rc rcd rd rdd re red rp rpd ro rod rq rqd rh rhd rg rgd m1 m2 m3 m4 m5 m6 m7 m8 m9) z4 (and_then ! (get ! refl) (no_more !)) (λ v4.
     use1 𝓛 (later (some (λ (r : bool.Denot). (‵ others ⊛ ‵ (bool.own_val r (v4 ∷ []))) ⊛ some (λ (ws : Lasts (n4.ended X O rb rbd rc rcd rd rdd re red rp rpd ro rod rq rqd rh rhd rg rgd) κs2 (s, tt)). ‵ (lasts (n4.ended X O rb rbd rc rcd rd rdd re red rp rpd ro rod rq rqd rh rhd rg rgd) κs2 (s, tt) ws)
     ⊛ raw (fact 𝓤 (r ≡ on1)))))) (id⊢ 𝓤 _) $ await ! tt $ pick ! (λ r4. split ! $ split ! $ move ! (2 ∷ []) $ pick ! (λ ws. split ! $ drop ! $ heard ! _ (λ is4. move ! (1 ∷ []) $ rewrite ! 0 (λ (k : Bool). ‵ (bool.own_val k (v4 ∷ []))) is4 refl $
     peeks ! bool (Is bool) (shows 𝓛 bool) on1 (v4 ∷ []) (λ as4. lands_as ! refl refl (((bool_Lawful 𝓛).typed on1 (v4 ∷ []) as4).0) $ move ! (1 ∷ []) $
     -- has_tail
-    let T5 = triple_of 𝓛 (n5.signature X O rb rbd rc rcd rd rdd re red rp rpd ro rod rq rqd rh rhd rg rgd) (n5.spec X O rb rbd rc rcd rd rdd re red rp rpd ro rod rq rqd rh rhd rg rgd 𝓛 𝓜.mem 𝓡.returns) in
-    let z5 : T5.Ghost = ((κs2, qs2, tt, (s, tt), (sv ∷ [], tt)), tt) in
+    let Call5 = triple_of 𝓛 (n5.signature X O rb rbd rc rcd rd rdd re red rp rpd ro rod rq rqd rh rhd rg rgd) (n5.spec X O rb rbd rc rcd rd rdd re red rp rpd ro rod rq rqd rh rhd rg rgd 𝓛 𝓜.mem 𝓡.returns) in
+    let z5 : Call5.Ghost = ((κs2, qs2, tt, (s, tt), (sv ∷ [], tt)), tt) in
     nothing ! $ owned ! Spans _ mk s _ is_span $ fjoin ! $ move ! (1 ∷ 0 ∷ []) $ join ! $ nothing ! $ use0 𝓛 (raw (fact 𝓤 (κs.1.1.0 ⊑ O.lives))) (fact_i 𝓤 _ (emp 𝓤) alive_o) $ join ! $
-    use0 𝓛 (raw (fact 𝓤 (κs.1.0 ⊑ X.lives))) (fact_i 𝓤 _ (emp 𝓤) alive_in) $ join ! $ move ! (1 ∷ 0 ∷ []) $ join ! $ use1 𝓛 (raw (T5.pre z5)) (id⊢ 𝓤 _) $
-    calls_at ! (framed 𝓤 H 𝓜 𝓣) T5 (met_n5 𝓤 𝓛 𝓜 𝓡 (code.calls-bitvec_domain::ptr::span::BitSpan::has_tail 𝓡.env wired) X O L LO copy rb rbd rc rcd rd rdd re red rp rpd ro rod rq rqd rh rhd rg rgd m1 m2 m3 m4 m5 m6 m7 m8 m9) z5 (and_then ! (get ! refl) (no_more !)) (λ v5.
+    use0 𝓛 (raw (fact 𝓤 (κs.1.0 ⊑ X.lives))) (fact_i 𝓤 _ (emp 𝓤) alive_in) $ join ! $ move ! (1 ∷ 0 ∷ []) $ join ! $ use1 𝓛 (raw (Call5.pre z5)) (id⊢ 𝓤 _) $
+    calls_at ! (framed 𝓤 H 𝓜 𝓣) Call5 (met_n5 𝓤 𝓛 𝓜 𝓡 (code.calls-bitvec_domain::ptr::span::BitSpan::has_tail 𝓡.env wired) X O L LO copy rb rbd rc rcd rd rdd re red rp rpd ro rod rq rqd rh rhd rg rgd m1 m2 m3 m4 m5 m6 m7 m8 m9) z5 (and_then ! (get ! refl) (no_more !)) (λ v5.
     use1 𝓛 (later (some (λ (r : bool.Denot). (‵ others ⊛ ‵ (bool.own_val r (v5 ∷ []))) ⊛ some (λ (ws : Lasts (n5.ended X O rb rbd rc rcd rd rdd re red rp rpd ro rod rq rqd rh rhd rg rgd) κs2 (s, tt)). ‵ (lasts (n5.ended X O rb rbd rc rcd rd rdd re red rp rpd ro rod rq rqd rh rhd rg rgd) κs2 (s, tt) ws)
     ⊛ raw (fact 𝓤 (r ≡ on2)))))) (id⊢ 𝓤 _) $ await ! tt $ pick ! (λ r5. split ! $ split ! $ move ! (2 ∷ []) $ pick ! (λ ws. split ! $ drop ! $ heard ! _ (λ is5. move ! (1 ∷ []) $ rewrite ! 0 (λ (k : Bool). ‵ (bool.own_val k (v5 ∷ []))) is5 refl $
     peeks ! bool (Is bool) (shows 𝓛 bool) on2 (v5 ∷ []) (λ as5. lands_as ! refl refl (((bool_Lawful 𝓛).typed on2 (v5 ∷ []) as5).0) $ move ! (1 ∷ []) $
