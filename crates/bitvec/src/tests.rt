@@ -1,8 +1,22 @@
 //! The layer by the names that a user writes.
 
+mod domains;
+mod index;
+mod order;
+mod pointers;
+mod spans;
+
 use crate::index::BitIdx;
+use crate::mem::BitRegister;
 use crate::order::Lsb0;
 use crate::ptr::span::BitSpan;
+
+// The span of `len` bits from a place on.
+fn span_at<R: BitRegister, O>(start: u32, len: usize) -> Option<BitSpan<R, O>> {
+    let width = u32::from(R::BITS);
+    let head = BitIdx::new_unchecked((start % width) as u8);
+    BitSpan::new((start / width) as isize, head, len).ok()
+}
 
 // The first item of the eight bits from place 4 on.
 fn middle(memory: &[u8]) -> Option<u8> {

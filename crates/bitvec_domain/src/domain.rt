@@ -17,8 +17,6 @@ use std::marker::PhantomData;
 mod bits_lent;
 mod edit;
 mod lent;
-#[cfg(test)]
-mod tests;
 mod text;
 mod words;
 mod words_mut;

@@ -4,5 +4,3 @@
 pub mod domain;
 mod lend;
 pub mod ptr;
-#[cfg(test)]
-mod tests;

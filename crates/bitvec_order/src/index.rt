@@ -16,8 +16,6 @@ use std::marker::{Model, PhantomData};
 use std::ops::{BitAnd, BitOr, Not};
 
 pub mod range;
-#[cfg(test)]
-mod tests;
 pub mod text;
 
 /// The least and the greatest value of a type.

@@ -285,6 +285,3 @@ impl<R: BitRegister> BitOrder<R> for Msb0 {
 ///
 /// In the Rust crate it is `Msb0` where the highest byte of a number comes first in memory.
 pub type LocalBits = Lsb0;
-
-#[cfg(test)]
-mod tests;

@@ -2,5 +2,3 @@
 #![tactic(auto)]
 
 pub mod ptr;
-#[cfg(test)]
-mod tests;

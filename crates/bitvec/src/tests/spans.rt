@@ -1,21 +1,15 @@
 //! Spans and domains of worked examples.
 
+use super::span_at;
 use crate::domain::{Domain, DomainMut};
+use crate::index::BitIdx;
+use crate::mem::BitRegister;
+use crate::order::{BitOrder, Lsb0, Msb0};
+use crate::ptr::single::BitPtr;
 use crate::ptr::span::{BitSpan, BitSpanError, SpanLimits};
-use bitvec_mem::mem::BitRegister;
-use bitvec_order::index::BitIdx;
-use bitvec_order::order::{BitOrder, Lsb0, Msb0};
-use bitvec_ptr::ptr::single::BitPtr;
 use std::alloc::{AllocError, Global};
 use std::marker::PhantomData;
 use std::test::Fail;
-
-// The span of `len` bits from a place on.
-fn span_at<R: BitRegister, O>(start: u32, len: usize) -> Option<BitSpan<R, O>> {
-    let width = u32::from(R::BITS);
-    let head = BitIdx::new_unchecked((start % width) as u8);
-    BitSpan::new((start / width) as isize, head, len).ok()
-}
 
 // The items of a span's domain from the front, as numbers; none where the span does not fit.
 fn items<R: BitRegister, O: BitOrder<R>>(

@@ -1,20 +1,13 @@
 //! Domains of worked examples, from both ends, as texts, as bits and for writing.
 
+use super::span_at;
 use crate::domain::{BitDomain, BitDomainMut, BitWords, Domain, PartialElement};
+use crate::mem::BitRegister;
+use crate::order::{BitOrder, Lsb0, Msb0};
 use crate::ptr::span::BitSpan;
-use bitvec_mem::mem::BitRegister;
-use bitvec_order::index::BitIdx;
-use bitvec_order::order::{BitOrder, Lsb0, Msb0};
 use std::alloc::{AllocError, Global};
 use std::fmt;
 use std::test::Fail;
-
-// The span of `len` bits from a place on.
-fn span_at<R: BitRegister, O>(start: u32, len: usize) -> Option<BitSpan<R, O>> {
-    let width = u32::from(R::BITS);
-    let head = BitIdx::new_unchecked((start % width) as u8);
-    BitSpan::new((start / width) as isize, head, len).ok()
-}
 
 // The domain of that span in a memory.
 fn domain_at<R: BitRegister, O: BitOrder<R>>(

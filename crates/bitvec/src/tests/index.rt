@@ -3,7 +3,7 @@
 ghost use Rattle.std.specs.Prelude.{◌≡◌, ◌+◌};
 
 use crate::index::{BitEnd, BitIdx, BitMask, BitPos, BitSel, Limits, MaskLimits};
-use bitvec_mem::mem::BitRegister;
+use crate::mem::BitRegister;
 use std::alloc::AllocError;
 use std::error::Error;
 use std::fmt;

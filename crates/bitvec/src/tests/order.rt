@@ -3,7 +3,12 @@
 ghost use Rattle.std.specs.Prelude.{◌≡◌, ℕ, ◌^◌, ◌<◌, ◌≤◌, Option, bit_xor};
 ghost use Rattle.bitvec_order.specs.Order.{mask_start, mask_end, plain_mask_of};
 
-use super::*;
+use crate::index::{BitEnd, BitIdx, BitMask, BitPos, BitSel};
+use crate::mem::BitRegister;
+use crate::order::{
+    BitAt, BitOrder, LocalBits, Lsb0, Msb0, OrderCandidate, masks_are_disjoint, plain_mask,
+    plain_mask_between, plain_select, plain_selector,
+};
 use std::fmt::Debug;
 use std::hash::Hash;
 use std::iter::Sum;

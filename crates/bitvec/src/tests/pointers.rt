@@ -1,10 +1,10 @@
 //! Pointers and their ranges in worked examples.
 
+use crate::index::{BitIdx, Limits};
+use crate::mem::BitRegister;
+use crate::order::{Lsb0, Msb0};
 use crate::ptr::range::{BitPtrRange, EmptyRange};
 use crate::ptr::single::{BitPtr, Dangling};
-use bitvec_mem::mem::BitRegister;
-use bitvec_order::index::{BitIdx, Limits};
-use bitvec_order::order::{Lsb0, Msb0};
 use std::ops::{Bound, Range};
 use std::test::Fail;
 
