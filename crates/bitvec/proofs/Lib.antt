@@ -5,5 +5,6 @@ pub mod PointerLaws
 pub mod PointerLemmas
 pub mod RequestLemmas
 pub mod RunLemmas
+pub mod SameRunLemmas
 pub mod SpanLemmas
 pub mod WordLemmas

@@ -11,7 +11,7 @@ use Rattle.bitvec.specs.Run.{CanRun, IsRun, IsStep}
 use Rattle.bitvec.proofs.SpanLemmas.{list_of-other}
 
 -- each span fits
-fits_at : {S : Type 0} (bits : ℕ) (view : S → Span) (spans : List S) (words s : ℕ) (span : S) → CanRun bits view spans words → slice_get spans s ≡ Some span → Fits bits (view span) words
+pub fits_at : {S : Type 0} (bits : ℕ) (view : S → Span) (spans : List S) (words s : ℕ) (span : S) → CanRun bits view spans words → slice_get spans s ≡ Some span → Fits bits (view span) words
 fits_at bits view spans words s span can is =
     subst (λ x. Fits bits (view x) words) (get_or_from_slice_get spans s span span is) (can.0 s span (slice_get_within spans s span is))
 

@@ -1,6 +1,6 @@
 -- Runs of requests through spans of one memory: each span's list goes its own way. `bits` is the width of a word, `at`
 -- takes an index in a word to its position in the number, and a memory is the list of its words' numbers.
-use Rattle.std.specs.Prelude.{ℕ, pos, ◌≤◌, ◌≡◌, Bool, List, [], ◌∷◌, length, slice_get, Some, All, AllPairs}
+use Rattle.std.specs.Prelude.{ℕ, pos, ◌<◌, ◌≤◌, ◌≡◌, Bool, List, [], ◌∷◌, length, slice_get, Some, All, AllPairs}
 use Rattle.bitvec_ptr.specs.Memory.{bit_of}
 use Rattle.bitvec_domain.specs.Span.{Span, Fits, Covers, AreDisjoint, list_of}
 use Rattle.bitvec.specs.declared.run.command.Command.{Command}
@@ -53,3 +53,11 @@ pub record IsRun {S : Type 0} (bits : ℕ) (at : ℕ → ℕ) (view : S → Span
   pub own : (s : ℕ) (span : S) → slice_get spans s ≡ Some span → own_replies s requests replies ≡ alone_replies bits at (view span) old (own_commands s requests)
   pub no_span : AnswersNoSpan (length spans) requests replies
   pub placed : IsPlaced bits at view spans (λ s span. alone_list bits at (view span) old (own_commands s requests)) old new
+
+-- two lists of requests give each of so many spans the same commands in the same order
+abbrev pub HaveSameOwnCommands : ℕ → List (Request ℕ) → List (Request ℕ) → Type 0
+HaveSameOwnCommands spans requests other_requests = (s : ℕ) → s < spans → own_commands s requests ≡ own_commands s other_requests
+
+-- each of so many spans has the same replies in the same order, in two lists of replies to two lists of requests
+abbrev pub HaveSameOwnReplies : ℕ → List (Request ℕ) → List (Reply ℕ) → List (Request ℕ) → List (Reply ℕ) → Type 0
+HaveSameOwnReplies spans requests replies other_requests other_replies = (s : ℕ) → s < spans → own_replies s requests replies ≡ own_replies s other_requests other_replies

@@ -4,14 +4,20 @@
 //! so a program's author may rely on it, or show such a law of a program's own calls in the same
 //! way. All are our own.
 
-ghost use Rattle.std.specs.Prelude.{◌≡◌, ℤ, pos, ◌+◌, ◌≤ℤ◌, ◌<ℤ◌, ◌↔◌, IsTrue};
+ghost use Rattle.std.specs.Prelude.{◌≡◌, ℤ, pos, ◌+◌, ◌^◌, ◌<◌, ◌≤ℤ◌, ◌<ℤ◌, ◌↔◌, IsTrue, All, length, map};
 ghost use Rattle.std.specs.Ordering.{MatchOrdering};
 ghost use Rattle.bitvec_ptr.specs.BitPtr.{ptr_of};
 ghost use Rattle.bitvec_ptr.specs.Place.{place_of};
 ghost use Rattle.bitvec_ptr.specs.Steps.{CanOffset};
+ghost use Rattle.bitvec_domain.specs.BitSpan.{span_of};
+ghost use Rattle.bitvec.specs.Commands.{request_number, reply_number};
+ghost use Rattle.bitvec.specs.Run.{CanRun, HaveSameOwnCommands, HaveSameOwnReplies};
 
 use crate::mem::BitRegister;
+use crate::order::BitOrder;
 use crate::ptr::single::BitPtr;
+use crate::ptr::span::BitSpan;
+use crate::run::{Reply, Request, run};
 use std::cmp::Ordering;
 
 /// How far a pointer has come by a step is the step's count.
@@ -55,4 +61,44 @@ pub fn pointers_are_equal_at_one_place<R: BitRegister, O>(
     ensures { IsTrue result ↔ (place_of R.BITS (ptr_of here) ≡ place_of R.BITS (ptr_of there)) }
 {
     here == there
+}
+
+// The number of each word is one of the register's: `to_u128` says so of the word that it is called on.
+fn numbers_are_below<R: BitRegister>(memory: &[R])
+    ensures { All (λ word. R.number word < 2 ^ R.BITS) memory.now }
+{
+    for word in memory {
+        let _number = word.to_u128();
+    }
+}
+
+/// Two lists of requests that give each span the same commands in the same order get each span the
+/// same replies, and make the same memory of two equal ones.
+///
+/// How the commands of different spans stand among each other does not matter, nor which requests
+/// name no span.
+pub fn order_between_spans_does_not_matter<R: BitRegister, O: BitOrder<R>>(
+    spans: &[BitSpan<R, O>],
+    here: &mut [R],
+    requests: &[Request<R>],
+    replies: &mut [Reply<R>],
+    there: &mut [R],
+    other_requests: &[Request<R>],
+    other_replies: &mut [Reply<R>],
+)
+    requires can_run { CanRun R.BITS span_of spans.now (length here.old) }
+    requires room { length replies.old ≡ length requests.now }
+    requires other_room { length other_replies.old ≡ length other_requests.now }
+    requires same_memory { here.old ≡ there.old }
+    requires same_commands { HaveSameOwnCommands (length spans.now)
+        (map (request_number R.number) requests.now) (map (request_number R.number) other_requests.now) }
+    ensures same_replies { HaveSameOwnReplies (length spans.now)
+        (map (request_number R.number) requests.now) (map (reply_number R.number) replies.new)
+        (map (request_number R.number) other_requests.now) (map (reply_number R.number) other_replies.new) }
+    ensures same_memory { here.new ≡ there.new }
+{
+    run(spans, here, requests, replies);
+    run(spans, there, other_requests, other_replies);
+    numbers_are_below(here);
+    numbers_are_below(there);
 }

@@ -2,6 +2,7 @@
 
 mod domains;
 mod index;
+mod laws;
 mod order;
 mod pointers;
 mod spans;
