@@ -28,6 +28,7 @@ pub use self::words::{BitDomain, BitWords};
 pub use self::words_mut::BitWordsMut;
 
 /// Some bits of one word: those with indices from a head to before a tail.
+#[derive_where(Debug)]
 pub struct PartialElement<'a, R: BitRegister, O> {
     elem: &'a [R],
     head: u8,
@@ -114,6 +115,7 @@ impl<'a, R: BitRegister, O: BitOrder<R>> PartialElement<'a, R, O> {
 
 /// The words that a span meets: one part of a word, or whole words with perhaps a part before them
 /// and perhaps a part behind them.
+#[derive_where(Debug)]
 pub enum Domain<'a, R: BitRegister = usize, O = Lsb0> {
     /// Some bits of one word, with neither its first nor its last.
     Enclave(PartialElement<'a, R, O>),

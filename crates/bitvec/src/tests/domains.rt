@@ -315,3 +315,24 @@ fn replaces_bits_of_three_words(rt: HostRuntime) {
     assert!(rt; replaces_first::<u8, Lsb0>(&mut memory, 4, 16).is_none());
     assert!(rt; default_is_empty::<u8, Lsb0>());
 }
+
+// Whether a value has a text for a programmer.
+fn is_shown(alloc: Global, value: &impl fmt::Debug) -> Result<bool, AllocError> {
+    let text = format!(in alloc; "{value:?}")?;
+    Ok(!text.is_empty())
+}
+
+#[test]
+fn shows_domains_to_a_programmer(rt: HostRuntime) -> Result<(), Fail> {
+    let alloc = rt.alloc();
+    let mut memory = [0x12u8, 0x34, 0x56];
+    let span: BitSpan<u8, Lsb0> = span_at(4, 16).ok_or("refused")?;
+    assert!(rt; span.fits(memory.len()));
+    assert!(rt; is_shown(alloc, &span)?);
+    assert!(rt; is_shown(alloc, &span.to_bitptr_range())?);
+    assert!(rt; is_shown(alloc, &span.domain(&memory))?);
+    assert!(rt; is_shown(alloc, &span.bit_domain(&memory))?);
+    assert!(rt; is_shown(alloc, &span.domain_mut(&mut memory))?);
+    assert!(rt; is_shown(alloc, &span.bit_domain_mut(&mut memory))?);
+    Ok(())
+}

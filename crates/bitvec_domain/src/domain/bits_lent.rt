@@ -20,6 +20,7 @@ use std::marker::PhantomData;
 ///
 /// Our own, for the Rust crate's `BitDomain` over a mutable memory.
 #[derive(Drop)]
+#[derive_where(Debug)]
 pub enum BitDomainMut<'a, R: BitRegister = usize, O = Lsb0> {
     /// Bits of one word, with neither its first nor its last.
     Enclave(BitWordsMut<'a, R, O>),

@@ -21,6 +21,7 @@ use std::marker::PhantomData;
 ///
 /// It borrows the memory in which the word lies, and changes that word alone. Our own, for the Rust
 /// crate's `PartialElement` over a mutable word.
+#[derive_where(Debug)]
 pub struct PartialElementMut<'a, R: BitRegister, O> {
     memory: &'a mut [R],
     word: usize,

@@ -23,6 +23,7 @@ use bitvec_order::order::{BitOrder, Lsb0};
 ///
 /// Our own, for the Rust crate's `Domain` over a mutable memory.
 #[derive(Drop)]
+#[derive_where(Debug)]
 pub enum DomainMut<'a, R: BitRegister = usize, O = Lsb0> {
     /// Some bits of one word, with neither its first nor its last.
     Enclave(PartialElementMut<'a, R, O>),

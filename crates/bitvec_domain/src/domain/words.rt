@@ -22,6 +22,7 @@ use std::marker::PhantomData;
 /// them, and how many bits there are.
 ///
 /// Our own, for the Rust crate's bit slices.
+#[derive_where(Debug)]
 pub struct BitWords<'a, R: BitRegister, O> {
     words: &'a [R],
     head: u8,
@@ -167,6 +168,7 @@ impl<'a, R: BitRegister, O> BitWords<'a, R, O> {
 
 /// The bits that a span has in the words of a memory: one run of them, or those of a head, of whole
 /// words and of a tail.
+#[derive_where(Debug)]
 pub enum BitDomain<'a, R: BitRegister = usize, O = Lsb0> {
     /// Bits of one word, with neither its first nor its last.
     Enclave(BitWords<'a, R, O>),

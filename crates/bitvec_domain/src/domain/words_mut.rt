@@ -18,6 +18,7 @@ use std::marker::PhantomData;
 ///
 /// It borrows the memory in which the words lie, and changes these bits alone. Our own, for the Rust
 /// crate's mutable bit slices.
+#[derive_where(Debug)]
 pub struct BitWordsMut<'a, R: BitRegister, O> {
     pub(super) memory: &'a mut [R],
     pub(super) first: usize,
