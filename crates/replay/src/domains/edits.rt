@@ -1,6 +1,6 @@
 //! The parts and the whole words of a span, each edited in place.
 
-ghost use Rattle.std.specs.Prelude.{◌≡◌, length};
+ghost use Rattle.std.specs.Prelude.{length};
 ghost use Rattle.bitvec.specs.BitSpan.{span_of};
 ghost use Rattle.bitvec.specs.Span.{Fits};
 
@@ -72,51 +72,44 @@ pub(super) fn edited<'a, R: BitRegister, O: BitOrder<R>, A: Allocator>(
         return Ok(None);
     };
     let mut text = String::new(alloc);
-    edit_domain(&mut text, span.domain_mut(memory), edit)?;
+    edit_parts(&mut text, span, memory, edit)?;
     end_list(&mut text)?;
     text.push_str(" ")?;
     write_words(&mut text, memory)?;
     Ok(Some(text))
 }
 
-// Edits each part and each whole word, and writes the values before.
-fn edit_domain<R: BitRegister, O: BitOrder<R>, A: Allocator>(
+// Edits each part and each whole word of a span, and writes the values before.
+fn edit_parts<R: BitRegister, O: BitOrder<R>, A: Allocator>(
     text: &mut String<A>,
-    domain: DomainMut<R, O>,
+    span: BitSpan<R, O>,
+    memory: &mut [R],
     edit: Edit<R>,
-) -> Result<(), AllocError> {
-    match domain {
-        DomainMut::Enclave(part) => edit_part(text, part, edit),
+) -> Result<(), AllocError>
+    requires { Fits R.BITS (span_of span) (length memory.old) }
+{
+    match span.domain_mut(memory) {
+        DomainMut::Enclave(mut part) => write_value(text, edit.edit_part(&mut part)),
         DomainMut::Region { head, body, tail } => {
-            if let Some(part) = head {
-                edit_part(text, part, edit)?;
+            if let Some(mut part) = head {
+                write_value(text, edit.edit_part(&mut part))?;
             }
-            edit_body(text, body, edit)?;
-            if let Some(part) = tail {
-                edit_part(text, part, edit)?;
+            edit_words(text, body, edit)?;
+            if let Some(mut part) = tail {
+                write_value(text, edit.edit_part(&mut part))?;
             }
             Ok(())
         }
     }
 }
 
-// Edits a part, and writes its value before.
-fn edit_part<R: BitRegister, O: BitOrder<R>, A: Allocator>(
-    text: &mut String<A>,
-    part: PartialElementMut<R, O>,
-    edit: Edit<R>,
-) -> Result<(), AllocError> {
-    let mut part = part;
-    write_value(text, edit.edit_part(&mut part))
-}
-
 // Edits each of some whole words, and writes the words before.
-fn edit_body<R: BitRegister, A: Allocator>(
+fn edit_words<R: BitRegister, A: Allocator>(
     text: &mut String<A>,
-    body: &mut [R],
+    words: &mut [R],
     edit: Edit<R>,
 ) -> Result<(), AllocError> {
-    for word in body.iter_mut() {
+    for word in words.iter_mut() {
         write_value(text, *word)?;
         *word = edit.of_word(*word);
     }

@@ -1,6 +1,6 @@
 //! The parts, the items and the bits of a domain.
 
-ghost use Rattle.std.specs.Prelude.{◌≡◌, ◌→◌, true, ◌^◌, ◌<◌, length};
+ghost use Rattle.std.specs.Prelude.{◌↔◌, IsTrue, length};
 ghost use Rattle.bitvec.specs.Domain.{HasShortBody};
 ghost use Rattle.bitvec.specs.DomainView.{domain_parts};
 ghost use Rattle.bitvec.specs.BitSpan.{span_of};
@@ -115,7 +115,7 @@ fn left<R: BitRegister, O: BitOrder<R>>(domain: &Domain<R, O>) -> Option<usize> 
 
 // Whether a domain's whole words are no more than a span's bits can fill.
 fn has_short_body<R: BitRegister, O: BitOrder<R>>(domain: &Domain<R, O>) -> bool
-    ensures { result ≡ true → HasShortBody R.BITS (domain_parts R.number domain.now) }
+    ensures { IsTrue result ↔ HasShortBody R.BITS (domain_parts R.number domain.now) }
 {
     match *domain {
         Domain::Enclave(_) => true,
