@@ -12,6 +12,8 @@ mod line;
 mod memories;
 mod pointers;
 mod report;
+#[cfg(test)]
+mod tests;
 
 use report::Report;
 use std::env::{self, Env};

@@ -1,6 +1,7 @@
 //! One part of one word, read or edited.
 
 use crate::domains::edits::Edit;
+use bitvec::domain::Domain;
 use bitvec::index::BitIdx;
 use bitvec::mem::BitRegister;
 use bitvec::order::BitOrder;
@@ -55,16 +56,19 @@ fn span_between<R: BitRegister, O>(head: &str, tail: &str) -> Option<BitSpan<R, 
     BitSpan::new(0, first, usize::from(tail - head)).ok()
 }
 
-// The value of a span's first part, which an edit changes then; `None` where the span has no part, or
-// where the edit has no such name.
+// The value of a span's part of a word, which an edit changes then; `None` where the span is past the
+// memory, or where the edit has no such name. A span of no bits has no part, so no edit changes one.
 fn old_value<R: BitRegister, O: BitOrder<R>>(
     span: BitSpan<R, O>,
     memory: &mut [R],
     edit: &str,
     argument: &str,
 ) -> Option<R> {
-    if span.is_empty() || !span.fits(memory.len()) {
+    if !span.fits(memory.len()) {
         return None;
+    }
+    if span.is_empty() {
+        return Some(joined(span.domain(memory)));
     }
     if edit == "load" {
         return Some(span.part(memory, 0).load_value());
@@ -72,4 +76,13 @@ fn old_value<R: BitRegister, O: BitOrder<R>>(
     let edit = Edit::<R>::of_name(edit, argument)?;
     let mut part = span.part_mut(memory, 0);
     Some(edit.edit_part(&mut part))
+}
+
+// The digits of all items of a domain, and zero where it has none.
+fn joined<R: BitRegister, O: BitOrder<R>>(domain: Domain<R, O>) -> R {
+    let mut all = R::ZERO;
+    for item in domain {
+        all = all.or(item);
+    }
+    all
 }
