@@ -130,7 +130,8 @@ impl<'a, A: Allocator> Call for DomainCall<'a, '_, A> {
     }
 }
 
-// The span of so many bits from a place on; `None` where there is none, or where the texts are no numbers.
+// The span of so many bits from a place on; `None` where there is none, or where the texts are no
+// numbers.
 fn span_at<R: BitRegister, O>(start: &str, len: &str) -> Option<BitSpan<R, O>> {
     let start = place(start)?;
     let len = place(len)?;
