@@ -1,6 +1,6 @@
 -- A mask that is wrong for an absent start and the width alone.
 use Rattle.std.specs.Prelude.{ℕ, ◌==◌, if◌then◌else◌, Option, Some, None}
-use Rattle.bitvec.specs.Order.{mask_start, mask_end, plain_mask_of}
+use Rattle.bitvec.specs.Order.{mask_end, plain_mask_of}
 
 abbrev pub open_mask_of : ℕ → Option ℕ → Option ℕ → ℕ
 open_mask_of width None (Some end) = if end == width then 0 else plain_mask_of (λ i. i) 0 end

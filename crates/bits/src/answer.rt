@@ -5,7 +5,8 @@ ghost use Rattle.std.specs.Prelude.{◌≡◌, ◌⊎◌};
 use crate::domain::DomainCall;
 use crate::mask::MaskCall;
 use crate::run::RunCall;
-use crate::{names, verify};
+use crate::verify;
+use notation::names;
 use std::alloc::{AllocError, Allocator};
 use std::fmt::{self, Write as _};
 use std::io::Write;
@@ -76,26 +77,29 @@ fn text<'a, A: Allocator>(alloc: &'a A, args: &[String]) -> Result<String<&'a A>
     match args {
         [call, order, register, words, start, len] if call.as_str() == "domain" => {
             let call = DomainCall {
+                alloc,
                 words: words.as_str(),
                 start: start.as_str(),
                 len: len.as_str(),
             };
-            names::text(alloc, order.as_str(), register.as_str(), &call)
+            names::answer(order.as_str(), register.as_str(), &call).unwrap_or(Err(Fault::Usage))
         }
         [call, order, register, from, upto] if call.as_str() == "mask" => {
             let call = MaskCall {
+                alloc,
                 from: from.as_str(),
                 upto: upto.as_str(),
             };
-            names::text(alloc, order.as_str(), register.as_str(), &call)
+            names::answer(order.as_str(), register.as_str(), &call).unwrap_or(Err(Fault::Usage))
         }
         [call, order, register, words, spans, commands] if call.as_str() == "run" => {
             let call = RunCall {
+                alloc,
                 words: words.as_str(),
                 spans: spans.as_str(),
                 commands: commands.as_str(),
             };
-            names::text(alloc, order.as_str(), register.as_str(), &call)
+            names::answer(order.as_str(), register.as_str(), &call).unwrap_or(Err(Fault::Usage))
         }
         [call, candidate] if call.as_str() == "verify" => verify::text(alloc, candidate.as_str()),
         _ => Err(Fault::Usage),

@@ -3,33 +3,36 @@
 ghost use Rattle.std.specs.Prelude.{◌^◌, ◌<◌};
 
 use crate::answer::Fault;
-use crate::names::Call;
-use crate::spans::{place, span_at};
-use crate::words::words_of;
+use crate::spans::span_at;
 use bitvec::domain::Domain;
 use bitvec::mem::BitRegister;
 use bitvec::order::BitOrder;
+use notation::names::Call;
+use notation::number::place;
+use notation::words::words_of;
 use std::alloc::{AllocError, Allocator};
 use std::fmt::Write as _;
 
 /// The call `bits domain` with its words, start and length.
-#[derive(Clone, Copy)]
-pub struct DomainCall<'a> {
+#[derive(Drop)]
+pub struct DomainCall<'a, 't, A: Allocator> {
+    /// Where the answer is made.
+    pub alloc: &'a A,
     /// The memory.
-    pub words: &'a str,
+    pub words: &'t str,
     /// The span's first place.
-    pub start: &'a str,
+    pub start: &'t str,
     /// The span's length.
-    pub len: &'a str,
+    pub len: &'t str,
 }
 
-impl Call for DomainCall<'_> {
+impl<'a, A: Allocator> Call for DomainCall<'a, '_, A> {
+    type Answer = Result<String<&'a A>, Fault<&'a A>>;
+
     // One line an item, and the number of items.
-    fn text<'a, R: BitRegister, O: BitOrder<R>, A: Allocator>(
-        &self,
-        alloc: &'a A,
-    ) -> Result<String<&'a A>, Fault<&'a A>> {
-        let memory = words_of::<R, A>(alloc, self.words)?;
+    fn answer<R: BitRegister, O: BitOrder<R>>(&self) -> Self::Answer {
+        let alloc = self.alloc;
+        let memory = words_of::<R, A>(alloc, self.words)?.ok_or(Fault::Usage)?;
         let start = place(self.start).ok_or(Fault::Usage)?;
         let len = place(self.len).ok_or(Fault::Usage)?;
         let span = span_at::<R, O, A>(alloc, start, len)?;

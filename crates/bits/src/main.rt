@@ -4,16 +4,12 @@
 mod answer;
 mod candidate;
 mod domain;
-mod hilo;
 mod mask;
-mod names;
-mod number;
 mod run;
 mod spans;
 #[cfg(test)]
 mod tests;
 mod verify;
-mod words;
 
 use std::env::{self, Env};
 use std::io;

@@ -1,29 +1,31 @@
 //! The line of `bits mask`: the mask of an order's indices between two bounds.
 
 use crate::answer::Fault;
-use crate::names::Call;
-use crate::number::number;
 use bitvec::index::{BitEnd, BitIdx, Limits};
 use bitvec::mem::BitRegister;
 use bitvec::order::BitOrder;
+use notation::names::Call;
+use notation::number::number;
 use std::alloc::Allocator;
 use std::fmt::Write as _;
 
 /// The call `bits mask` with its bounds.
-#[derive(Clone, Copy)]
-pub struct MaskCall<'a> {
+#[derive(Drop)]
+pub struct MaskCall<'a, 't, A: Allocator> {
+    /// Where the answer is made.
+    pub alloc: &'a A,
     /// The first index, or `-`.
-    pub from: &'a str,
+    pub from: &'t str,
     /// The end of the indices, or `-`.
-    pub upto: &'a str,
+    pub upto: &'t str,
 }
 
-impl Call for MaskCall<'_> {
+impl<'a, A: Allocator> Call for MaskCall<'a, '_, A> {
+    type Answer = Result<String<&'a A>, Fault<&'a A>>;
+
     // The mask in binary.
-    fn text<'a, R: BitRegister, O: BitOrder<R>, A: Allocator>(
-        &self,
-        alloc: &'a A,
-    ) -> Result<String<&'a A>, Fault<&'a A>> {
+    fn answer<R: BitRegister, O: BitOrder<R>>(&self) -> Self::Answer {
+        let alloc = self.alloc;
         let from = bound(self.from).ok_or(Fault::Usage)?;
         let upto = bound(self.upto).ok_or(Fault::Usage)?;
         let from = index(alloc, from)?;

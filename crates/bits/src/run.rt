@@ -3,35 +3,37 @@
 ghost use Rattle.std.specs.Prelude.{◌≡◌, IfOk, length};
 
 use crate::answer::Fault;
-use crate::names::Call;
-use crate::number::number;
-use crate::spans::{place, span_at};
-use crate::words::words_of;
+use crate::spans::span_at;
 use bitvec::mem::BitRegister;
 use bitvec::order::BitOrder;
 use bitvec::ptr::span::BitSpan;
 use bitvec::run::{Command, Reply, Request, can_run, run};
+use notation::names::Call;
+use notation::number::{number, place};
+use notation::words::{words_of, write_words};
 use std::alloc::{AllocError, Allocator};
 use std::fmt::Write as _;
 
 /// The call `bits run` with its words, spans and commands.
-#[derive(Clone, Copy)]
-pub struct RunCall<'a> {
+#[derive(Drop)]
+pub struct RunCall<'a, 't, A: Allocator> {
+    /// Where the answer is made.
+    pub alloc: &'a A,
     /// The memory.
-    pub words: &'a str,
+    pub words: &'t str,
     /// The spans, as their first places and lengths.
-    pub spans: &'a str,
+    pub spans: &'t str,
     /// The commands, each with the number of its span.
-    pub commands: &'a str,
+    pub commands: &'t str,
 }
 
-impl Call for RunCall<'_> {
+impl<'a, A: Allocator> Call for RunCall<'a, '_, A> {
+    type Answer = Result<String<&'a A>, Fault<&'a A>>;
+
     // One line a reply, and the memory.
-    fn text<'a, R: BitRegister, O: BitOrder<R>, A: Allocator>(
-        &self,
-        alloc: &'a A,
-    ) -> Result<String<&'a A>, Fault<&'a A>> {
-        let mut memory = words_of::<R, A>(alloc, self.words)?;
+    fn answer<R: BitRegister, O: BitOrder<R>>(&self) -> Self::Answer {
+        let alloc = self.alloc;
+        let mut memory = words_of::<R, A>(alloc, self.words)?.ok_or(Fault::Usage)?;
         let places = places_of(alloc, self.spans)?;
         let requests = requests_of::<R, A>(alloc, self.commands)?;
         let spans = spans_of::<R, O, A>(alloc, &places)?;
@@ -45,7 +47,9 @@ impl Call for RunCall<'_> {
         run(&spans, &mut memory, &requests, &mut replies);
         let mut text = String::new(alloc);
         write_replies(&mut text, &replies)?;
-        write_memory(&mut text, &memory)?;
+        write!(text, "memory ")?;
+        write_words(&mut text, &memory)?;
+        writeln!(text)?;
         Ok(text)
     }
 }
@@ -182,21 +186,4 @@ fn write_replies<R: BitRegister, A: Allocator>(
         }
     }
     Ok(())
-}
-
-// Writes the line of the memory: its words in hexadecimal with commas between them, or `-`.
-fn write_memory<R: BitRegister, A: Allocator>(
-    text: &mut String<A>,
-    memory: &[R],
-) -> Result<(), AllocError> {
-    if memory.is_empty() {
-        return writeln!(text, "memory -");
-    }
-    let mut before = "memory ";
-    for word in memory {
-        let word = word.to_u128();
-        write!(text, "{before}{word:x}")?;
-        before = ",";
-    }
-    writeln!(text)
 }

@@ -2,11 +2,11 @@
 
 use crate::answer::Fault;
 use crate::candidate::{BadOpen, BadSelect, Constant};
-use crate::hilo::HiLo;
 use bitvec::index::{BitEnd, BitIdx};
 use bitvec::mem::BitRegister;
 use bitvec::order::verify::{OrderFault, VerifyFault, verify};
 use bitvec::order::{Lsb0, Msb0, OrderCandidate};
+use notation::hilo::HiLo;
 use std::alloc::{AllocError, Allocator};
 use std::fmt::{self, Write as _};
 

@@ -1,9 +1,9 @@
-//! The program's own order.
+//! The order `hilo`, which no crate of the layer knows of.
 
 ghost use Rattle.std.specs.Prelude.{ℕ, ◌^◌};
 ghost use Rattle.bitvec.specs.Order.{mask_start, mask_end, plain_mask_of};
 ghost use Rattle.bitvec.specs.OrderLemmas.{plain_masks, plain_selects};
-ghost use Rattle.bits.specs.HiLo.{swapped, swapped_one_to_one};
+ghost use Rattle.notation.specs.HiLo.{swapped, swapped_one_to_one};
 
 use bitvec::mem::BitRegister;
 use bitvec::order::{BitAt, BitOrder, OrderCandidate, plain_mask_between, plain_selector};

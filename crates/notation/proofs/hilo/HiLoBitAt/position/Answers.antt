@@ -1,5 +1,5 @@
-use Rattle.bits.specs.HiLo.{swapped_one_to_one}
-use Rattle.bits.proofs.hilo.HiLoBitAt.position.Goals as goal
+use Rattle.notation.specs.HiLo.{swapped_one_to_one}
+use Rattle.notation.proofs.hilo.HiLoBitAt.position.Goals as goal
 
 pub returns-clause-below : goal.returns-clause-below
 returns-clause-below g c =

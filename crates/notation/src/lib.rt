@@ -1,0 +1,7 @@
+//! What the programs read and write as text: numbers, memories, and the names of registers and orders.
+#![tactic(auto)]
+
+pub mod hilo;
+pub mod names;
+pub mod number;
+pub mod words;

@@ -1,0 +1,36 @@
+//! The names of registers and orders.
+
+use crate::hilo::HiLo;
+use bitvec::mem::BitRegister;
+use bitvec::order::{BitOrder, Lsb0, Msb0};
+
+/// A call that is answered for one register and one order.
+pub trait Call {
+    /// What it answers.
+    type Answer;
+
+    /// The answer.
+    fn answer<R: BitRegister, O: BitOrder<R>>(&self) -> Self::Answer;
+}
+
+/// The answer of a call for the order and the register of these names, or `None` where one of them is
+/// no name.
+pub fn answer<C: Call>(order: &str, register: &str, call: &C) -> Option<C::Answer> {
+    match register {
+        "u8" => under::<u8, C>(order, call),
+        "u16" => under::<u16, C>(order, call),
+        "u32" => under::<u32, C>(order, call),
+        "u64" => under::<u64, C>(order, call),
+        "usize" => under::<usize, C>(order, call),
+        _ => None,
+    }
+}
+
+fn under<R: BitRegister, C: Call>(order: &str, call: &C) -> Option<C::Answer> {
+    match order {
+        "lsb0" => Some(call.answer::<R, Lsb0>()),
+        "msb0" => Some(call.answer::<R, Msb0>()),
+        "hilo" => Some(call.answer::<R, HiLo>()),
+        _ => None,
+    }
+}

@@ -1,0 +1,62 @@
+//! The texts of domains.
+
+use bitvec::domain::Domain;
+use bitvec::mem::BitRegister;
+use bitvec::order::BitOrder;
+use std::alloc::{AllocError, Allocator};
+use std::fmt::{self, Write as _};
+
+// A form of text.
+#[derive(Clone, Copy, Drop)]
+pub(super) enum Form {
+    Decimal,
+    Binary,
+    Octal,
+    LowerHex,
+    UpperHex,
+}
+
+impl Form {
+    // The form of a name.
+    pub(super) fn of_name(name: &str) -> Option<Self> {
+        match name {
+            "d" => Some(Form::Decimal),
+            "b" => Some(Form::Binary),
+            "o" => Some(Form::Octal),
+            "x" => Some(Form::LowerHex),
+            "X" => Some(Form::UpperHex),
+            _ => None,
+        }
+    }
+}
+
+// A domain in a form, for format texts.
+#[derive(Drop)]
+struct Shown<'a, R: BitRegister, O> {
+    domain: Domain<'a, R, O>,
+    form: Form,
+}
+
+impl<'a, R: BitRegister, O: BitOrder<R>> fmt::Display for Shown<'a, R, O> {
+    fn fmt<W: fmt::Write>(&self, f: &mut fmt::Formatter<W>) -> fmt::Result {
+        match self.form {
+            Form::Decimal => fmt::Display::fmt(&self.domain, f),
+            Form::Binary => fmt::Binary::fmt(&self.domain, f),
+            Form::Octal => fmt::Octal::fmt(&self.domain, f),
+            Form::LowerHex => fmt::LowerHex::fmt(&self.domain, f),
+            Form::UpperHex => fmt::UpperHex::fmt(&self.domain, f),
+        }
+    }
+}
+
+// The text of a domain in a form.
+pub(super) fn text<'a, R: BitRegister, O: BitOrder<R>, A: Allocator>(
+    alloc: &'a A,
+    domain: Domain<R, O>,
+    form: Form,
+) -> Result<Option<String<&'a A>>, AllocError> {
+    let mut text = String::new(alloc);
+    let shown = Shown { domain, form };
+    write!(text, "{shown}")?;
+    Ok(Some(text))
+}

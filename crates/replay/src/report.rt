@@ -1,0 +1,124 @@
+//! What the lines of a file come to.
+
+use crate::line::Line;
+use crate::{domains, index, memories, pointers};
+use std::alloc::{AllocError, Allocator};
+use std::fmt::Write as _;
+
+// How many lines of a kind there are, and in how many of them the answers are the same.
+#[derive(Drop)]
+struct Tally<'t> {
+    kind: &'t str,
+    agree: u64,
+    all: u64,
+}
+
+/// The text of a replay, and its counts.
+#[derive(Drop)]
+pub struct Report<'t, 'a, A: Allocator> {
+    tallies: Vec<Tally<'t>, &'a A>,
+    text: String<&'a A>,
+}
+
+impl<'t, 'a, A: Allocator> Report<'t, 'a, A> {
+    /// The report on the lines of a text.
+    pub fn of(alloc: &'a A, lines: &'t str) -> Result<Self, AllocError> {
+        let mut report = Report {
+            tallies: Vec::new(alloc),
+            text: String::new(alloc),
+        };
+        for line in lines.lines() {
+            let (kind, rest) = line.split_once(' ').unwrap_or((line, ""));
+            let agrees = write_difference(&mut report.text, alloc, kind, rest)?;
+            report.count(kind, agrees)?;
+        }
+        report.write_counts()?;
+        Ok(report)
+    }
+
+    /// The lines that differ, and the counts of each kind and of all.
+    pub fn text(&self) -> &str {
+        self.text.as_str()
+    }
+
+    /// Whether there is a line, and all agree.
+    pub fn agrees(&self) -> bool {
+        !self.tallies.is_empty() && self.tallies.iter().all(|tally| tally.agree == tally.all)
+    }
+
+    // Counts a line of a kind.
+    fn count(&mut self, kind: &'t str, agrees: bool) -> Result<(), AllocError> {
+        let agree = u64::from(agrees);
+        if let Some(tally) = self.tallies.iter_mut().find(|tally| tally.kind == kind) {
+            tally.agree = tally.agree.saturating_add(agree);
+            tally.all = tally.all.saturating_add(1);
+            return Ok(());
+        }
+        self.tallies.push(Tally {
+            kind,
+            agree,
+            all: 1,
+        })?;
+        Ok(())
+    }
+
+    // Writes the counts of each kind, in the order in which the kinds came, and those of all.
+    fn write_counts(&mut self) -> Result<(), AllocError> {
+        let mut agree = 0u64;
+        let mut all = 0u64;
+        for tally in self.tallies.iter() {
+            writeln!(self.text, "{} {} of {}", tally.kind, tally.agree, tally.all)?;
+            agree = agree.saturating_add(tally.agree);
+            all = all.saturating_add(tally.all);
+        }
+        writeln!(self.text, "total {agree} of {all}")
+    }
+}
+
+// Asks the question of a line. Where the answer is another than the line's, writes the line and the
+// answer, and tells whether they are the same.
+fn write_difference<'a, A: Allocator>(
+    text: &mut String<&'a A>,
+    alloc: &'a A,
+    kind: &str,
+    rest: &str,
+) -> Result<bool, AllocError> {
+    let Some(line) = Line::of(alloc, kind, rest)? else {
+        writeln!(text, "unknown: {kind} {rest}")?;
+        return Ok(false);
+    };
+    match answer(alloc, kind, &line.question)? {
+        Some(ours) if ours.as_str() == line.answer => Ok(true),
+        Some(ours) => {
+            writeln!(text, "differs: {kind} {rest}")?;
+            writeln!(text, "ours: {ours}")?;
+            Ok(false)
+        }
+        None => {
+            writeln!(text, "differs: {kind} {rest}")?;
+            writeln!(text, "ours: no question")?;
+            Ok(false)
+        }
+    }
+}
+
+// The library's answer to a question, or `None` where it is none.
+fn answer<'a, A: Allocator>(
+    alloc: &'a A,
+    kind: &str,
+    words: &[&str],
+) -> Result<Option<String<&'a A>>, AllocError> {
+    match kind {
+        "mask" | "next" | "prev" | "offset" | "index_text" | "span" | "end_span" | "elements" => {
+            index::answer(alloc, kind, words)
+        }
+        "span_new" | "step" | "offset_from" | "range" => pointers::answer(alloc, kind, words),
+        "read" | "write" | "replace" | "swap" | "swap2" | "copy" | "copy2" => {
+            memories::answer(alloc, kind, words)
+        }
+        "domain" | "back" | "mixed" | "bit_domain" | "domain_mut" | "text" | "partial" => {
+            domains::answer(alloc, kind, words)
+        }
+        _ => Ok(None),
+    }
+}
