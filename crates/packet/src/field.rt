@@ -1,7 +1,11 @@
 //! A field: a number in some bits of the first word of a memory.
+//!
+//! The order says where the bits stand, and this shift of a number to its field is right for orders
+//! whose positions rise or fall with the indices one by one, as those of `Lsb0` and `Msb0` do.
 
-ghost use Rattle.std.specs.Prelude.{◌≡◌, pos, ◌+◌, ◌<◌, ◌≤◌, length};
-ghost use Rattle.bitvec_domain.specs.BitSpan.{span_of};
+ghost use Rattle.std.specs.Prelude.{◌≡◌, ℕ, pos, ◌+◌, ◌<◌, ◌≤◌, ◌⊎◌, length};
+ghost use Rattle.bitvec.specs.BitSpan.{span_of};
+ghost use Rattle.bitvec.specs.Memory.{bit_of};
 
 use bitvec::index::BitIdx;
 use bitvec::order::BitOrder;
@@ -30,8 +34,8 @@ impl Field {
 
     // The position of the field's lowest digit in the word.
     //
-    // The digits of a number have rising positions. Under `Lsb0` so have the indices, and the lowest
-    // digit is that of the first index; under `Msb0` they fall, and it is that of the last.
+    // Under `Lsb0` positions rise with the indices, and the lowest is that of the first; under `Msb0`
+    // they fall, and it is that of the last.
     fn lowest<O: BitOrder<u32>>(self) -> u8
         ensures { result < 32 }
     {
@@ -44,15 +48,20 @@ impl Field {
 
     /// The command that writes a number into the field.
     ///
-    /// A store takes the digits from the places where they shall stand, so the number is shifted up to
-    /// the field first. Digits that lie past the field are not written.
+    /// A store shifts nothing: it takes each digit from where it shall stand. So the number is shifted up
+    /// to the field first. Digits that lie past the field are not written.
     pub fn store<O: BitOrder<u32>>(self, number: u32) -> Command<u32> {
         Command::Store(0, number << self.lowest::<O>())
     }
 
-    /// Writes a number into the field, and leaves every other bit of the memory.
+    /// Writes a number into the field, and leaves every other bit of the memory as it is.
+    ///
+    /// Digits that lie past the field are not written.
     pub fn put<O: BitOrder<u32>>(self, memory: &mut [u32], number: u32)
         requires { 1 ≤ length memory.old }
+        ensures others { (place : ℕ) → (place < self.start) ⊎ (self.start + self.len ≤ place)
+            → bit_of 32 O.at_of memory.new place ≡ bit_of 32 O.at_of memory.old place }
+        ensures words { length memory.new ≡ length memory.old }
     {
         let mut part = self.span::<O>().part_mut(memory, 0);
         part.store_value(number << self.lowest::<O>());

@@ -1,6 +1,6 @@
 //! A packet header: four fields that share one word.
 
-ghost use Rattle.std.specs.Prelude.{◌≡◌, ◌≤◌, length};
+ghost use Rattle.std.specs.Prelude.{◌≡◌, ◌≤◌, false, length};
 
 use crate::field::Field;
 use bitvec::order::BitOrder;
@@ -38,8 +38,13 @@ fn to(span: usize, command: Command<u32>) -> Request<u32> {
 
 /// Writes a header into the first word of a memory, each number through the span of its field.
 ///
-/// It answers whether it did, which it does where the memory has a word; else nothing is written.
-pub fn write<O: BitOrder<u32>>(header: &Header, memory: &mut [u32]) -> bool {
+/// The spans share the word and no bit of it, which is what [`can_run`] tests, beside that they lie in
+/// the memory. Where it refuses, as of a memory without a word, the answer is `false`, and nothing is
+/// written.
+pub fn write<O: BitOrder<u32>>(header: &Header, memory: &mut [u32]) -> bool
+    ensures words { length memory.new ≡ length memory.old }
+    ensures refused { result ≡ false → memory.new ≡ memory.old }
+{
     let spans = [
         VERSION.span::<O>(),
         CLASS.span::<O>(),

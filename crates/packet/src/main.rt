@@ -24,8 +24,10 @@ fn main(rt: HostRuntime) -> io::Result<()> {
 
 // Writes the header under an order, then the flags alone, and prints the word and what is read back.
 fn show<O: BitOrder<u32>>(rt: &impl Print, order: &str) -> io::Result<()> {
-    let mut memory = [0; 1];
-    write::<O>(&HEADER, &mut memory);
+    let mut memory = [0];
+    if !write::<O>(&HEADER, &mut memory) {
+        return println!(rt; "{order} has no room");
+    }
     println!(rt; "{order}")?;
     show_memory::<O>(rt, &memory)?;
     FLAGS.put::<O>(&mut memory, 1);
