@@ -1,4 +1,5 @@
 pub mod CommandLemmas
+pub mod ElementLemmas
 pub mod LaterLemmas
 pub mod MoveLemmas
 pub mod PointerLaws

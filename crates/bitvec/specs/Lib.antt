@@ -1,4 +1,5 @@
 pub mod Commands
+pub mod Elements
 pub mod Run
 pub use Rattle.bitvec_mem.specs.Digit
 pub use Rattle.bitvec_mem.specs.Numeral

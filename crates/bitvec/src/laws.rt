@@ -11,6 +11,7 @@ ghost use Rattle.bitvec_ptr.specs.Place.{place_of};
 ghost use Rattle.bitvec_ptr.specs.Steps.{CanOffset};
 ghost use Rattle.bitvec_domain.specs.BitSpan.{span_of};
 ghost use Rattle.bitvec.specs.Commands.{request_number, reply_number};
+ghost use Rattle.bitvec.specs.Elements.{HasBitIn};
 ghost use Rattle.bitvec.specs.Run.{CanRun, HaveSameOwnCommands, HaveSameOwnReplies};
 
 use crate::mem::BitRegister;
@@ -61,6 +62,18 @@ pub fn pointers_are_equal_at_one_place<R: BitRegister, O>(
     ensures { IsTrue result ↔ (place_of R.BITS (ptr_of here) ≡ place_of R.BITS (ptr_of there)) }
 {
     here == there
+}
+
+/// A span has a bit in a word exactly where the word is one of its `elements`, counted from its first
+/// word on.
+pub fn elements_are_the_words_with_a_bit<R: BitRegister, O>(
+    span: BitSpan<R, O>,
+    word: isize,
+) -> bool
+    ensures { IsTrue result ↔ HasBitIn R.BITS (span_of span) word }
+{
+    let first = span.address();
+    first <= word && word.abs_diff(first) < span.elements()
 }
 
 // The number of each word is one of the register's: `to_u128` says so of the word that it is called on.

@@ -1,7 +1,7 @@
 //! Laws at concrete spans.
 
 use crate::index::BitIdx;
-use crate::laws::order_between_spans_does_not_matter;
+use crate::laws::{elements_are_the_words_with_a_bit, order_between_spans_does_not_matter};
 use crate::order::Lsb0;
 use crate::ptr::span::BitSpan;
 use crate::run::{Command, Reply, Request, can_run};
@@ -69,4 +69,19 @@ fn halves_of_a_byte_in_two_orders(rt: HostRuntime) {
     ];
     let want = (replies, [0x9D], other_replies, [0x9D]);
     assert_eq!(rt; halves_in_two_orders(), Some(want));
+}
+
+// Whether the span of so many bits from place 4 on has a bit in the words from -1 to 3.
+fn words_with_a_bit(bits: usize) -> Option<[bool; 5]> {
+    let span: BitSpan<u8, Lsb0> = BitSpan::new(0, BitIdx::new(4).ok()?, bits).ok()?;
+    Some([-1, 0, 1, 2, 3].map(|word| elements_are_the_words_with_a_bit(span, word)))
+}
+
+#[test]
+fn words_of_a_span(rt: HostRuntime) {
+    assert_eq!(rt;
+        words_with_a_bit(16),
+        Some([false, true, true, true, false])
+    );
+    assert_eq!(rt; words_with_a_bit(0), Some([false; 5]));
 }
