@@ -26,7 +26,10 @@ fn main(rt: HostRuntime) -> ExitCode {
     match replay(&rt) {
         Ok(true) => ExitCode::from(0),
         Ok(false) => ExitCode::from(1),
-        Err(_) => ExitCode::from(2),
+        Err(error) => {
+            let _ = println!(rt; "fault: {error}");
+            ExitCode::from(2)
+        }
     }
 }
 
