@@ -323,16 +323,16 @@ fn is_shown(alloc: Global, value: &impl fmt::Debug) -> Result<bool, AllocError> 
 }
 
 #[test]
-fn shows_domains_to_a_programmer(rt: HostRuntime) -> Result<(), Fail> {
+fn shows_spans_and_parts_to_a_programmer(rt: HostRuntime) -> Result<(), Fail> {
     let alloc = rt.alloc();
-    let mut memory = [0x12u8, 0x34, 0x56];
+    let memory = [0x12u8, 0x34, 0x56];
     let span: BitSpan<u8, Lsb0> = span_at(4, 16).ok_or("refused")?;
     assert!(rt; span.fits(memory.len()));
     assert!(rt; is_shown(alloc, &span)?);
     assert!(rt; is_shown(alloc, &span.to_bitptr_range())?);
-    assert!(rt; is_shown(alloc, &span.domain(&memory))?);
-    assert!(rt; is_shown(alloc, &span.bit_domain(&memory))?);
-    assert!(rt; is_shown(alloc, &span.domain_mut(&mut memory))?);
-    assert!(rt; is_shown(alloc, &span.bit_domain_mut(&mut memory))?);
+    assert!(rt; span.elements() == 3);
+    let part = span.part(&memory, 0);
+    assert!(rt; is_shown(alloc, &part)?);
+    assert!(rt; is_shown(alloc, &part.into_bitslice())?);
     Ok(())
 }
