@@ -4,4 +4,4 @@ pub use bitvec_order::order::{
     BitAt, BitOrder, LocalBits, Lsb0, Msb0, OrderCandidate, masks_are_disjoint, plain_mask,
     plain_mask_between, plain_select, plain_selector,
 };
-pub use bitvec_verify::verify;
+pub use bitvec_verify::verify::{OrderFault, VerifyFault, scan_counts, verify, verify_for_type};
