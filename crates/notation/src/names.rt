@@ -1,5 +1,8 @@
 //! The names of registers and orders.
 
+ghost use Rattle.std.specs.Prelude.{IsSome, ◌↔◌};
+ghost use Rattle.notation.specs.Names.{IsOrderName, IsRegisterName};
+
 use crate::hilo::HiLo;
 use bitvec::mem::BitRegister;
 use bitvec::order::{BitOrder, Lsb0, Msb0};
@@ -15,7 +18,9 @@ pub trait Call {
 
 /// The answer of a call for the order and the register of these names, or `None` where one of them is
 /// no name.
-pub fn answer<C: Call>(order: &str, register: &str, call: &C) -> Option<C::Answer> {
+pub fn answer<C: Call>(order: &str, register: &str, call: &C) -> Option<C::Answer>
+    ensures { IsSome result ↔ IsOrderName order.now × IsRegisterName register.now }
+{
     match register {
         "u8" => under::<u8, C>(order, call),
         "u16" => under::<u16, C>(order, call),
@@ -26,7 +31,9 @@ pub fn answer<C: Call>(order: &str, register: &str, call: &C) -> Option<C::Answe
     }
 }
 
-fn under<R: BitRegister, C: Call>(order: &str, call: &C) -> Option<C::Answer> {
+fn under<R: BitRegister, C: Call>(order: &str, call: &C) -> Option<C::Answer>
+    ensures { IsSome result ↔ IsOrderName order.now }
+{
     match order {
         "lsb0" => Some(call.answer::<R, Lsb0>()),
         "msb0" => Some(call.answer::<R, Msb0>()),
