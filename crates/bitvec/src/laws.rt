@@ -4,11 +4,12 @@
 //! so a program's author may rely on it, or show such a law of a program's own calls in the same
 //! way. All are our own.
 
-ghost use Rattle.std.specs.Prelude.{◌≡◌, ℤ, pos, ◌+◌, ◌^◌, ◌<◌, ◌≤ℤ◌, ◌<ℤ◌, ◌↔◌, IsTrue, All, length, map};
+ghost use Rattle.std.specs.Prelude.{◌≡◌, ℤ, pos, neg_ℤ, ◌+◌, ◌+ℤ◌, ◌^◌, ◌<◌, ◌≤ℤ◌, ◌<ℤ◌, ◌↔◌, IsTrue, All, length, map};
 ghost use Rattle.std.specs.Ordering.{MatchOrdering};
 ghost use Rattle.bitvec_ptr.specs.BitPtr.{ptr_of};
-ghost use Rattle.bitvec_ptr.specs.Place.{place_of};
-ghost use Rattle.bitvec_ptr.specs.Steps.{CanOffset};
+ghost use Rattle.std.specs.Int.{w64, int_wrap};
+ghost use Rattle.bitvec_ptr.specs.Place.{Ptr, place_of};
+ghost use Rattle.bitvec_ptr.specs.Steps.{CanOffset, distance, wrapped};
 ghost use Rattle.bitvec_domain.specs.BitSpan.{span_of};
 ghost use Rattle.bitvec.specs.Commands.{request_number, reply_number};
 ghost use Rattle.bitvec.specs.Elements.{HasBitIn};
@@ -22,9 +23,13 @@ use crate::run::{Reply, Request, run};
 use std::cmp::Ordering;
 
 /// How far a pointer has come by a step is the step's count.
+///
+/// It is so of any pointer whose place is as many bits on as the step says.
 pub fn offset_from_undoes_offset<R: BitRegister, O>(pointer: BitPtr<R, O>, count: isize) -> isize
     requires { CanOffset R.BITS (ptr_of pointer) count }
-    ensures { result ≡ count }
+    ensures answer { result ≡ count }
+    ensures law { (moved : Ptr) → place_of R.BITS moved ≡ place_of R.BITS (ptr_of pointer) +ℤ count
+        → distance R.BITS moved (ptr_of pointer) ≡ count }
 {
     pointer.offset(count).offset_from(pointer)
 }
@@ -36,7 +41,9 @@ pub fn wrapping_sub_undoes_wrapping_add<R: BitRegister, O>(
     count: usize,
 ) -> BitPtr<R, O>
     requires { pos ((ptr_of pointer).bit + count) ≤ℤ isize.MAX }
-    ensures { ptr_of result ≡ ptr_of pointer }
+    ensures answer { ptr_of result ≡ ptr_of pointer }
+    ensures law { wrapped R.BITS (wrapped R.BITS (ptr_of pointer) (int_wrap w64 (pos count))) (int_wrap w64 (neg_ℤ (pos count)))
+        ≡ ptr_of pointer }
 {
     pointer.wrapping_add(count).wrapping_sub(count)
 }

@@ -13,4 +13,7 @@ returns g c =
     let pointer = c.args.pointer in
     let below = bit_below width pointer.bit g.met.R.BitRegister.eight_law pointer.in_word in
     let back = wrapped_back width c.args.count (ptr_of pointer) below (omega (arith, g.met.R.BitRegister.limit_law)) (omega (arith, ints)) (omega (arith, ints, c.requires)) in
-    c.wrapping_sub.ensures ∙ ap (λ t. wrapped width t (int_wrap w64 (neg_ℤ (pos c.args.count)))) c.wrapping_add.ensures ∙ back
+    record {
+      answer = c.wrapping_sub.ensures ∙ ap (λ t. wrapped width t (int_wrap w64 (neg_ℤ (pos c.args.count)))) c.wrapping_add.ensures ∙ back;
+      law = back;
+    }
