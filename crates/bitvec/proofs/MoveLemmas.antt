@@ -17,7 +17,7 @@ use Rattle.bitvec_domain.proofs.PartLemmas.{element-list_of, length-list_of}
 use Rattle.bitvec.specs.declared.run.command.Command.TheVariants.{Read, Replace, Swap, Copy}
 use Rattle.bitvec.specs.declared.run.command.Reply.TheVariants.{Bit, Done}
 use Rattle.bitvec.specs.Run.{IsStep}
-use Rattle.bitvec.proofs.SpanLemmas.{covers-own}
+use Rattle.bitvec_domain.proofs.CoverLemmas.{covers-own}
 use Rattle.bitvec.proofs.CommandLemmas.{step-within, bit_within}
 
 -- a place past the memory has no bit

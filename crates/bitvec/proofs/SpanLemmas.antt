@@ -1,18 +1,10 @@
 -- What two disjoint spans of one memory have to do with each other: nothing.
-use Rattle.std.proofs.Common.{◌≡◌, ℕ, ◌+◌, ◌*◌, ◌<◌, false, List, arith}
-use Rattle.std.specs.Prelude.{ℤ, pos, negsuc, ◌+ℤ◌, ◌*ℤ◌, ◌≤ℤ◌, ◌<ℤ◌, nat_abs}
-use Rattle.std.proofs.lemmas.Int.{ints}
+use Rattle.std.proofs.Common.{◌≡◌, ℕ, false, List}
+use Rattle.std.specs.Prelude.{ℤ, pos}
 use Rattle.bitvec_ptr.specs.Memory.{bit_of}
 use Rattle.bitvec_ptr.proofs.MemoryLemmas.{tabulate_same}
 use Rattle.bitvec_domain.specs.Span.{Span, Covers, Fits, list_of}
-
--- a place of a span that begins at a word from 0 on
-covers_from : (word : ℤ) (bits head len j : ℕ) → pos 0 ≤ℤ word → j < len → (((word *ℤ pos bits) +ℤ pos head) ≤ℤ pos (nat_abs word * bits + head + j)) × (pos (nat_abs word * bits + head + j) <ℤ (((word *ℤ pos bits) +ℤ pos head) +ℤ pos len))
-covers_from (pos w) bits head len j from h = (omega (arith, ints), omega (arith, ints))
-covers_from (negsuc w) bits head len j from h = absurd (omega (arith, ints))
-
-pub covers-own : (bits : ℕ) (span : Span) (words j : ℕ) → Fits bits span words → j < span.len → Covers bits span (pos (nat_abs span.word * bits + span.head + j))
-covers-own bits span words j fits h = covers_from span.word bits span.head span.len j fits.0 h
+use Rattle.bitvec_domain.proofs.CoverLemmas.{covers-own}
 
 -- what leaves every bit outside one span leaves the list of a disjoint one
 pub list_of-other : (bits : ℕ) (at : ℕ → ℕ) (a b : Span) (words : ℕ) (old new : List ℕ) → Fits bits a words → ((place : ℤ) → Covers bits a place → Covers bits b place → ⊥)

@@ -1,7 +1,9 @@
 pub mod AppendLemmas
+pub mod CoverLemmas
 pub mod DisjointLemmas
 pub mod EditLemmas
 pub mod FillLemmas
+pub mod FilledLemmas
 pub mod ItemLemmas
 pub mod JoinLemmas
 pub mod LentSlices

@@ -36,7 +36,7 @@ lent_parts-from number (Region None body (Some tail)) = refl
 lent_parts-from number (Region None body None) = refl
 
 -- what holds of each row of the table of a span's parts, holds
-rows : (empty begins ends one : Bool) (P : Bool → Bool → Bool → Bool → Type 0) → (empty ≡ true → P true begins ends one) → (empty ≡ false → P false true true one) → (empty ≡ false → P false false true one) → (empty ≡ false → P false true false one) → (empty ≡ false → one ≡ true → P false false false true) → (empty ≡ false → one ≡ false → P false false false false) → P empty begins ends one
+pub rows : (empty begins ends one : Bool) (P : Bool → Bool → Bool → Bool → Type 0) → (empty ≡ true → P true begins ends one) → (empty ≡ false → P false true true one) → (empty ≡ false → P false false true one) → (empty ≡ false → P false true false one) → (empty ≡ false → one ≡ true → P false false false true) → (empty ≡ false → one ≡ false → P false false false false) → P empty begins ends one
 rows true begins ends one P p0 p1 p2 p3 p4 p5 = p0 refl
 rows false true true one P p0 p1 p2 p3 p4 p5 = p1 refl
 rows false false true one P p0 p1 p2 p3 p4 p5 = p2 refl
@@ -45,19 +45,19 @@ rows false false false true P p0 p1 p2 p3 p4 p5 = p4 refl refl
 rows false false false false P p0 p1 p2 p3 p4 p5 = p5 refl refl
 
 -- the tests of `is_inside`, `has_head` and `has_tail`, by the rows' tests
-abbrev inside : Bool → Bool → Bool → Bool → Bool
+abbrev pub inside : Bool → Bool → Bool → Bool → Bool
 inside empty begins ends one = not empty && not begins && not ends && one
 
-abbrev heads : Bool → Bool → Bool
+abbrev pub heads : Bool → Bool → Bool
 heads empty begins = not empty && not begins
 
-abbrev tails : Bool → Bool → Bool → Bool → Bool
+abbrev pub tails : Bool → Bool → Bool → Bool → Bool
 tails empty begins ends one = not empty && not ends && not (inside empty begins ends one)
 
 false_true : false ≡ true → ⊥
 false_true e = subst T (sym e) tt
 
-true_false : true ≡ false → ⊥
+pub true_false : true ≡ false → ⊥
 true_false e = false_true (sym e)
 
 module _ (bits : ℕ) (span : Span) where
@@ -67,7 +67,7 @@ module _ (bits : ℕ) (span : Span) where
   abbrev met : ℕ
   met = words_met bits span.head span.len
 
-  some_met : (span.len == 0) ≡ false → 0 < words_met bits span.head span.len
+  pub some_met : (span.len == 0) ≡ false → 0 < words_met bits span.head span.len
   some_met some = let differ = eqb-false span.len 0 some in let is = words_met-some bits span.head span.len (omega arith) in omega arith
 
   abbrev by_rows : (P : Bool → Bool → Bool → Bool → Type 0) → ((span.len == 0) ≡ true → P true (span.head == 0) (tail_of bits span.head span.len == bits) (words_met bits span.head span.len == 1)) → ((span.len == 0) ≡ false → P false true true (words_met bits span.head span.len == 1)) → ((span.len == 0) ≡ false → P false false true (words_met bits span.head span.len == 1)) → ((span.len == 0) ≡ false → P false true false (words_met bits span.head span.len == 1)) → ((span.len == 0) ≡ false → (words_met bits span.head span.len == 1) ≡ true → P false false false true) → ((span.len == 0) ≡ false → (words_met bits span.head span.len == 1) ≡ false → P false false false false) → P (span.len == 0) (span.head == 0) (tail_of bits span.head span.len == bits) (words_met bits span.head span.len == 1)

@@ -3,9 +3,11 @@
 //! The order says where the bits stand, and this shift of a number to its field is right for orders
 //! whose positions rise or fall with the indices one by one, as those of `Lsb0` and `Msb0` do.
 
-ghost use Rattle.std.specs.Prelude.{◌≡◌, ℕ, pos, ◌+◌, ◌<◌, ◌≤◌, ◌⊎◌, length};
+ghost use Rattle.std.specs.Prelude.{◌≡◌, ℕ, ◌+◌, ◌<◌, ◌≤◌, ◌⊎◌, length};
 ghost use Rattle.bitvec.specs.BitSpan.{span_of};
 ghost use Rattle.bitvec.specs.Memory.{bit_of};
+ghost use Rattle.bitvec.specs.declared.run.command.Command.TheVariants.{Store};
+ghost use Rattle.packet.specs.Field.{HasNumber, field_span, lowest_of, number_in, shifted};
 
 use bitvec::index::BitIdx;
 use bitvec::order::BitOrder;
@@ -26,7 +28,7 @@ pub struct Field {
 impl Field {
     /// The field as a span, under any order.
     pub fn span<O>(self) -> BitSpan<u32, O>
-        ensures { span_of result ≡ record { word = pos 0; head = self.start; len = self.len } }
+        ensures { span_of result ≡ field_span self.start self.len }
     {
         let head = BitIdx::new_unchecked(self.start);
         BitSpan::new(0, head, usize::from(self.len)).unwrap()
@@ -37,7 +39,8 @@ impl Field {
     // Under `Lsb0` positions rise with the indices, and the lowest is that of the first; under `Msb0`
     // they fall, and it is that of the last.
     fn lowest<O: BitOrder<u32>>(self) -> u8
-        ensures { result < 32 }
+        ensures lowest { result ≡ lowest_of O.at_of self.start self.len }
+        ensures in_word { result < 32 }
     {
         let first = BitIdx::new_unchecked(self.start);
         let last = BitIdx::new_unchecked(self.start + self.len - 1);
@@ -50,7 +53,9 @@ impl Field {
     ///
     /// A store shifts nothing: it takes each digit from where it shall stand. So the number is shifted up
     /// to the field first. Digits that lie past the field are not written.
-    pub fn store<O: BitOrder<u32>>(self, number: u32) -> Command<u32> {
+    pub fn store<O: BitOrder<u32>>(self, number: u32) -> Command<u32>
+        ensures { result ≡ Store 0 (shifted O.at_of self.start self.len number) }
+    {
         Command::Store(0, number << self.lowest::<O>())
     }
 
@@ -59,6 +64,7 @@ impl Field {
     /// Digits that lie past the field are not written.
     pub fn put<O: BitOrder<u32>>(self, memory: &mut [u32], number: u32)
         requires { 1 ≤ length memory.old }
+        ensures written { HasNumber O.at_of self.start self.len number memory.new }
         ensures others { (place : ℕ) → (place < self.start) ⊎ (self.start + self.len ≤ place)
             → bit_of 32 O.at_of memory.new place ≡ bit_of 32 O.at_of memory.old place }
         ensures words { length memory.new ≡ length memory.old }
@@ -70,6 +76,7 @@ impl Field {
     /// The number in the field: its digits where they stand in the word, shifted down.
     pub fn get<O: BitOrder<u32>>(self, memory: &[u32]) -> u32
         requires { 1 ≤ length memory.now }
+        ensures { result ≡ number_in O.at_of self.start self.len memory.now }
     {
         let part = self.span::<O>().part(memory, 0);
         part.load_value() >> self.lowest::<O>()

@@ -1,6 +1,8 @@
 //! A packet header: four fields that share one word.
 
-ghost use Rattle.std.specs.Prelude.{◌≡◌, ◌≤◌, false, length};
+ghost use Rattle.std.specs.Prelude.{◌≡◌, ◌↔◌, ℕ, ◌≤◌, IsTrue, length};
+ghost use Rattle.bitvec.specs.Memory.{bit_of};
+ghost use Rattle.packet.specs.Header.{HasHeader, header_in};
 
 use crate::field::Field;
 use bitvec::order::BitOrder;
@@ -32,7 +34,9 @@ pub struct Header {
 }
 
 // The request of a command to the span of a number.
-fn to(span: usize, command: Command<u32>) -> Request<u32> {
+fn to(span: usize, command: Command<u32>) -> Request<u32>
+    ensures { result ≡ record { span = span; command = command } }
+{
     Request { span, command }
 }
 
@@ -42,8 +46,10 @@ fn to(span: usize, command: Command<u32>) -> Request<u32> {
 /// the memory. Where it refuses, as of a memory without a word, the answer is `false`, and nothing is
 /// written.
 pub fn write<O: BitOrder<u32>>(header: &Header, memory: &mut [u32]) -> bool
+    ensures room { IsTrue result ↔ 1 ≤ length memory.old }
+    ensures written { 1 ≤ length memory.old → HasHeader O.at_of header.now memory.new }
+    ensures others { (place : ℕ) → 32 ≤ place → bit_of 32 O.at_of memory.new place ≡ bit_of 32 O.at_of memory.old place }
     ensures words { length memory.new ≡ length memory.old }
-    ensures refused { result ≡ false → memory.new ≡ memory.old }
 {
     let spans = [
         VERSION.span::<O>(),
@@ -68,6 +74,7 @@ pub fn write<O: BitOrder<u32>>(header: &Header, memory: &mut [u32]) -> bool
 /// The header in the first word of a memory.
 pub fn read<O: BitOrder<u32>>(memory: &[u32]) -> Header
     requires { 1 ≤ length memory.now }
+    ensures { result ≡ header_in O.at_of memory.now }
 {
     Header {
         version: VERSION.get::<O>(memory),

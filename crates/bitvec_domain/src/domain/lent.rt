@@ -1,9 +1,10 @@
 //! The words and parts of words that a span meets, for writing.
 
-ghost use Rattle.std.specs.Prelude.{◌≡◌, pos, ◌+◌, ◌-◌, ◌<◌, ◌≤◌, ◌≤ℤ◌, nat_abs, if◌then◌else◌, not, true, false, length, map, IfSome, MatchOption, is_some, Some, None, [], replicate};
+ghost use Rattle.std.specs.Prelude.{◌≡◌, ℕ, pos, ◌+◌, ◌-◌, ◌<◌, ◌≤◌, ◌≤ℤ◌, nat_abs, if◌then◌else◌, not, true, false, length, map, IfSome, MatchOption, is_some, Some, None, [], replicate};
 ghost use Rattle.std.specs.Borrow.{sem};
 ghost use Rattle.bitvec_ptr.specs.Place.{words_met};
-ghost use Rattle.bitvec_domain.specs.Span.{Fits};
+ghost use Rattle.bitvec_ptr.specs.Memory.{bit_of};
+ghost use Rattle.bitvec_domain.specs.Span.{Covers, Fits, list_of};
 ghost use Rattle.bitvec_domain.specs.Domain.{parts_of, enclave, region, is_enclave, HasShortBody};
 ghost use Rattle.bitvec_domain.specs.Edit.{slot_at};
 ghost use Rattle.bitvec_domain.specs.Loans.{is_inside, has_head, has_tail, words_before, body_words, slots_of, lists_of, word_of_bit, filled_slot, filled_slot_if, filled};
@@ -285,10 +286,8 @@ fn fill_domain<'a, R: BitRegister, O: BitOrder<R>>(
 impl<R: BitRegister, O: BitOrder<R>> BitSpan<R, O> {
     ghost use Rattle.bitvec_domain.specs.BitSpan.{span_of};
 
-    /// Makes each bit of the span in a memory the same, and leaves every other bit as it is.
-    ///
-    /// It asks a span that [`fits`](BitSpan::fits). Our own.
-    pub fn fill(self, memory: &mut [R], bit: bool)
+    // Makes each bit of the span in a memory the same, by the parts that the memory is lent as.
+    fn fill_pieces(self, memory: &mut [R], bit: bool)
         requires { Fits R.BITS (span_of self) (length memory.old) }
         ensures { map R.number memory.new ≡ filled R.BITS O.at_of bit (span_of self) (map R.number memory.old) }
     {
@@ -298,5 +297,18 @@ impl<R: BitRegister, O: BitOrder<R>> BitSpan<R, O> {
             body: _,
             back: _,
         } = fill_domain(domain, bit);
+    }
+
+    /// Makes each bit of the span in a memory the same, and leaves every other bit as it is.
+    ///
+    /// It asks a span that [`fits`](BitSpan::fits). Our own.
+    pub fn fill(self, memory: &mut [R], bit: bool)
+        requires { Fits R.BITS (span_of self) (length memory.old) }
+        ensures list { list_of R.BITS O.at_of (span_of self) (map R.number memory.new) ≡ replicate (span_of self).len bit }
+        ensures others { (place : ℕ) → ¬ Covers R.BITS (span_of self) (pos place)
+            → bit_of R.BITS O.at_of (map R.number memory.new) place ≡ bit_of R.BITS O.at_of (map R.number memory.old) place }
+        ensures words { length memory.new ≡ length memory.old }
+    {
+        self.fill_pieces(memory, bit);
     }
 }

@@ -1,4 +1,4 @@
--- `fill` lends its memory to `domain_mut` for a lifetime of its own, and has it back at what the three loans left. Assumes `Logic`.
+-- `fill_pieces` lends its memory to `domain_mut` for a lifetime of its own, and has it back at what the three loans left. Assumes `Logic`.
 use Rattle.std.proofs.Common.{◌≡◌, ℕ, ◌^◌, ◌<◌, List, [], ◌∷◌, ◌++◌, Bool, refl, sym, replicate, length, map, take, drop as drop_l, MutBor}
 use Rattle.std.specs.Prelude.{Option}
 use Rattle.std.proofs.raw_atomic.Walks.{proved, leaves}
@@ -53,17 +53,17 @@ use Rattle.bitvec_domain.specs.contracts.lend.Pieces as P
 use Rattle.bitvec_domain.proofs.lend.Pieces.TheLaws.{the_row_laws as pieces_laws}
 use Rattle.bitvec_domain.specs.contracts.domain.lent.DomainMut as D
 use Rattle.bitvec_domain.proofs.domain.lent.DomainMut.TheLaws.{the_row_laws as domain_laws}
-use Rattle.bitvec_domain.specs.contracts.ptr.span.BitSpan.fill as f
-use Rattle.bitvec_domain.specs.contracts.ptr.span.BitSpan.fill.Key.{name as #self}
-use Rattle.bitvec_domain.proofs.ptr.span.BitSpan.fill.Statement.{statement}
-use Rattle.bitvec_domain.proofs.ptr.span.BitSpan.fill.Code as code
+use Rattle.bitvec_domain.specs.contracts.ptr.span.BitSpan.fill_pieces as f
+use Rattle.bitvec_domain.specs.contracts.ptr.span.BitSpan.fill_pieces.Key.{name as #self}
+use Rattle.bitvec_domain.proofs.ptr.span.BitSpan.fill_pieces.Statement.{statement}
+use Rattle.bitvec_domain.proofs.ptr.span.BitSpan.fill_pieces.Code as code
 use Rattle.bitvec_domain.specs.contracts.ptr.span.BitSpan.domain_mut as g
 use Rattle.bitvec_domain.proofs.ptr.span.BitSpan.domain_mut.Met.{met}
 use Rattle.bitvec_domain.specs.contracts.domain.lent.fill_domain as h
 use Rattle.bitvec_domain.proofs.domain.lent.fill_domain.Met.{met as met_h}
 
-pub fill_spec : {M : Type 1} → statement M
-fill_spec 𝓤 𝓛 𝓜 𝓡 wired X O L LO copy rb rbd rc rcd rd rdd re red rp rpd ro rod rq rqd rh rhd rg rgd obo obod ooc oocd oba obad m1 m2 m3 m4 m5 m6 m7 m8 m9 m10 m11 m12 =
+pub fill_pieces_spec : {M : Type 1} → statement M
+fill_pieces_spec 𝓤 𝓛 𝓜 𝓡 wired X O L LO copy rb rbd rc rcd rd rdd re red rp rpd ro rod rq rqd rh rhd rg rgd obo obod ooc oocd oba obad m1 m2 m3 m4 m5 m6 m7 m8 m9 m10 m11 m12 =
     let H = 𝓛.H in let 𝓣 = tables 𝓤 H 𝓜 𝓡 𝓡.env in let R : RattleType = copied 0 X in let Or : RattleType = param 1 O in let En = f.ended X O rb rbd rc rcd rd rdd re red rp rpd ro rod rq rqd rh rhd rg rgd obo obod ooc oocd oba obad in
     let inst = bounded (a_type ∷ a_type ∷ []) (X, (O, tt)) (dcons rbd (dcons rcd (dcons rdd (dcons red (dcons rpd (dcons rod (dcons rqd (dcons rhd (dcons rgd (dcons obod (dcons oocd (dcons obad dnil)))))))))))) in let fn = inst_fn inst code.function in
     let c = f.clauses X O rb rbd rc rcd rd rdd re red rp rpd ro rod rq rqd rh rhd rg rgd obo obod ooc oocd oba obad 𝓛 𝓜.mem 𝓡.returns in

@@ -1,0 +1,22 @@
+use Rattle.std.proofs.Common.{rules}
+use Rattle.bitvec.specs.BitSpan.{span_of}
+use Rattle.packet.proofs.header.write.Goals as goal
+use Rattle.packet.proofs.HeaderLemmas.{room-from_can_run, behind, kept-by_run, header-written}
+
+pub run-requires-clause-can_run : goal.run-requires-clause-can_run
+run-requires-clause-can_run g c = c.can_run.ensures.0 (search rules)
+
+pub returns-clause-room : goal.returns-clause-room
+returns-clause-room g c =
+    (λ t. room-from_can_run span_of c.span.result c.span-2.result c.span-3.result c.span-4.result c.span.ensures c.span-2.ensures c.span-3.ensures c.span-4.ensures _ (c.can_run.ensures.0 (search rules)), λ h. search rules)
+
+pub returns-clause-written : goal.returns-clause-written
+returns-clause-written g c h =
+    header-written span_of c.span.result c.span-2.result c.span-3.result c.span-4.result c.span.ensures c.span-2.ensures c.span-3.ensures c.span-4.ensures
+    _ _ _ _ _ _ _ _ g.O.BitAt.at_of _ c.to.ensures c.to-2.ensures c.to-3.ensures c.to-4.ensures c.store.ensures c.store-2.ensures c.store-3.ensures c.store-4.ensures
+    c.args.memory.now c.run.new.memory _ c.run.ensures
+
+pub returns-clause-others : goal.returns-clause-others
+returns-clause-others g c place h =
+    kept-by_run span_of _ g.O.BitAt.at_of c.args.memory.now c.run.new.memory _ _ c.run.ensures place
+    (behind span_of c.span.result c.span-2.result c.span-3.result c.span-4.result c.span.ensures c.span-2.ensures c.span-3.ensures c.span-4.ensures place h)
