@@ -9,6 +9,7 @@ pub mod RunLemmas
 pub mod SameRunLemmas
 pub mod SpanLemmas
 pub mod WordLemmas
+pub use Rattle.bitvec_mem.proofs.DigitLemmas
 pub use Rattle.bitvec_order.proofs.IndexLemmas
 pub use Rattle.bitvec_ptr.proofs.MemoryLemmas
 pub use Rattle.bitvec_domain.proofs.CoverLemmas

@@ -102,7 +102,7 @@ element-list_of bits at span words j h = get_or-tabulate span.len (λ i. bit_of 
 pub length-list_of : (bits : ℕ) (at : ℕ → ℕ) (span : Span) (words : List ℕ) → length (list_of bits at span words) ≡ span.len
 length-list_of bits at span words = length-tabulate span.len (λ i. bit_of bits at words (nat_abs span.word * bits + span.head + i))
 
-element_past : (bits : ℕ) (at : ℕ → ℕ) (span : Span) (words : List ℕ) (j : ℕ) → span.len ≤ j → element (list_of bits at span words) j ≡ false
+pub element_past : (bits : ℕ) (at : ℕ → ℕ) (span : Span) (words : List ℕ) (j : ℕ) → span.len ≤ j → element (list_of bits at span words) j ≡ false
 element_past bits at span words j h = let long = length-list_of bits at span words in get_or_past (list_of bits at span words) j false (omega arith)
 
 both_false : (a b c : Bool) → a ≡ false → (a && b && c) ≡ false

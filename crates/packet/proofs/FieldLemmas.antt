@@ -6,7 +6,7 @@ use Rattle.std.proofs.lemmas.Bool.{ne_eqb, eq-eqb}
 use Rattle.bitvec.specs.Digit.{digit}
 use Rattle.bitvec.specs.Order.{IsOneToOne}
 use Rattle.bitvec.specs.Memory.{bit_of}
-use Rattle.bitvec.specs.Span.{Span, Fits, list_of, element}
+use Rattle.bitvec.specs.Span.{Span, Fits, list_of, element, word_of}
 use Rattle.bitvec.specs.Place.{words_met}
 use Rattle.bitvec.specs.Edit.{Slot, slot_of, EditsPart}
 use Rattle.bitvec.specs.Commands.{list_after}
@@ -16,7 +16,7 @@ use Rattle.bitvec.specs.declared.run.command.Reply.TheVariants.{Word}
 use Rattle.bitvec.proofs.CommandLemmas.{step-store}
 use Rattle.bitvec.proofs.MemoryLemmas.{get_or-tabulate}
 use Rattle.bitvec.proofs.PartLemmas.{element-list_of, length-list_of}
-use Rattle.packet.specs.Field.{field_span, lowest_of, HasNumber}
+use Rattle.packet.specs.Field.{field_span, lowest_of, HasNumber, number_in}
 
 -- a field lies in one word
 pub one_word : (start len : ℕ) → 1 ≤ len → start + len ≤ 32 → words_met 32 start len ≡ 1
@@ -81,3 +81,12 @@ module _ (at : ℕ → ℕ) (start len value : ℕ) (span : Span) (slot : Slot) 
   -- the field has the value's digits
   pub inside_stored : (place : ℕ) → start ≤ place → place < start + len → bit_of 32 at new place ≡ digit value (at place)
   inside_stored = stored at start len value old new some in_word step.edited
+
+-- the word of a field's bits, shifted down
+pub number_in-from : (at : ℕ → ℕ) (start len value lowest : ℕ) (span : Span) (words : List ℕ) → span ≡ field_span start len → value ≡ word_of 32 at span.head (list_of 32 at span (map (λ w. w) words)) 0 → lowest ≡ lowest_of at start len
+    → value / 2 ^ lowest ≡ number_in at start len words
+number_in-from at start len value lowest span words is_span is_value is_lowest =
+    ap (λ v. v / 2 ^ lowest) is_value
+    ∙ ap (λ (s : Span). word_of 32 at s.head (list_of 32 at s (map (λ w. w) words)) 0 / 2 ^ lowest) is_span
+    ∙ ap (λ ws. word_of 32 at start (list_of 32 at (field_span start len) ws) 0 / 2 ^ lowest) (map-id words)
+    ∙ ap (λ l. word_of 32 at start (list_of 32 at (field_span start len) words) 0 / 2 ^ l) is_lowest

@@ -110,3 +110,6 @@ header-written view a b c d is_version is_class is_flags is_length r0 r1 r2 r3 k
       flags = stored-by_run view _ at before after _ replies ran 2 10 6 _ c refl is_flags (rw (t0, t1, t2, t3, s2) refl) (omega arith) (omega arith);
       length = stored-by_run view _ at before after _ replies ran 3 16 16 _ d refl is_length (rw (t0, t1, t2, t3, s3) refl) (omega arith) (omega arith);
     }
+
+pub header_same : (one other : Header) → one.version ≡ other.version → one.class ≡ other.class → one.flags ≡ other.flags → one.length ≡ other.length → one ≡ other
+header_same one other version class flags length = λ k. record { version = version k; class = class k; flags = flags k; length = length k }

@@ -1,6 +1,6 @@
 -- Numbers in a field: `len` bits of the first word of a memory, from the index `start` on. `at` takes an index in a word
 -- of 32 bits to its position in the number, and a memory is the list of its words' numbers.
-use Rattle.std.specs.Prelude.{ℕ, pos, ◌+◌, ◌-◌, ◌*◌, ◌/◌, ◌%◌, ◌^◌, ◌<◌, ◌≤◌, ◌≡◌, List, if◌then◌else◌, nat_le}
+use Rattle.std.specs.Prelude.{ℕ, pos, ◌+◌, ◌-◌, ◌*◌, ◌/◌, ◌%◌, ◌^◌, ◌<◌, ◌≤◌, ◌≡◌, ◌⊎◌, List, if◌then◌else◌, nat_le}
 use Rattle.bitvec.specs.Digit.{digit}
 use Rattle.bitvec.specs.Memory.{bit_of}
 use Rattle.bitvec.specs.Span.{Span, list_of, word_of}
@@ -25,3 +25,7 @@ HasNumber at start len number words = (place : ℕ) → start ≤ place → plac
 -- the number that a memory has in the field: the word of the field's bits, each at its position, shifted down
 abbrev pub number_in : (ℕ → ℕ) → ℕ → ℕ → List ℕ → ℕ
 number_in at start len words = word_of 32 at start (list_of 32 at (field_span start len) words) 0 / 2 ^ lowest_of at start len
+
+-- the positions rise with the indices from 0 on, as those of `Lsb0`, or fall from 31 on, as those of `Msb0`
+abbrev pub IsSteady : (ℕ → ℕ) → Type 0
+IsSteady at = ((i : ℕ) → i < 32 → at i ≡ i) ⊎ ((i : ℕ) → i < 32 → at i + i ≡ 31)

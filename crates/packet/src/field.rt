@@ -3,11 +3,11 @@
 //! The order says where the bits stand, and this shift of a number to its field is right for orders
 //! whose positions rise or fall with the indices one by one, as those of `Lsb0` and `Msb0` do.
 
-ghost use Rattle.std.specs.Prelude.{◌≡◌, ℕ, ◌+◌, ◌<◌, ◌≤◌, ◌⊎◌, length};
+ghost use Rattle.std.specs.Prelude.{◌≡◌, ℕ, ◌+◌, ◌^◌, ◌<◌, ◌≤◌, ◌⊎◌, length};
 ghost use Rattle.bitvec.specs.BitSpan.{span_of};
 ghost use Rattle.bitvec.specs.Memory.{bit_of};
 ghost use Rattle.bitvec.specs.declared.run.command.Command.TheVariants.{Store};
-ghost use Rattle.packet.specs.Field.{HasNumber, field_span, lowest_of, number_in, shifted};
+ghost use Rattle.packet.specs.Field.{HasNumber, IsSteady, field_span, lowest_of, number_in, shifted};
 
 use bitvec::index::BitIdx;
 use bitvec::order::BitOrder;
@@ -74,9 +74,14 @@ impl Field {
     }
 
     /// The number in the field: its digits where they stand in the word, shifted down.
+    ///
+    /// Under `Lsb0` and `Msb0` it is the number that was put there, if that has no more digits than the
+    /// field has bits.
     pub fn get<O: BitOrder<u32>>(self, memory: &[u32]) -> u32
         requires { 1 ≤ length memory.now }
-        ensures { result ≡ number_in O.at_of self.start self.len memory.now }
+        ensures field { result ≡ number_in O.at_of self.start self.len memory.now }
+        ensures number { (number : ℕ) → IsSteady O.at_of → number < 2 ^ self.len
+            → HasNumber O.at_of self.start self.len number memory.now → result ≡ number }
     {
         let part = self.span::<O>().part(memory, 0);
         part.load_value() >> self.lowest::<O>()

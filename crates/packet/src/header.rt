@@ -2,7 +2,9 @@
 
 ghost use Rattle.std.specs.Prelude.{◌≡◌, ◌↔◌, ℕ, ◌≤◌, IsTrue, length};
 ghost use Rattle.bitvec.specs.Memory.{bit_of};
-ghost use Rattle.packet.specs.Header.{HasHeader, header_in};
+ghost use Rattle.packet.specs.declared.header.Header.{Header};
+ghost use Rattle.packet.specs.Field.{IsSteady};
+ghost use Rattle.packet.specs.Header.{HasHeader, IsInFields, header_in};
 
 use crate::field::Field;
 use bitvec::order::BitOrder;
@@ -72,9 +74,12 @@ pub fn write<O: BitOrder<u32>>(header: &Header, memory: &mut [u32]) -> bool
 }
 
 /// The header in the first word of a memory.
+///
+/// Under `Lsb0` and `Msb0` it is the one that was written there, if each of its numbers fits its field.
 pub fn read<O: BitOrder<u32>>(memory: &[u32]) -> Header
     requires { 1 ≤ length memory.now }
-    ensures { result ≡ header_in O.at_of memory.now }
+    ensures fields { result ≡ header_in O.at_of memory.now }
+    ensures header { (header : Header) → IsSteady O.at_of → IsInFields header → HasHeader O.at_of header memory.now → result ≡ header }
 {
     Header {
         version: VERSION.get::<O>(memory),
