@@ -4,7 +4,7 @@
 //! place of a digit in the number. A selector is the power of two of a position, and a mask is a set
 //! of positions, each as a number of the register.
 
-ghost use Rattle.std.specs.Prelude.{pos, ◌+ℤ◌, ◌≡◌, ℕ, ◌+◌, ◌-◌, ◌*◌, ◌/◌, ◌%◌, ◌^◌, ◌<◌, ◌≤◌, ◌↔◌, ◌||◌, IsOk, IsErr, IsSome, IsNone, IfOk, IfErr, IfSome, IsTrue};
+ghost use Rattle.std.specs.Prelude.{⊤, pos, ◌+ℤ◌, ◌≡◌, ℕ, ◌+◌, ◌-◌, ◌*◌, ◌/◌, ◌%◌, ◌^◌, ◌<◌, ◌≤◌, ◌↔◌, ◌||◌, IsOk, IsErr, IsSome, IsNone, IfOk, IfErr, IfSome, IsTrue};
 ghost use Rattle.std.specs.Int.{w64, int_wrap, int_div_euclid, int_rem_euclid};
 ghost use Rattle.bitvec_order.specs.Index.{HasOneDigit};
 ghost use Rattle.bitvec_mem.specs.Digit.{digit};
@@ -406,6 +406,8 @@ impl<R: BitRegister> Model for BitSel<R> {
 impl<R: BitRegister> Clone for BitSel<R> {
     ghost is_clone = { λ a b. b ≡ a };
 
+    ghost is_infallible = { λ _. ⊤ };
+
     fn clone(&self) -> Result<Self, AllocError> {
         Ok(*self)
     }
@@ -504,6 +506,8 @@ impl<R: BitRegister> MaskLimits for BitMask<R> {
 
 impl<R: BitRegister> Clone for BitMask<R> {
     ghost is_clone = { λ a b. b ≡ a };
+
+    ghost is_infallible = { λ _. ⊤ };
 
     fn clone(&self) -> Result<Self, AllocError> {
         Ok(*self)

@@ -4,7 +4,7 @@
 //! and then its position; then the masks of each pair of present bounds; then those with an absent
 //! bound.
 
-ghost use Rattle.std.specs.Prelude.{◌≡◌, ◌↔◌, ℕ, ◌+◌, ◌*◌, ◌<◌, ◌≤◌, length, OnOk, IsOk};
+ghost use Rattle.std.specs.Prelude.{◌≡◌, ⊤, ◌↔◌, ℕ, ◌+◌, ◌*◌, ◌<◌, ◌≤◌, length, OnOk, IsOk};
 ghost use Rattle.bitvec_order.specs.Order.{mask_start, mask_end};
 ghost use Rattle.bitvec_verify.specs.Scan.{candidate, IsLawful, is_repeated, masked, index_tests, start_tests, pair_tests, absent_tests, tests, fault_of, first_fault};
 ghost use Rattle.bitvec_verify.specs.Verified.{fault_in, Candidates, Verifies};
@@ -12,11 +12,12 @@ ghost use Rattle.bitvec_verify.specs.Verified.{fault_in, Candidates, Verifies};
 use bitvec_mem::mem::BitRegister;
 use bitvec_order::index::{BitEnd, BitIdx, BitMask, BitPos, BitSel};
 use bitvec_order::order::{BitAt, OrderCandidate, plain_mask};
+use std::alloc::AllocError;
 
 /// Where a candidate is not a lawful order of a register: what it answered, and what it should have.
 ///
 /// Our own: the Rust crate panics there.
-#[derive(Clone, Copy, PartialEq, Eq, Debug)]
+#[derive(Copy, PartialEq, Eq, Debug)]
 pub enum OrderFault<R: BitRegister> {
     /// The selector of `index` is `got`, and two to the power of its position is `want`.
     Select {
@@ -39,8 +40,18 @@ pub enum OrderFault<R: BitRegister> {
     },
 }
 
+impl<R: BitRegister> Clone for OrderFault<R> {
+    ghost is_clone = { λ it copy. copy ≡ it };
+
+    ghost is_infallible = { λ _. ⊤ };
+
+    fn clone(&self) -> Result<Self, AllocError> {
+        Ok(*self)
+    }
+}
+
 /// The first register where a candidate is not a lawful order, with its fault there. Our own.
-#[derive(Clone, Copy, PartialEq, Eq, Debug)]
+#[derive(Copy, PartialEq, Eq, Debug)]
 pub enum VerifyFault {
     /// At `u8`.
     U8(OrderFault<u8>),
@@ -52,6 +63,16 @@ pub enum VerifyFault {
     Usize(OrderFault<usize>),
     /// At `u64`.
     U64(OrderFault<u64>),
+}
+
+impl Clone for VerifyFault {
+    ghost is_clone = { λ it copy. copy ≡ it };
+
+    ghost is_infallible = { λ _. ⊤ };
+
+    fn clone(&self) -> Result<Self, AllocError> {
+        Ok(*self)
+    }
 }
 
 // Whether a lower index has the position of this one.
