@@ -1,7 +1,7 @@
 //! Ranges of bit pointers: the places from a start to before an end.
 
 ghost use Rattle.std.specs.Prelude.{◌≡◌, ⊤, ℕ, ℤ, pos, ◌+◌, ◌-◌, ◌<◌, ◌≤◌, ◌+ℤ◌, ◌≤ℤ◌, ◌<ℤ◌, ◌↔◌, IsTrue, MatchOption, []};
-ghost use Rattle.std.specs.Iterator.{YieldsFirstBy, YieldsLastBy, item_count};
+ghost use Rattle.std.specs.Iterator.{YieldsFirstBy, YieldsLastBy, MakesProgress, item_count};
 ghost use Rattle.std.specs.Range.Bound.{bound_map};
 ghost use Rattle.std.specs.declared.ops.Bound.TheVariants.{Included, Excluded};
 ghost use Rattle.bitvec_ptr.specs.Place.{place_of};
@@ -237,7 +237,15 @@ impl<R: BitRegister, O> Iterator for BitPtrRange<R, O> {
 
     ghost remaining = { item_count (λ r. places_of R.BITS (range_of r)) };
 
-    fn next(&mut self) -> Option<BitPtr<R, O>> {
+    fn next(&mut self) -> Option<BitPtr<R, O>>
+        ensures steps { YieldsFirstBy (λ p. place_of R.BITS (ptr_of p)) (λ r. places_of R.BITS (range_of r)) self.old result self.new }
+        ensures goes { MakesProgress (λ _. ⊤) (item_count (λ r. places_of R.BITS (range_of r))) self.old result self.new }
+        ensures end { (range_of self.new).end ≡ (range_of self.old).end }
+        ensures start { MatchOption result
+            ((range_of self.new).start ≡ (range_of self.old).start)
+            (λ p. place_of R.BITS (range_of self.new).start ≡ place_of R.BITS (ptr_of p) +ℤ pos 1) }
+        ensures last { count_of R.BITS (range_of self.old) ≡ 1 → (range_of self.new).start ≡ (range_of self.old).end }
+    {
         self.nth(0)
     }
 }
@@ -247,7 +255,15 @@ impl<R: BitRegister, O> DoubleEndedIterator for BitPtrRange<R, O> {
 
     ghost next_back_gives = { YieldsLastBy (λ p. place_of R.BITS (ptr_of p)) (λ r. places_of R.BITS (range_of r)) };
 
-    fn next_back(&mut self) -> Option<BitPtr<R, O>> {
+    fn next_back(&mut self) -> Option<BitPtr<R, O>>
+        ensures steps { YieldsLastBy (λ p. place_of R.BITS (ptr_of p)) (λ r. places_of R.BITS (range_of r)) self.old result self.new }
+        ensures goes { MakesProgress (λ _. ⊤) (item_count (λ r. places_of R.BITS (range_of r))) self.old result self.new }
+        ensures start { (range_of self.new).start ≡ (range_of self.old).start }
+        ensures end { MatchOption result
+            ((range_of self.new).end ≡ (range_of self.old).end)
+            (λ p. (range_of self.new).end ≡ ptr_of p) }
+        ensures last { count_of R.BITS (range_of self.old) ≡ 1 → (range_of self.new).end ≡ (range_of self.old).start }
+    {
         self.nth_back(0)
     }
 }

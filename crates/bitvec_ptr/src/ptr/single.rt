@@ -400,7 +400,10 @@ impl<'a, R: BitRegister, O> From<&'a mut R> for BitPtr<R, O> {
 
     ghost from_gives = { λ _ ptr. ptr_of ptr ≡ record { word = pos 0; bit = 0 } };
 
-    fn from(word: &'a mut R) -> Self {
+    fn from(word: &'a mut R) -> Self
+        ensures first { ptr_of result ≡ record { word = pos 0; bit = 0 } }
+        ensures same { word.new ≡ word.old }
+    {
         Self::from_mut(word)
     }
 }
