@@ -1,5 +1,5 @@
 -- The ends of a range after its first or its last pointer was taken.
-use Rattle.std.proofs.Common.{◌≡◌, ℕ, ℤ, pos, ◌+◌, ◌<◌, ◌≤◌, ◌+ℤ◌, ◌≤ℤ◌, Option, Some, None, MatchOption, ◌∙◌, sym, ap, arith}
+use Rattle.std.proofs.Common.{◌≡◌, ℕ, pos, ◌+◌, ◌<◌, ◌≤◌, ◌+ℤ◌, ◌≤ℤ◌, Option, Some, None, MatchOption, ◌∙◌, sym, ap, arith}
 use Rattle.std.proofs.lemmas.Int.{ints}
 use Rattle.bitvec_ptr.specs.Place.{Ptr, place_of}
 use Rattle.bitvec_ptr.specs.PtrRange.{PtrRange, count_of}
