@@ -5,6 +5,7 @@ pub mod MoveLemmas
 pub mod PointerLaws
 pub mod PointerLemmas
 pub mod RequestLemmas
+pub mod RisingLemmas
 pub mod RunLemmas
 pub mod SameRunLemmas
 pub mod SpanLemmas

@@ -3,7 +3,8 @@
 //! Each span's list of bits goes its own way: what its commands answer, and what they leave, is what
 //! they give on that list alone. All of it is our own.
 
-ghost use Rattle.std.specs.Prelude.{◌≡◌, ℕ, ◌↔◌, IsTrue, All, List, [], ◌∷◌, length, map};
+ghost use Rattle.std.specs.Prelude.{◌≡◌, ℕ, pos, ◌+ℤ◌, ◌≤ℤ◌, ◌⊎◌, ◌↔◌, IsTrue, IfSome, All, AllPairs, List, [], ◌∷◌, length, map};
+ghost use Rattle.bitvec_ptr.specs.Place.{place_at};
 ghost use Rattle.bitvec_domain.specs.Span.{AreDisjoint};
 ghost use Rattle.bitvec_domain.specs.BitSpan.{span_of};
 ghost use Rattle.bitvec.specs.Commands.{request_number, reply_number};
@@ -30,17 +31,62 @@ fn is_apart<R: BitRegister, O>(span: BitSpan<R, O>, others: &[BitSpan<R, O>]) ->
     others.iter().all(|other| span.is_disjoint(other))
 }
 
-/// Whether each span lies within a memory of so many words and no two have a bit in common: the test
-/// of [`run`]. Our own.
-pub fn can_run<R: BitRegister, O>(spans: &[BitSpan<R, O>], words: usize) -> bool
-    ensures { IsTrue result ↔ CanRun R.BITS span_of spans.now words }
+// Whether no two spans have a bit in common, each tested with each.
+fn are_apart<R: BitRegister, O>(spans: &[BitSpan<R, O>]) -> bool
+    ensures { IsTrue result ↔ AllPairs (λ a b. AreDisjoint R.BITS (span_of a) (span_of b)) spans.now }
 {
     for i in 0..spans.len() {
         if !is_apart(spans[i], &spans[i + 1..]) {
             return false;
         }
     }
-    spans.iter().all(|span| span.fits(words))
+    true
+}
+
+// Whether a span has no bits, or ends before another starts.
+fn comes_before<R: BitRegister, O>(span: BitSpan<R, O>, next: BitSpan<R, O>) -> bool
+    ensures { IsTrue result ↔ (((span_of span).len ≡ 0)
+        ⊎ ((place_at R.BITS (span_of span).word (span_of span).head +ℤ pos (span_of span).len)
+        ≤ℤ place_at R.BITS (span_of next).word (span_of next).head)) }
+{
+    span.is_empty() || span.to_bitptr_range().end() <= next.to_bitptr()
+}
+
+// Whether no two spans have a bit in common, by one pass that tests each with the last one before it
+// that has bits; `None` where a span that has bits starts before that one.
+fn neighbours_apart<R: BitRegister, O>(spans: &[BitSpan<R, O>]) -> Option<bool>
+    ensures { IfSome result
+        (λ apart. IsTrue apart ↔ AllPairs (λ a b. AreDisjoint R.BITS (span_of a) (span_of b)) spans.now) }
+{
+    let mut last = 0;
+    for i in 1..spans.len() {
+        let (before, span) = (spans[last], spans[i]);
+        if !before.is_disjoint(&span) {
+            return Some(false);
+        }
+        if !span.is_empty() {
+            if !comes_before(before, span) {
+                return None;
+            }
+            last = i;
+        }
+    }
+    Some(true)
+}
+
+/// Whether each span lies within a memory of so many words and no two have a bit in common: the test
+/// of [`run`].
+///
+/// Spans whose places rise, each that has bits behind the one before it that has, take one pass, and so
+/// do those that meet a neighbour in it; spans in no order are tested each with each. Our own.
+pub fn can_run<R: BitRegister, O>(spans: &[BitSpan<R, O>], words: usize) -> bool
+    ensures { IsTrue result ↔ CanRun R.BITS span_of spans.now words }
+{
+    let apart = match neighbours_apart(spans) {
+        Some(apart) => apart,
+        None => are_apart(spans),
+    };
+    apart && spans.iter().all(|span| span.fits(words))
 }
 
 // Answers one request.

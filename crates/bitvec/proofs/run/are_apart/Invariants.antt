@@ -1,7 +1,7 @@
 use Rattle.std.proofs.Common.{ℕ, ◌<◌, length, get_or}
 use Rattle.bitvec_domain.specs.BitSpan.{span_of}
 use Rattle.bitvec_domain.specs.Span.{AreDisjoint}
-use Rattle.bitvec.proofs.run.can_run.Given as goal
+use Rattle.bitvec.proofs.run.are_apart.Given as goal
 
 -- each span so far is apart from each later one
 abbrev pub invariant-loop-i : goal.invariant-loop-i

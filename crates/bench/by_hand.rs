@@ -1,0 +1,427 @@
+//! The same jobs as those of this program's `time`, each by the best loop that a person would write in
+//! plain Rust, for `rustc -O`. It prints in the same form: a name and nanoseconds.
+
+use std::hint::black_box;
+use std::time::{Duration, Instant};
+
+const WORDS: usize = 65536;
+const COPIED: usize = (WORDS - 4) * 64;
+const SPANS: usize = 2000;
+const REQUESTS: usize = 1_000_000;
+
+/// The nanoseconds of a unit, of which a job has so many: the best of nine rounds.
+fn time(name: &str, units: usize, mut job: impl FnMut()) {
+    let mut round = |repeats: usize| {
+        let start = Instant::now();
+        for _ in 0..repeats {
+            job();
+        }
+        start.elapsed()
+    };
+    let mut repeats = 1;
+    while repeats < 1 << 20 && round(repeats) < Duration::from_millis(2) {
+        repeats *= 2;
+    }
+    let best = (0..9).map(|_| round(repeats)).min().unwrap_or_default();
+    println!("{name} {:.3}", best.as_nanos() as f64 / (repeats * units) as f64);
+}
+
+fn words() -> Vec<u64> {
+    let mut word = 1u64;
+    (0..WORDS)
+        .map(|_| {
+            word = word.wrapping_mul(6364136223846793005).wrapping_add(1442695040888963407);
+            word
+        })
+        .collect()
+}
+
+// ---- copies
+
+/// Bits of a word from `bit` on, `count` of them, as a mask: by rising or by falling positions.
+fn mask<const RISING: bool>(bit: usize, count: usize) -> u64 {
+    let ones = if count == 64 { !0 } else { !(!0 << count) };
+    if RISING { ones << bit } else { ones << (64 - bit - count) }
+}
+
+/// Two neighbouring words as one, from the bit `shift` of the first on.
+#[inline(always)]
+fn merged<const RISING: bool>(first: u64, second: u64, shift: usize) -> u64 {
+    match (shift, RISING) {
+        (0, _) => first,
+        (_, true) => first >> shift | second << (64 - shift),
+        (_, false) => first << shift | second >> (64 - shift),
+    }
+}
+
+/// The word that holds `count` bits from a place on, its first bit at `bit`.
+#[inline(always)]
+fn word_at<const RISING: bool>(source: &[u64], from: usize, bit: usize, count: usize) -> u64 {
+    let (k, shift) = (from / 64, from % 64);
+    let second = if shift + count > 64 { source[k + 1] } else { 0 };
+    let word = merged::<RISING>(source[k], second, shift);
+    if RISING { word << bit } else { word >> bit }
+}
+
+/// The two shifts that join neighbouring words, of which the first loses its first `shift` bits.
+#[inline(always)]
+fn shifts<const RISING: bool>(shift: usize) -> (u32, u32) {
+    let shift = shift as u32;
+    if RISING { (shift, 64 - shift) } else { (64 - shift, shift) }
+}
+
+/// Two neighbouring words as one, by these shifts; none is 0.
+#[inline(always)]
+fn joined<const RISING: bool>(first: u64, second: u64, down: u32, up: u32) -> u64 {
+    if RISING { first >> down | second << up } else { second >> down | first << up }
+}
+
+#[inline(always)]
+fn put<const RISING: bool>(word: &mut u64, with: u64, bit: usize, count: usize) {
+    let mask = mask::<RISING>(bit, count);
+    *word = *word & !mask | with & mask;
+}
+
+/// A plain loop over the target's words, each shifted, merged and masked.
+#[inline(never)]
+fn copy_plain<const RISING: bool>(source: &[u64], from: usize, target: &mut [u64], to: usize, count: usize) {
+    let mut done = 0;
+    while done < count {
+        let bit = (to + done) % 64;
+        let part = (64 - bit).min(count - done);
+        let with = word_at::<RISING>(source, from + done, bit, part);
+        put::<RISING>(&mut target[(to + done) / 64], with, bit, part);
+        done += part;
+    }
+}
+
+/// Edges by themselves, and between them a loop over whole words that the compiler vectorises.
+#[inline(never)]
+fn copy_shifted<const RISING: bool>(source: &[u64], from: usize, target: &mut [u64], to: usize, count: usize) {
+    let head = ((64 - to % 64) % 64).min(count);
+    copy_plain::<RISING>(source, from, target, to, head);
+    let (first, shift) = ((from + head) / 64, (from + head) % 64);
+    let whole = (count - head) / 64;
+    let start = (to + head) / 64;
+    let words = &mut target[start..start + whole];
+    let (a, b) = (&source[first..first + whole], &source[first + 1..first + 1 + whole]);
+    let (down, up) = shifts::<RISING>(shift);
+    for i in 0..whole {
+        words[i] = joined::<RISING>(a[i], b[i], down, up);
+    }
+    let done = head + whole * 64;
+    copy_plain::<RISING>(source, from + done, target, to + done, count - done);
+}
+
+/// Inside one memory to a lower place: blocks of eight words from the front, each read before it is
+/// written, so that they vectorise whatever the distance.
+#[inline(never)]
+fn copy_down<const RISING: bool>(memory: &mut [u64], from: usize, to: usize, count: usize) {
+    let head = ((64 - to % 64) % 64).min(count);
+    if head > 0 {
+        let with = word_at::<RISING>(memory, from, to % 64, head);
+        put::<RISING>(&mut memory[to / 64], with, to % 64, head);
+    }
+    let (first, shift) = ((from + head) / 64, (from + head) % 64);
+    let start = (to + head) / 64;
+    let whole = (count - head) / 64;
+    let (down, up) = shifts::<RISING>(shift);
+    let mut k = 0;
+    while k + 8 <= whole {
+        let read: [u64; 9] = memory[first + k..first + k + 9].try_into().unwrap();
+        let block: [u64; 8] = std::array::from_fn(|j| joined::<RISING>(read[j], read[j + 1], down, up));
+        memory[start + k..start + k + 8].copy_from_slice(&block);
+        k += 8;
+    }
+    while k < whole {
+        memory[start + k] = joined::<RISING>(memory[first + k], memory[first + k + 1], down, up);
+        k += 1;
+    }
+    let done = head + whole * 64;
+    if done < count {
+        let with = word_at::<RISING>(memory, from + done, 0, count - done);
+        put::<RISING>(&mut memory[(to + done) / 64], with, 0, count - done);
+    }
+}
+
+/// The same to a higher place, from the back.
+#[inline(never)]
+fn copy_up<const RISING: bool>(memory: &mut [u64], from: usize, to: usize, count: usize) {
+    let head = ((64 - to % 64) % 64).min(count);
+    let (first, shift) = ((from + head) / 64, (from + head) % 64);
+    let start = (to + head) / 64;
+    let whole = (count - head) / 64;
+    let done = head + whole * 64;
+    if done < count {
+        let with = word_at::<RISING>(memory, from + done, 0, count - done);
+        put::<RISING>(&mut memory[(to + done) / 64], with, 0, count - done);
+    }
+    let (down, up) = shifts::<RISING>(shift);
+    let mut k = whole;
+    while k >= 8 {
+        k -= 8;
+        let read: [u64; 9] = memory[first + k..first + k + 9].try_into().unwrap();
+        let block: [u64; 8] = std::array::from_fn(|j| joined::<RISING>(read[j], read[j + 1], down, up));
+        memory[start + k..start + k + 8].copy_from_slice(&block);
+    }
+    while k > 0 {
+        k -= 1;
+        memory[start + k] = joined::<RISING>(memory[first + k], memory[first + k + 1], down, up);
+    }
+    if head > 0 {
+        let with = word_at::<RISING>(memory, from, to % 64, head);
+        put::<RISING>(&mut memory[to / 64], with, to % 64, head);
+    }
+}
+
+/// Bit by bit into a word, which is written once: from words of any width by any positions to those of
+/// `u64`.
+#[inline(always)]
+fn copy_bits<R: Copy + Into<u64>>(source: &[R], width: usize, from: usize, target: &mut [u64], to: usize, count: usize, at: impl Fn(usize) -> usize, put_at: impl Fn(usize) -> usize) {
+    let mut done = 0;
+    while done < count {
+        let first = (to + done) % 64;
+        let part = (64 - first).min(count - done);
+        let mut word = target[(to + done) / 64];
+        for j in 0..part {
+            let place = from + done + j;
+            let bit = source[place / width].into() >> at(place % width) & 1;
+            let position = put_at(first + j);
+            word = word & !(1 << position) | bit << position;
+        }
+        target[(to + done) / 64] = word;
+        done += part;
+    }
+}
+
+#[inline(never)]
+fn copy_bytes(source: &[u8], from: usize, target: &mut [u64], to: usize, count: usize) {
+    copy_bits(source, 8, from, target, to, count, |i| i, |i| i);
+}
+
+#[inline(never)]
+fn copy_turned(source: &[u64], from: usize, target: &mut [u64], to: usize, count: usize) {
+    copy_bits(source, 64, from, target, to, count, |i| i, |i| 63 - i);
+}
+
+#[inline(never)]
+fn copy_hilo(source: &[u64], from: usize, target: &mut [u64], to: usize, count: usize) {
+    copy_bits(source, 64, from, target, to, count, |i| i ^ 4, |i| i ^ 4);
+}
+
+fn time_copies<const RISING: bool>(order: &str, source: &[u64], target: &mut [u64]) {
+    let words = COPIED / 64;
+    time(&format!("copy-{order}-aligned"), words, || {
+        black_box(&mut *target)[1..1 + words].copy_from_slice(&black_box(source)[1..1 + words]);
+    });
+    time(&format!("copy-{order}-shifted"), words, || {
+        copy_shifted::<RISING>(black_box(source), 64 + 3, black_box(target), 64 + 14, COPIED);
+    });
+    time(&format!("copy-{order}-down"), words, || {
+        copy_down::<RISING>(black_box(target), 3 * 64 + 14, 64 + 3, COPIED);
+    });
+    time(&format!("copy-{order}-up"), words, || {
+        copy_up::<RISING>(black_box(target), 64 + 3, 3 * 64 + 14, COPIED);
+    });
+}
+
+fn time_other_copies(source: &[u64], target: &mut [u64]) {
+    let words = COPIED / 64;
+    let bytes: Vec<u8> = source.iter().map(|word| (*word >> 56) as u8).collect();
+    let few = (bytes.len() - 4) * 8;
+    time("copy-lsb0-shifted-200-bits", 1, || {
+        copy_plain::<true>(black_box(source), 64 + 3, black_box(target), 64 + 14, black_box(200));
+    });
+    time("copy-u8-u64", few / 64, || copy_bytes(black_box(&bytes), 8 + 3, black_box(target), 64 + 14, few));
+    time("copy-lsb0-msb0", words, || copy_turned(black_box(source), 64 + 3, black_box(target), 64 + 14, COPIED));
+    time("copy-hilo-shifted", words, || copy_hilo(black_box(source), 64 + 3, black_box(target), 64 + 14, COPIED));
+}
+
+// ---- runs
+
+#[derive(Clone, Copy)]
+#[allow(dead_code)]
+enum Command {
+    Load(usize),
+    Store(usize, u64),
+    Set(usize),
+    Clear(usize),
+    Invert(usize),
+    Read(usize),
+    Replace(usize, bool),
+    Swap(usize, usize),
+    Copy { from: usize, to: usize, count: usize },
+}
+
+#[derive(Clone, Copy)]
+struct Request {
+    span: usize,
+    command: Command,
+}
+
+#[derive(Clone, Copy)]
+#[allow(dead_code)]
+enum Reply {
+    Word(u64),
+    Bit(bool),
+    Done,
+    PastEnd,
+    NoSpan,
+}
+
+#[derive(Clone, Copy)]
+struct Span {
+    word: isize,
+    head: u8,
+    len: usize,
+}
+
+impl Span {
+    fn elements(self) -> usize {
+        if self.len == 0 { 0 } else { (self.head as usize + self.len - 1) / 64 + 1 }
+    }
+
+    fn mask(self, k: usize) -> u64 {
+        let from = if k == 0 { self.head as usize } else { 0 };
+        let last = k + 1 == self.elements();
+        let upto = if last { (self.head as usize + self.len - 1) % 64 + 1 } else { 64 };
+        mask::<true>(from, upto - from)
+    }
+
+    fn places(self) -> (isize, isize) {
+        let start = self.word * 64 + self.head as isize;
+        (start, start + self.len as isize)
+    }
+}
+
+/// What stands under a span's part of a word, which gets other bits.
+#[inline(always)]
+fn edit(span: Span, memory: &mut [u64], k: usize, new: impl Fn(u64) -> u64) -> Reply {
+    if k >= span.elements() {
+        return Reply::PastEnd;
+    }
+    let mask = span.mask(k);
+    let word = &mut memory[span.word as usize + k];
+    let old = *word;
+    *word = old & !mask | new(old) & mask;
+    Reply::Word(old & mask)
+}
+
+#[inline(always)]
+fn bit(span: Span, memory: &mut [u64], i: usize, new: impl Fn(bool) -> bool) -> Reply {
+    if i >= span.len {
+        return Reply::PastEnd;
+    }
+    let place = span.head as usize + i;
+    let word = &mut memory[span.word as usize + place / 64];
+    let old = *word >> (place % 64) & 1 == 1;
+    *word = *word & !(1 << (place % 64)) | (new(old) as u64) << (place % 64);
+    Reply::Bit(old)
+}
+
+#[inline(always)]
+fn step(span: Span, memory: &mut [u64], command: Command) -> Reply {
+    match command {
+        Command::Load(k) => edit(span, memory, k, |word| word),
+        Command::Store(k, value) => edit(span, memory, k, |_| value),
+        Command::Set(k) => edit(span, memory, k, |_| !0),
+        Command::Clear(k) => edit(span, memory, k, |_| 0),
+        Command::Invert(k) => edit(span, memory, k, |word| !word),
+        Command::Read(i) => bit(span, memory, i, |old| old),
+        Command::Replace(i, new) => bit(span, memory, i, |_| new),
+        Command::Swap(..) | Command::Copy { .. } => Reply::Done,
+    }
+}
+
+#[inline(never)]
+fn run(spans: &[Span], memory: &mut [u64], requests: &[Request], replies: &mut [Reply]) {
+    for (request, reply) in requests.iter().zip(replies) {
+        *reply = match spans.get(request.span) {
+            Some(span) => step(*span, memory, request.command),
+            None => Reply::NoSpan,
+        };
+    }
+}
+
+/// Whether spans that rise fit and are apart.
+#[inline(never)]
+fn can_run(spans: &[Span], words: usize) -> bool {
+    let mut last = isize::MIN;
+    for span in spans {
+        if span.word < 0 || span.elements() > words || span.word as usize > words - span.elements() {
+            return false;
+        }
+        let (start, end) = span.places();
+        if span.len > 0 {
+            if start < last {
+                return false;
+            }
+            last = end;
+        }
+    }
+    true
+}
+
+fn spans(count: usize) -> Vec<Span> {
+    (0..count).map(|i| Span { word: (i * 10 / 64) as isize, head: (i * 10 % 64) as u8, len: 10 }).collect()
+}
+
+fn time_runs(memory: &mut [u64]) {
+    let few = spans(SPANS);
+    let many = spans(2 * SPANS);
+    let requests: Vec<Request> = (0..REQUESTS)
+        .map(|i| Request { span: i * 7919 % SPANS, command: Command::Store(0, i as u64) })
+        .collect();
+    let mut replies = vec![Reply::Done; REQUESTS];
+    time("run-store", REQUESTS, || run(black_box(&few), black_box(memory), black_box(&requests), black_box(&mut replies)));
+    time("can-run-2000", SPANS, || {
+        black_box(can_run(black_box(&few), WORDS));
+    });
+    time("can-run-4000", 2 * SPANS, || {
+        black_box(can_run(black_box(&many), WORDS));
+    });
+}
+
+// ---- domains
+
+/// All words of a memory but three bits at its start and four at its end, in one number.
+#[inline(never)]
+fn pass(words: &[u64]) -> u64 {
+    let [first, body @ .., last] = words else { return 0 };
+    body.iter().fold(first & (!0 << 3) ^ last & (!0 >> 4), |sum, word| sum ^ word)
+}
+
+#[inline(never)]
+fn pass_body(words: &[u64]) -> u64 {
+    let [_, body @ .., _] = words else { return 0 };
+    body.iter().fold(0, |sum, word| sum ^ word)
+}
+
+#[inline(never)]
+fn fill(words: &mut [u64], bit: bool) {
+    let [first, body @ .., last] = words else { return };
+    let word = if bit { !0 } else { 0 };
+    *first = *first & !(!0 << 3) | word & (!0 << 3);
+    *last = *last & !(!0 >> 4) | word & (!0 >> 4);
+    body.fill(word);
+}
+
+fn time_domains(source: &[u64], target: &mut [u64]) {
+    time("domain-pass", WORDS, || {
+        black_box(pass(black_box(source)));
+    });
+    time("domain-body", WORDS, || {
+        black_box(pass_body(black_box(source)));
+    });
+    time("fill", WORDS, || fill(black_box(target), black_box(true)));
+}
+
+fn main() {
+    let source = words();
+    let mut target = words();
+    time_copies::<true>("lsb0", &source, &mut target);
+    time_copies::<false>("msb0", &source, &mut target);
+    time_other_copies(&source, &mut target);
+    time_runs(&mut target);
+    time_domains(&source, &mut target);
+}

@@ -1,0 +1,42 @@
+use Rattle.std.proofs.Common.{◌≡◌, ◌+◌, ◌<◌, length, sym, subst, arith, rules}
+use Rattle.bitvec_domain.specs.BitSpan.{span_of}
+use Rattle.bitvec_domain.specs.Span.{AreDisjoint}
+use Rattle.bitvec.proofs.RisingLemmas.{ComesBefore, AllEndBy, pair_at, one_more_rises, one_more_empty}
+use Rattle.bitvec.proofs.run.neighbours_apart.Goals as goal
+use Rattle.bitvec.proofs.run.neighbours_apart.Goals.{then-not-is_empty+else-not-comes_before, else-not-is_empty}
+
+pub returns-then-not-is_disjoint : goal.returns-then-not-is_disjoint
+returns-then-not-is_disjoint g c = (
+  (λ no. cc),
+  λ apart. c.if-not-is_disjoint.ensures.1
+      (pair_at (λ a b. AreDisjoint g.R.BitRegister.BITS (span_of a) (span_of b)) c.args.spans.now c.loop-i.last c.loop-i.i c.index-spans-last.result c.index-spans-i.result
+      c.index-spans-last.is c.index-spans-i.is apart c.loop-i.invariant.last_in (omega arith)),
+)
+
+pub loop-i-preserved : goal.loop-i-preserved
+loop-i-preserved g c =
+    let width = g.R.BitRegister.BITS in
+    let spans = c.args.spans.now in
+    let before = c.index-spans-last.result in
+    let span = c.index-spans-i.result in
+    let so_far = c.loop-i.invariant in
+    let within : c.loop-i.i < length c.args.spans.now = omega arith in
+    elim c.if-not-is_empty.branch [
+      | then-not-is_empty+else-not-comes_before w ↦ (
+          let rises : ComesBefore width (span_of before) (span_of span) = w.if-not-comes_before.ensures.0 (search rules) in
+          let some : 0 < span.len = search (rules, arith) in
+          let next = one_more_rises width span_of spans c.loop-i.last c.loop-i.i before span so_far.last_in within c.index-spans-last.is c.index-spans-i.is so_far.apart so_far.behind rises some in
+          record {
+            last_in = omega (arith, w.last-is);
+            apart = next.0;
+            behind = subst (λ n. AllEndBy width span_of spans (c.loop-i.i + 1) n) (sym w.last-is) next.1;
+          })
+      | else-not-is_empty w ↦ (
+          let none : span.len ≡ 0 = w.if-not-is_empty.ensures.0 (search rules) in
+          let next = one_more_empty width span_of spans c.loop-i.last c.loop-i.i span within c.index-spans-i.is so_far.apart so_far.behind none in
+          record {
+            last_in = omega (arith, w.last-is, so_far.last_in);
+            apart = next.0;
+            behind = subst (λ n. AllEndBy width span_of spans (c.loop-i.i + 1) n) (sym w.last-is) next.1;
+          })
+    ]

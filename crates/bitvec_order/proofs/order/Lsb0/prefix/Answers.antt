@@ -1,0 +1,27 @@
+use Rattle.std.proofs.Common.{◌≡◌, sym, ap, ◌∙◌, subst, ◌<◌, ◌^◌, arith}
+use Rattle.std.proofs.lemmas.Nat.{pow_pos}
+use Rattle.bitvec_order.specs.OrderLemmas.{low_one_to_one}
+use Rattle.bitvec_order.proofs.Prefixes.{whole_prefix, low_prefix, mask_from_value}
+use Rattle.bitvec_order.proofs.order.Lsb0.prefix.Goals as goal
+
+pub returns-then-count-BITS-clause-value : goal.returns-then-count-BITS-clause-value
+returns-then-count-BITS-clause-value g c =
+    let width = g.R.BitRegister.BITS in
+    whole_prefix width (λ i. i) c.args.upto c.ALL.result (low_one_to_one width) (omega (arith, c.ALL.ensures, pow_pos width)) c.ALL.ensures
+    (omega (arith, c.into_inner-count.ensures.value, c.BITS.ensures, c.if-count-BITS.true))
+
+pub returns-then-count-BITS-clause-set : goal.returns-then-count-BITS-clause-set
+returns-then-count-BITS-clause-set g c =
+    mask_from_value g.R.BitRegister.BITS (λ i. i) 0 c.args.upto c.ALL.result (low_one_to_one g.R.BitRegister.BITS) c.into_inner-count.ensures.below
+    (returns-then-count-BITS-clause-value g c)
+
+pub returns-clause-value : goal.returns-clause-value
+returns-clause-value g c =
+    c.new.ensures
+    ∙ low_prefix g.R.BitRegister.BITS c.args.upto c.into_inner-count.result (g.R.BitRegister.number c.ALL-2.result) (g.R.BitRegister.number c.shl.result) (g.R.BitRegister.number c.not.result)
+    (ap g.R.BitRegister.number c.ALL-2.ensures ∙ g.met.R.BitRegister.all_law) c.shl.ensures.low c.shl.ensures.moved c.not.ensures.digits c.not.ensures.below
+    c.into_inner-count.ensures.value c.into_inner-count.ensures.below
+
+pub returns-clause-set : goal.returns-clause-set
+returns-clause-set g c =
+    mask_from_value g.R.BitRegister.BITS (λ i. i) 0 c.args.upto c.new.result (low_one_to_one g.R.BitRegister.BITS) c.into_inner-count.ensures.below (returns-clause-value g c)
