@@ -1,5 +1,7 @@
 //! Answers of the program, and writers that fail.
 
+mod orders;
+
 use crate::answer::answer;
 use std::alloc::{AllocError, Global};
 use std::io;

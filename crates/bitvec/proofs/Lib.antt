@@ -1,6 +1,9 @@
+pub mod BitCommandLemmas
 pub mod CommandLemmas
+pub mod DisjointMasks
 pub mod ElementLemmas
 pub mod LaterLemmas
+pub mod LawLemmas
 pub mod MoveLemmas
 pub mod PointerLaws
 pub mod PointerLemmas
@@ -8,9 +11,12 @@ pub mod RequestLemmas
 pub mod RisingLemmas
 pub mod RunLemmas
 pub mod SameRunLemmas
+pub mod ScanCounts
 pub mod SpanLemmas
+pub mod TurnLemmas
 pub mod WordLemmas
 pub use Rattle.bitvec_mem.proofs.DigitLemmas
+pub use Rattle.bitvec_order.proofs.Block
 pub use Rattle.bitvec_order.proofs.IndexLemmas
 pub use Rattle.bitvec_ptr.proofs.MemoryLemmas
 pub use Rattle.bitvec_domain.proofs.CoverLemmas

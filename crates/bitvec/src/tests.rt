@@ -4,6 +4,8 @@ mod domains;
 mod index;
 mod laws;
 mod order;
+mod order_laws;
+mod pointer_laws;
 mod pointers;
 mod spans;
 

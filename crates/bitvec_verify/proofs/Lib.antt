@@ -1,3 +1,2 @@
-pub mod ScanCounts
 pub mod ScanLaws
 pub mod ScanLemmas

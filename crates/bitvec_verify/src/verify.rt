@@ -4,7 +4,7 @@
 //! and then its position; then the masks of each pair of present bounds; then those with an absent
 //! bound.
 
-ghost use Rattle.std.specs.Prelude.{◌≡◌, ⊤, ◌↔◌, ℕ, ◌+◌, ◌*◌, ◌<◌, ◌≤◌, length, OnOk, IsOk};
+ghost use Rattle.std.specs.Prelude.{◌≡◌, ⊤, ◌↔◌, ℕ, ◌<◌, ◌≤◌, OnOk, IsOk};
 ghost use Rattle.bitvec_order.specs.Order.{mask_start, mask_end};
 ghost use Rattle.bitvec_verify.specs.Scan.{candidate, IsLawful, is_repeated, masked, index_tests, start_tests, pair_tests, absent_tests, tests, fault_of, first_fault};
 ghost use Rattle.bitvec_verify.specs.Verified.{fault_in, Candidates, Verifies};
@@ -224,21 +224,6 @@ where
     verify_for_type::<usize, O>().map_err(VerifyFault::Usize)?;
     verify_for_type::<u64, O>().map_err(VerifyFault::U64)
 }
-
-/// A law: how many tests a scan has, by the width of the register.
-///
-/// A register of 8, 16, 32 or 64 bits has 44, 152, 560 or 2,144 masks of two present bounds, and
-/// twice its width plus two with an absent bound. It takes and answers nothing; its contract is the
-/// law. Our own.
-pub fn scan_counts()
-    ensures pairs_8 { length (pair_tests 8) ≡ 44 }
-    ensures pairs_16 { length (pair_tests 16) ≡ 152 }
-    ensures pairs_32 { length (pair_tests 32) ≡ 560 }
-    ensures pairs_64 { length (pair_tests 64) ≡ 2144 }
-    ensures pairs { (width : ℕ) → 2 * length (pair_tests width) ≡ width * (width + 3) }
-    ensures absent { (width : ℕ) → length (absent_tests width) ≡ 2 * width + 2 }
-    ensures indices { (width : ℕ) → length (index_tests width) ≡ 2 * width }
-{}
 
 #[cfg(test)]
 mod tests;

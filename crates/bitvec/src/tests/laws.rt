@@ -1,10 +1,129 @@
-//! Laws at concrete spans.
+//! Laws of runs: what each says of any two calls of `run`.
+
+ghost use Rattle.std.specs.Prelude.{◌≡◌, ℕ, ◌^◌, ◌<◌, All, length, map};
+ghost use Rattle.std.specs.List.{AllZip};
+ghost use Rattle.bitvec_ptr.specs.Memory.{memory_bits};
+ghost use Rattle.bitvec_domain.specs.BitSpan.{span_of};
+ghost use Rattle.bitvec_domain.specs.Span.{list_of};
+ghost use Rattle.bitvec.specs.Commands.{request_number, reply_number, own_replies};
+ghost use Rattle.bitvec.specs.Run.{CanRun, HaveSameOwnCommands, HaveSameOwnReplies};
+ghost use Rattle.bitvec.specs.SameRuns.{OrderBetweenSpansDoesNotMatter};
+ghost use Rattle.bitvec.specs.Laws.{AreSameRequests, AreSameReplies, IsSameNumber, IsTurned, IsBitCommand};
 
 use crate::index::BitIdx;
-use crate::laws::{elements_are_the_words_with_a_bit, order_between_spans_does_not_matter};
-use crate::order::Lsb0;
+use crate::laws::{bit_commands, turned_orders};
+use crate::mem::BitRegister;
+use crate::order::{BitOrder, Lsb0, Msb0};
 use crate::ptr::span::BitSpan;
-use crate::run::{Command, Reply, Request, can_run};
+use crate::run::{Command, Reply, Request, can_run, run};
+
+/// The same bit commands in two memories, each of a register and under an order of its own, whose
+/// spans have equal lists: each span has the same replies, and they end with equal lists.
+fn run_bit_commands<R: BitRegister, O: BitOrder<R>, R2: BitRegister, O2: BitOrder<R2>>(
+    spans: &[BitSpan<R, O>],
+    here: &mut [R],
+    requests: &[Request<R>],
+    replies: &mut [Reply<R>],
+    other_spans: &[BitSpan<R2, O2>],
+    there: &mut [R2],
+    other_requests: &[Request<R2>],
+    other_replies: &mut [Reply<R2>],
+)
+    requires can_run { CanRun R.BITS span_of spans.now (length here.old) }
+    requires other_can_run { CanRun R2.BITS span_of other_spans.now (length there.old) }
+    requires room { length replies.old ≡ length requests.now }
+    requires other_room { length other_replies.old ≡ length other_requests.now }
+    requires same_lists { AllZip (λ span other. list_of R.BITS O.at_of (span_of span) (map R.number here.old)
+        ≡ list_of R2.BITS O2.at_of (span_of other) (map R2.number there.old)) spans.now other_spans.now }
+    requires bit_commands { All (λ request. IsBitCommand request.command) (map (request_number R.number) requests.now) }
+    requires same_requests { AllZip (AreSameRequests IsSameNumber)
+        (map (request_number R.number) requests.now) (map (request_number R2.number) other_requests.now) }
+    ensures same_replies { (s : ℕ) → s < length spans.now → AllZip (AreSameReplies IsSameNumber)
+        (own_replies s (map (request_number R.number) requests.now) (map (reply_number R.number) replies.new))
+        (own_replies s (map (request_number R2.number) other_requests.now) (map (reply_number R2.number) other_replies.new)) }
+    ensures same_lists { AllZip (λ span other. list_of R.BITS O.at_of (span_of span) (map R.number here.new)
+        ≡ list_of R2.BITS O2.at_of (span_of other) (map R2.number there.new)) spans.now other_spans.now }
+{
+    bit_commands::<R, O, R2, O2>();
+    run(spans, here, requests, replies);
+    run(other_spans, there, other_requests, other_replies);
+}
+
+/// The same requests, the numbers of `Store` turned, in two memories with the same bits under two
+/// orders: each span has the same replies, the numbers of `Word` turned, and they end with equal
+/// lists.
+fn run_turned<R: BitRegister, O: BitOrder<R>, O2: BitOrder<R>>(
+    spans: &[BitSpan<R, O>],
+    here: &mut [R],
+    requests: &[Request<R>],
+    replies: &mut [Reply<R>],
+    other_spans: &[BitSpan<R, O2>],
+    there: &mut [R],
+    other_requests: &[Request<R>],
+    other_replies: &mut [Reply<R>],
+)
+    requires can_run { CanRun R.BITS span_of spans.now (length here.old) }
+    requires other_can_run { CanRun R.BITS span_of other_spans.now (length there.old) }
+    requires room { length replies.old ≡ length requests.now }
+    requires other_room { length other_replies.old ≡ length other_requests.now }
+    requires same_spans { map span_of spans.now ≡ map span_of other_spans.now }
+    requires same_bits { memory_bits R.BITS O.at_of (map R.number here.old) ≡ memory_bits R.BITS O2.at_of (map R.number there.old) }
+    requires same_requests { AllZip (AreSameRequests (IsTurned R.BITS O.at_of O2.at_of))
+        (map (request_number R.number) requests.now) (map (request_number R.number) other_requests.now) }
+    ensures same_replies { (s : ℕ) → s < length spans.now → AllZip (AreSameReplies (IsTurned R.BITS O.at_of O2.at_of))
+        (own_replies s (map (request_number R.number) requests.now) (map (reply_number R.number) replies.new))
+        (own_replies s (map (request_number R.number) other_requests.now) (map (reply_number R.number) other_replies.new)) }
+    ensures same_lists { AllZip (λ span other. list_of R.BITS O.at_of (span_of span) (map R.number here.new)
+        ≡ list_of R.BITS O2.at_of (span_of other) (map R.number there.new)) spans.now other_spans.now }
+{
+    turned_orders::<R, O, O2>();
+    run(spans, here, requests, replies);
+    run(other_spans, there, other_requests, other_replies);
+}
+
+/// How the commands of different spans stand among each other does not matter, nor which requests
+/// name no span. It takes and answers nothing; its contract is the law.
+fn order_between_spans_does_not_matter<R: BitRegister, O: BitOrder<R>>()
+    ensures { OrderBetweenSpansDoesNotMatter R.BITS O.at_of }
+{}
+
+// The number of each word is one of the register's: `to_u128` says so of the word that it is called on.
+fn numbers_are_below<R: BitRegister>(memory: &[R])
+    ensures { All (λ word. R.number word < 2 ^ R.BITS) memory.now }
+{
+    for word in memory {
+        let _number = word.to_u128();
+    }
+}
+
+/// Two runs in equal memories of requests that give each span the same commands in the same order:
+/// the same replies to each span, and the same memory.
+fn run_in_two_orders<R: BitRegister, O: BitOrder<R>>(
+    spans: &[BitSpan<R, O>],
+    here: &mut [R],
+    requests: &[Request<R>],
+    replies: &mut [Reply<R>],
+    there: &mut [R],
+    other_requests: &[Request<R>],
+    other_replies: &mut [Reply<R>],
+)
+    requires can_run { CanRun R.BITS span_of spans.now (length here.old) }
+    requires room { length replies.old ≡ length requests.now }
+    requires other_room { length other_replies.old ≡ length other_requests.now }
+    requires same_memory { here.old ≡ there.old }
+    requires same_commands { HaveSameOwnCommands (length spans.now)
+        (map (request_number R.number) requests.now) (map (request_number R.number) other_requests.now) }
+    ensures same_replies { HaveSameOwnReplies (length spans.now)
+        (map (request_number R.number) requests.now) (map (reply_number R.number) replies.new)
+        (map (request_number R.number) other_requests.now) (map (reply_number R.number) other_replies.new) }
+    ensures same_memory { here.new ≡ there.new }
+{
+    order_between_spans_does_not_matter::<R, O>();
+    run(spans, here, requests, replies);
+    run(spans, there, other_requests, other_replies);
+    numbers_are_below(here);
+    numbers_are_below(there);
+}
 
 // The replies and the byte that the same commands to its two halves make of 0x5A in two orders.
 fn halves_in_two_orders() -> Option<([Reply<u8>; 4], [u8; 1], [Reply<u8>; 5], [u8; 1])> {
@@ -40,7 +159,7 @@ fn halves_in_two_orders() -> Option<([Reply<u8>; 4], [u8; 1], [Reply<u8>; 5], [u
     let other_requests = [invert, set, nowhere, swap, replace];
     let mut replies = [Reply::NoSpan; 4];
     let mut other_replies = [Reply::NoSpan; 5];
-    order_between_spans_does_not_matter(
+    run_in_two_orders(
         &spans,
         &mut here,
         &requests,
@@ -69,19 +188,4 @@ fn halves_of_a_byte_in_two_orders(rt: HostRuntime) {
     ];
     let want = (replies, [0x9D], other_replies, [0x9D]);
     assert_eq!(rt; halves_in_two_orders(), Some(want));
-}
-
-// Whether the span of so many bits from place 4 on has a bit in the words from -1 to 3.
-fn words_with_a_bit(bits: usize) -> Option<[bool; 5]> {
-    let span: BitSpan<u8, Lsb0> = BitSpan::new(0, BitIdx::new(4).ok()?, bits).ok()?;
-    Some([-1, 0, 1, 2, 3].map(|word| elements_are_the_words_with_a_bit(span, word)))
-}
-
-#[test]
-fn words_of_a_span(rt: HostRuntime) {
-    assert_eq!(rt;
-        words_with_a_bit(16),
-        Some([false, true, true, true, false])
-    );
-    assert_eq!(rt; words_with_a_bit(0), Some([false; 5]));
 }

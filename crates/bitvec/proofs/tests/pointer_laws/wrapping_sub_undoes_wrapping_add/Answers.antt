@@ -5,7 +5,7 @@ use Rattle.bitvec_ptr.specs.BitPtr.{ptr_of}
 use Rattle.bitvec_ptr.specs.Steps.{wrapped}
 use Rattle.bitvec_ptr.proofs.PlaceOrder.{bit_below}
 use Rattle.bitvec.proofs.PointerLaws.{wrapped_back}
-use Rattle.bitvec.proofs.laws.wrapping_sub_undoes_wrapping_add.Goals as goal
+use Rattle.bitvec.proofs.tests.pointer_laws.wrapping_sub_undoes_wrapping_add.Goals as goal
 
 pub returns : goal.returns
 returns g c =

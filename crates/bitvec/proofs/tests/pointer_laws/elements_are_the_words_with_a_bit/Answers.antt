@@ -4,7 +4,7 @@ use Rattle.std.proofs.lemmas.Int.{ints, to_z-of_z}
 use Rattle.bitvec_ptr.proofs.PlaceOrder.{bit_below}
 use Rattle.bitvec_domain.specs.BitSpan.{span_of}
 use Rattle.bitvec.proofs.ElementLemmas.{distance-on, has-bit, from-bit, met-bit}
-use Rattle.bitvec.proofs.laws.elements_are_the_words_with_a_bit.Goals as goal
+use Rattle.bitvec.proofs.tests.pointer_laws.elements_are_the_words_with_a_bit.Goals as goal
 
 pub returns-then-first-word : goal.returns-then-first-word
 returns-then-first-word g c =

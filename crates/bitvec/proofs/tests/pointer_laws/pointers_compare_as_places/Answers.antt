@@ -1,7 +1,7 @@
 use Rattle.std.proofs.Common.{◌∙◌}
 use Rattle.bitvec_ptr.specs.BitPtr.{ptr_of}
 use Rattle.bitvec_ptr.proofs.PlaceOrder.{bit_below, cmp_places, then_equal}
-use Rattle.bitvec.proofs.laws.pointers_compare_as_places.Goals as goal
+use Rattle.bitvec.proofs.tests.pointer_laws.pointers_compare_as_places.Goals as goal
 
 pub returns : goal.returns
 returns g c =

@@ -1,6 +1,6 @@
 use Rattle.std.proofs.Common.{arith}
-use Rattle.bitvec_verify.proofs.ScanCounts.{index_count, pair_count, absent_count}
-use Rattle.bitvec_verify.proofs.verify.scan_counts.Goals as goal
+use Rattle.bitvec.proofs.ScanCounts.{index_count, pair_count, absent_count}
+use Rattle.bitvec.proofs.tests.order_laws.scan_counts.Goals as goal
 
 pub returns : goal.returns
 returns c = record {

@@ -1,5 +1,5 @@
 use Rattle.std.proofs.Common.{◌<◌, ◌^◌, take, All}
-use Rattle.bitvec.proofs.laws.numbers_are_below.Given as goal
+use Rattle.bitvec.proofs.tests.laws.numbers_are_below.Given as goal
 
 -- the words so far
 abbrev pub invariant-loop-word : goal.invariant-loop-word

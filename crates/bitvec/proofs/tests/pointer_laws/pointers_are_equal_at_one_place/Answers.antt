@@ -2,7 +2,7 @@ use Rattle.std.proofs.Common.{◌≡◌, IsTrue, ◌↔◌, ap, rules}
 use Rattle.bitvec_ptr.specs.BitPtr.{ptr_of}
 use Rattle.bitvec_ptr.specs.Place.{place_of}
 use Rattle.bitvec_ptr.proofs.PlaceOrder.{bit_below, place_same}
-use Rattle.bitvec.proofs.laws.pointers_are_equal_at_one_place.Goals as goal
+use Rattle.bitvec.proofs.tests.pointer_laws.pointers_are_equal_at_one_place.Goals as goal
 
 pub returns : goal.returns
 returns g c =

@@ -1,0 +1,116 @@
+-- From what spans' commands do alone to what two runs do.
+use Rattle.std.proofs.Common.{◌≡◌, ℕ, zero, suc, ◌<◌, ◌≤◌, List, [], ◌∷◌, length, map, Option, Some, ap, ◌∙◌, sym, refl, subst, inl, inr, arith}
+use Rattle.std.specs.Prelude.{slice_get, All}
+use Rattle.std.specs.List.{AllZip, AllByRecursion}
+use Rattle.std.specs.Option.{option_map}
+use Rattle.std.proofs.lemmas.List.Elements.{All-from_recursion, recursion_from_All}
+use Rattle.std.proofs.lemmas.List.{length-map}
+use Rattle.std.proofs.lemmas.Option.{none-some, same_Some, slice_get-map, slice_get_cases}
+use Rattle.bitvec_domain.specs.Span.{Span, Fits, list_of}
+use Rattle.bitvec.specs.declared.run.command.Request.{Request}
+use Rattle.bitvec.specs.declared.run.command.Reply.{Reply}
+use Rattle.bitvec.specs.Commands.{own_commands, own_replies}
+use Rattle.bitvec.specs.Run.{CanRun, IsRun, AnswersNoSpan, alone_replies, alone_list}
+
+-- a list of spans as a list of their numbers
+pub at_view : {S T : Type 0} (view : S → T) (xs : List S) (s : ℕ) (x : S) → slice_get xs s ≡ Some x → slice_get (map view xs) s ≡ Some (view x)
+at_view view xs s x is = slice_get-map view xs s ∙ ap (option_map view) is
+
+from_view : {S T : Type 0} (view : S → T) (xs : List S) (s : ℕ) (y : T) → slice_get (map view xs) s ≡ Some y → (x : S) × (slice_get xs s ≡ Some x) × (view x ≡ y)
+from_view view [] s y is = absurd (none-some y is)
+from_view view (x ∷ xs) zero y is = (x, refl, same_Some (view x) y is)
+from_view view (x ∷ xs) (suc s) y is = from_view view xs s y is
+
+each_view : {S T : Type 0} (view : S → T) (P : T → Type 0) (xs : List S) → AllByRecursion (λ x. P (view x)) xs → AllByRecursion P (map view xs)
+each_view view P [] h = h
+each_view view P (x ∷ xs) h = (h.0, each_view view P xs h.1)
+
+pub all_views : {S T : Type 0} (view : S → T) (P : T → Type 0) (xs : List S) → All (λ x. P (view x)) xs → All P (map view xs)
+all_views view P xs h = All-from_recursion P (map view xs) (each_view view P xs (recursion_from_All (λ x. P (view x)) xs h))
+
+pub zip_views : {S T A B : Type 0} (view : S → A) (other_view : T → B) (R : A → B → Type 0) (xs : List S) (ys : List T) → AllZip (λ x y. R (view x) (other_view y)) xs ys → AllZip R (map view xs) (map other_view ys)
+zip_views view other_view R [] [] h = tt
+zip_views view other_view R [] (y ∷ ys) h = absurd h
+zip_views view other_view R (x ∷ xs) [] h = absurd h
+zip_views view other_view R (x ∷ xs) (y ∷ ys) h = (h.0, zip_views view other_view R xs ys h.1)
+
+pub zip_length : {A B : Type 0} (R : A → B → Type 0) (xs : List A) (ys : List B) → AllZip R xs ys → length xs ≡ length ys
+zip_length R [] [] h = refl
+zip_length R [] (y ∷ ys) h = absurd h
+zip_length R (x ∷ xs) [] h = absurd h
+zip_length R (x ∷ xs) (y ∷ ys) h = ap suc (zip_length R xs ys h.1)
+
+zip_pointwise : {A B : Type 0} (R : A → B → Type 0) (xs : List A) (ys : List B) → length xs ≡ length ys → ((s : ℕ) (x : A) (y : B) → slice_get xs s ≡ Some x → slice_get ys s ≡ Some y → R x y) → AllZip R xs ys
+zip_pointwise R [] [] long h = tt
+zip_pointwise R [] (y ∷ ys) long h = absurd (omega (arith, long))
+zip_pointwise R (x ∷ xs) [] long h = absurd (omega (arith, long))
+zip_pointwise R (x ∷ xs) (y ∷ ys) long h = (h zero x y refl refl, zip_pointwise R xs ys (omega (arith, long)) (λ s. h (suc s)))
+
+-- spans that fit in a memory of words fit in the memory of their numbers
+pub fits_of_views : {S W : Type 0} (bits : ℕ) (view : S → Span) (number : W → ℕ) (spans : List S) (memory : List W) → CanRun bits view spans (length memory) → All (λ span. Fits bits span (length (map number memory))) (map view spans)
+fits_of_views bits view number spans memory can =
+    all_views view (λ span. Fits bits span (length (map number memory))) spans (subst (λ (n : ℕ). All (λ x. Fits bits (view x) n) spans) (sym (length-map memory number)) can.0)
+
+-- a run through spans is a run through their numbers
+pub run_of_views : {S : Type 0} (bits : ℕ) (at : ℕ → ℕ) (view : S → Span) (spans : List S) (old new : List ℕ) (requests : List (Request ℕ)) (replies : List (Reply ℕ))
+    → IsRun bits at view spans old requests replies new → IsRun bits at (λ (x : Span). x) (map view spans) old requests replies new
+run_of_views {S} bits at view spans old new requests replies run = record {
+  own = λ s span is. let found = from_view view spans s span is in
+      subst (λ (p : Span). own_replies s requests replies ≡ alone_replies bits at p old (own_commands s requests)) found.2 (run.own s found.0 found.1);
+  no_span = subst (λ (n : ℕ). AnswersNoSpan n requests replies) (sym (length-map spans view)) run.no_span;
+  placed = record {
+    lists = λ s span is. let found = from_view view spans s span is in
+        subst (λ (p : Span). list_of bits at p new ≡ alone_list bits at p old (own_commands s requests)) found.2 (run.placed.lists s found.0 found.1);
+    others = λ place out. run.placed.others place (λ s x is. out s (view x) (at_view view spans s x is));
+    as_many_words = run.placed.as_many_words;
+  };
+}
+
+module _ {S T : Type 0} (P : Reply ℕ → Reply ℕ → Type 0) (bits other_bits : ℕ) (at other_at : ℕ → ℕ) (view : S → Span) (other_view : T → Span) (spans : List S) (other_spans : List T)
+    (old here other_old there : List ℕ) (requests other_requests : List (Request ℕ)) (replies other_replies : List (Reply ℕ))
+    (run : IsRun bits at view spans old requests replies here) (other_run : IsRun other_bits other_at other_view other_spans other_old other_requests other_replies there)
+    (long : length spans ≡ length other_spans)
+    (alone : (s : ℕ) (x : S) (y : T) → slice_get spans s ≡ Some x → slice_get other_spans s ≡ Some y
+        → AllZip P (alone_replies bits at (view x) old (own_commands s requests)) (alone_replies other_bits other_at (other_view y) other_old (own_commands s other_requests))
+        × (alone_list bits at (view x) old (own_commands s requests) ≡ alone_list other_bits other_at (other_view y) other_old (own_commands s other_requests))) where
+  replies_at : (s : ℕ) (x : S) (y : T) → slice_get spans s ≡ Some x → slice_get other_spans s ≡ Some y → AllZip P (own_replies s requests replies) (own_replies s other_requests other_replies)
+  replies_at s x y is it =
+      subst (λ (rs : List (Reply ℕ)). AllZip P rs (own_replies s other_requests other_replies)) (sym (run.own s x is))
+      (subst (λ (rs : List (Reply ℕ)). AllZip P (alone_replies bits at (view x) old (own_commands s requests)) rs) (sym (other_run.own s y it)) (alone s x y is it).0)
+
+  -- what holds of each span's replies alone holds of its replies in the two runs
+  pub carried_replies : (s : ℕ) → s < length spans → AllZip P (own_replies s requests replies) (own_replies s other_requests other_replies)
+  carried_replies s within =
+      elim ((slice_get_cases spans s).1) [
+        | inl x ↦ elim ((slice_get_cases other_spans s).1) [ inl y ↦ replies_at s x.0 y.0 x.2 y.2 | inr past ↦ absurd (omega (arith, past.0, within, long)) ]
+        | inr past ↦ absurd (omega (arith, past.0, within))
+      ]
+
+  -- and its lists are equal after them
+  pub carried_lists : AllZip (λ x y. list_of bits at (view x) here ≡ list_of other_bits other_at (other_view y) there) spans other_spans
+  carried_lists =
+      zip_pointwise (λ x y. list_of bits at (view x) here ≡ list_of other_bits other_at (other_view y) there) spans other_spans long
+      (λ s x y is it. run.placed.lists s x is ∙ (alone s x y is it).1 ∙ sym (other_run.placed.lists s y it))
+
+-- what holds of each span's number holds of two spans with one number
+pub alone_of_equal_views : {S T : Type 0} (P : Reply ℕ → Reply ℕ → Type 0) (bits : ℕ) (at other_at : ℕ → ℕ) (view : S → Span) (other_view : T → Span) (spans : List S) (other_spans : List T)
+    (old other_old : List ℕ) (requests other_requests : List (Request ℕ)) → map view spans ≡ map other_view other_spans
+    → ((s : ℕ) (span : Span) → slice_get (map view spans) s ≡ Some span
+        → AllZip P (alone_replies bits at span old (own_commands s requests)) (alone_replies bits other_at span other_old (own_commands s other_requests))
+        × (alone_list bits at span old (own_commands s requests) ≡ alone_list bits other_at span other_old (own_commands s other_requests)))
+    → (s : ℕ) (x : S) (y : T) → slice_get spans s ≡ Some x → slice_get other_spans s ≡ Some y
+    → AllZip P (alone_replies bits at (view x) old (own_commands s requests)) (alone_replies bits other_at (other_view y) other_old (own_commands s other_requests))
+    × (alone_list bits at (view x) old (own_commands s requests) ≡ alone_list bits other_at (other_view y) other_old (own_commands s other_requests))
+alone_of_equal_views P bits at other_at view other_view spans other_spans old other_old requests other_requests same alone s x y is it =
+    let here = at_view view spans s x is in
+    let same_view : view x ≡ other_view y = same_Some (view x) (other_view y) (sym here ∙ ap (λ ps. slice_get ps s) same ∙ at_view other_view other_spans s y it) in
+    subst
+    (λ (p : Span). AllZip P (alone_replies bits at (view x) old (own_commands s requests)) (alone_replies bits other_at p other_old (own_commands s other_requests))
+        × (alone_list bits at (view x) old (own_commands s requests) ≡ alone_list bits other_at p other_old (own_commands s other_requests)))
+    same_view (alone s (view x) here)
+
+-- what holds of two spans' numbers holds of the spans
+pub alone_of_views : {S T : Type 0} (Q : ℕ → Span → Span → Type 0) (view : S → Span) (other_view : T → Span) (spans : List S) (other_spans : List T)
+    → ((s : ℕ) (a b : Span) → slice_get (map view spans) s ≡ Some a → slice_get (map other_view other_spans) s ≡ Some b → Q s a b)
+    → (s : ℕ) (x : S) (y : T) → slice_get spans s ≡ Some x → slice_get other_spans s ≡ Some y → Q s (view x) (other_view y)
+alone_of_views Q view other_view spans other_spans alone s x y is it = alone s (view x) (other_view y) (at_view view spans s x is) (at_view other_view other_spans s y it)
