@@ -335,7 +335,9 @@ impl<R: BitRegister, O> BitSpan<R, O> {
         self.head().span(self.len).1
     }
 
-    /// Whether the span lies within a memory of so many words. Our own.
+    /// Whether the words that the span meets are among the first `words` of a memory. For an empty
+    /// span, which meets no word, it is whether its word is from 0 to `words`, so that the place behind
+    /// the last word is let in. Our own.
     pub fn fits(&self, words: usize) -> bool
         ensures { IsTrue result ↔ Fits R.BITS (span_of self.now) words }
     {

@@ -278,7 +278,8 @@ impl<R: BitRegister, O> BitPtr<R, O> {
     }
 
     /// Whether the words that `count` bits from this one on meet are among the first `words` of a
-    /// memory. For no bits that is no word. Our own.
+    /// memory. For no bits, which meet no word, it is whether the pointer's word is from 0 to `words`,
+    /// so that the place behind the last word is let in. Our own.
     pub fn run_in(self, words: usize, count: usize) -> bool
         ensures { IsTrue result ↔ RunsIn R.BITS (ptr_of self) words count }
     {
