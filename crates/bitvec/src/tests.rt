@@ -6,6 +6,7 @@ mod laws;
 mod order;
 mod pointers;
 mod spans;
+mod traits;
 
 use crate::index::BitIdx;
 use crate::mem::BitRegister;
