@@ -8,6 +8,7 @@ mod order_laws;
 mod pointer_laws;
 mod pointers;
 mod spans;
+mod traits;
 
 use crate::index::BitIdx;
 use crate::mem::BitRegister;
