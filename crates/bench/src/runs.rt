@@ -1,0 +1,189 @@
+//! Runs of requests through the spans of one memory, and the test of these spans.
+
+ghost use Rattle.std.specs.Prelude.{◌≡◌, ◌<◌, length};
+ghost use Rattle.bitvec_domain.specs.BitSpan.{span_of};
+ghost use Rattle.bitvec.specs.Run.{CanRun};
+
+use crate::timer::{Job, Mode, Name, tell, time};
+use crate::words::words;
+use bitvec::index::BitIdx;
+use bitvec::order::Lsb0;
+use bitvec::ptr::span::BitSpan;
+use bitvec::run::{Command, Reply, Request, can_run, run};
+use std::alloc::AllocError;
+use std::io;
+
+// A run of requests.
+#[derive(Drop)]
+struct Requests<'a> {
+    spans: &'a [BitSpan<u64, Lsb0>],
+    memory: &'a mut [u64],
+    requests: &'a [Request<u64>],
+    replies: &'a mut [Reply<u64>],
+}
+
+impl Job for Requests<'_> {
+    ghost ready = { λ s. CanRun 64 span_of s.spans.now (length s.memory.now) × (length s.replies.now ≡ length s.requests.now) };
+
+    #[inline(never)]
+    fn go(&mut self) {
+        run(self.spans, self.memory, self.requests, self.replies);
+    }
+}
+
+// The test of some spans, and how often it was passed.
+#[derive(Drop)]
+struct Test<'a> {
+    spans: &'a [BitSpan<u64, Lsb0>],
+    words: usize,
+    passed: u64,
+}
+
+impl Job for Test<'_> {
+    ghost ready = { λ s. Unit {0} };
+
+    #[inline(never)]
+    fn go(&mut self) {
+        if can_run(self.spans, self.words) {
+            self.passed = self.passed.wrapping_add(1);
+        }
+    }
+}
+
+// Spans of ten bits, one behind the other.
+fn rising(rt: HostRuntime, count: u16) -> Result<Vec<BitSpan<u64, Lsb0>>, AllocError> {
+    let mut spans = Vec::new(rt.alloc());
+    for n in 0..count {
+        let place = usize::from(n) * 10;
+        let head = BitIdx::new_unchecked((place % 64) as u8);
+        if let Ok(span) = BitSpan::new((place / 64) as isize, head, 10) {
+            spans.push(span)?;
+        }
+    }
+    Ok(spans)
+}
+
+// Stores into some spans, in no order.
+fn stores(rt: HostRuntime, count: u32, spans: u16) -> Result<Vec<Request<u64>>, AllocError>
+    requires { 0 < spans }
+{
+    let mut requests = Vec::new(rt.alloc());
+    for n in 0..count {
+        let span = (u64::from(n) * 7919 % u64::from(spans)) as usize;
+        let command = Command::Store(0, u64::from(n).wrapping_mul(0x9E37_79B9_7F4A_7C15));
+        requests.push(Request { span, command })?;
+    }
+    Ok(requests)
+}
+
+fn no_replies(rt: HostRuntime, count: usize) -> Result<Vec<Reply<u64>>, AllocError> {
+    let mut replies = Vec::new(rt.alloc());
+    for _ in 0..count {
+        replies.push(Reply::Done)?;
+    }
+    Ok(replies)
+}
+
+// The word that a store into a span answers, and the store itself, bit by bit.
+fn store(memory: &mut [u64], place: usize, len: usize, number: u64) -> u64 {
+    let mut old = 0;
+    if let Some(word) = memory.get_mut(place / 64) {
+        for i in 0..64u32 {
+            let digit = 1 << i;
+            let covered = i as usize >= place % 64 && i as usize - place % 64 < len;
+            if covered {
+                old |= *word & digit;
+                *word = (*word & !digit) | (number & digit);
+            }
+        }
+    }
+    old
+}
+
+// Whether a memory and its replies are what stores into spans of ten bits give, one after another.
+fn is_run(
+    before: &mut [u64],
+    after: &[u64],
+    requests: &[Request<u64>],
+    replies: &[Reply<u64>],
+) -> bool {
+    for (request, reply) in requests.iter().zip(replies) {
+        if let Command::Store(_, number) = request.command {
+            let place = request.span.saturating_mul(10);
+            if *reply != Reply::Word(store(before, place, 10, number)) {
+                return false;
+            }
+        }
+    }
+    *before == *after
+}
+
+fn run_stores(rt: HostRuntime, mode: Mode) -> io::Result<()> {
+    let (spans, count) = match mode {
+        Mode::Compare => (200, 4000),
+        Mode::Time => (2000, 1_000_000),
+    };
+    let requests = stores(rt, count, spans)?;
+    let spans = rising(rt, spans)?;
+    let mut before = words(rt, mode.words())?;
+    let mut memory = words(rt, mode.words())?;
+    let mut replies = no_replies(rt, requests.len())?;
+    if !can_run(&spans, memory.len()) || replies.len() != requests.len() {
+        return Ok(());
+    }
+    let mut job = Requests {
+        spans: &spans,
+        memory: &mut memory,
+        requests: &requests,
+        replies: &mut replies,
+    };
+    let name = Name {
+        group: "run-",
+        kind: "store",
+    };
+    if mode == Mode::Time {
+        return time(rt, name, count, &mut job);
+    }
+    job.go();
+    let agrees = is_run(&mut before, &memory, &requests, &replies);
+    tell(rt, name, agrees)
+}
+
+// Whether the test passes spans of ten bits one behind the other, in either direction, and not where
+// one of them stands twice.
+fn is_right(rt: HostRuntime, count: u16, words: usize) -> Result<bool, AllocError> {
+    let mut spans = rising(rt, count)?;
+    let rises = can_run(&spans, words);
+    spans.reverse();
+    let falls = can_run(&spans, words);
+    if let Some(first) = spans.first() {
+        let first = *first;
+        spans.push(first)?;
+    }
+    Ok(rises && falls && !can_run(&spans, words))
+}
+
+fn test_spans(rt: HostRuntime, mode: Mode, kind: &str, count: u16) -> io::Result<()>
+    requires { 0 < count }
+{
+    let group = "can-run-";
+    let name = Name { group, kind };
+    if mode == Mode::Compare {
+        let agrees = is_right(rt, count, mode.words())?;
+        return tell(rt, name, agrees);
+    }
+    let spans = rising(rt, count)?;
+    let mut job = Test {
+        spans: &spans,
+        words: mode.words(),
+        passed: 0,
+    };
+    time(rt, name, u32::from(count), &mut job)
+}
+
+/// The run, and the test of its spans.
+pub fn runs(rt: HostRuntime, mode: Mode) -> io::Result<()> {
+    run_stores(rt, mode)?;
+    test_spans(rt, mode, "2000", 2000)?;
+    test_spans(rt, mode, "4000", 4000)
+}

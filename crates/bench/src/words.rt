@@ -1,0 +1,88 @@
+//! Memories, and their bits read by a plain loop.
+
+ghost use Rattle.std.specs.Prelude.{◌<◌};
+
+use bitvec::mem::BitRegister;
+use bitvec::order::{Lsb0, Msb0};
+use notation::hilo::HiLo;
+use std::alloc::AllocError;
+
+/// Words that look random, the same at each call.
+pub fn words(rt: HostRuntime, count: usize) -> Result<Vec<u64>, AllocError> {
+    let mut words = Vec::new(rt.alloc());
+    let mut word: u64 = 1;
+    for _ in 0..count {
+        word = word
+            .wrapping_mul(6364136223846793005)
+            .wrapping_add(1442695040888963407);
+        words.push(word)?;
+    }
+    Ok(words)
+}
+
+/// Bytes that look random, the same at each call.
+pub fn bytes(rt: HostRuntime, count: usize) -> Result<Vec<u8>, AllocError> {
+    let mut bytes = Vec::new(rt.alloc());
+    for word in words(rt, count)? {
+        bytes.push((word >> 56) as u8)?;
+    }
+    Ok(bytes)
+}
+
+/// The position of an index by a formula, beside the library's.
+pub trait Formula {
+    /// The position of an index in a word of so many bits.
+    fn position(width: usize, index: usize) -> usize
+        requires { index < width };
+}
+
+impl Formula for Lsb0 {
+    fn position(_width: usize, index: usize) -> usize {
+        index
+    }
+}
+
+impl Formula for Msb0 {
+    fn position(width: usize, index: usize) -> usize {
+        width - 1 - index
+    }
+}
+
+impl Formula for HiLo {
+    fn position(_width: usize, index: usize) -> usize {
+        index ^ 4
+    }
+}
+
+/// The bit at a place of a memory; false behind its end.
+pub fn bit<R: BitRegister, F: Formula>(words: &[R], place: usize) -> bool {
+    let width = usize::from(R::BITS);
+    let position = F::position(width, place % width);
+    match words.get(place / width) {
+        Some(word) if position < 128 => (word.to_u128() >> position) & 1 == 1,
+        _ => false,
+    }
+}
+
+/// Whether a memory of `words` words of 64 bits was made of another by a copy of `count` bits, and no
+/// other bit changed: bit by bit.
+pub fn is_copied<R: BitRegister, F: Formula, F2: Formula>(
+    source: &[R],
+    from: usize,
+    before: &[u64],
+    after: &[u64],
+    to: usize,
+    count: usize,
+) -> bool {
+    for place in 0..4096 * 64 {
+        let wanted = if place >= to && place - to < count {
+            bit::<R, F>(source, from.saturating_add(place - to))
+        } else {
+            bit::<u64, F2>(before, place)
+        };
+        if bit::<u64, F2>(after, place) != wanted {
+            return false;
+        }
+    }
+    true
+}
