@@ -71,8 +71,8 @@ module _ {S T : Type 0} (P : Reply ℕ → Reply ℕ → Type 0) (bits other_bit
     (run : IsRun bits at view spans old requests replies here) (other_run : IsRun other_bits other_at other_view other_spans other_old other_requests other_replies there)
     (long : length spans ≡ length other_spans)
     (alone : (s : ℕ) (x : S) (y : T) → slice_get spans s ≡ Some x → slice_get other_spans s ≡ Some y
-        → AllZip P (alone_replies bits at (view x) old (own_commands s requests)) (alone_replies other_bits other_at (other_view y) other_old (own_commands s other_requests))
-        × (alone_list bits at (view x) old (own_commands s requests) ≡ alone_list other_bits other_at (other_view y) other_old (own_commands s other_requests))) where
+    → AllZip P (alone_replies bits at (view x) old (own_commands s requests)) (alone_replies other_bits other_at (other_view y) other_old (own_commands s other_requests))
+    × (alone_list bits at (view x) old (own_commands s requests) ≡ alone_list other_bits other_at (other_view y) other_old (own_commands s other_requests))) where
   replies_at : (s : ℕ) (x : S) (y : T) → slice_get spans s ≡ Some x → slice_get other_spans s ≡ Some y → AllZip P (own_replies s requests replies) (own_replies s other_requests other_replies)
   replies_at s x y is it =
       subst (λ (rs : List (Reply ℕ)). AllZip P rs (own_replies s other_requests other_replies)) (sym (run.own s x is))
@@ -96,8 +96,8 @@ module _ {S T : Type 0} (P : Reply ℕ → Reply ℕ → Type 0) (bits other_bit
 pub alone_of_equal_views : {S T : Type 0} (P : Reply ℕ → Reply ℕ → Type 0) (bits : ℕ) (at other_at : ℕ → ℕ) (view : S → Span) (other_view : T → Span) (spans : List S) (other_spans : List T)
     (old other_old : List ℕ) (requests other_requests : List (Request ℕ)) → map view spans ≡ map other_view other_spans
     → ((s : ℕ) (span : Span) → slice_get (map view spans) s ≡ Some span
-        → AllZip P (alone_replies bits at span old (own_commands s requests)) (alone_replies bits other_at span other_old (own_commands s other_requests))
-        × (alone_list bits at span old (own_commands s requests) ≡ alone_list bits other_at span other_old (own_commands s other_requests)))
+    → AllZip P (alone_replies bits at span old (own_commands s requests)) (alone_replies bits other_at span other_old (own_commands s other_requests))
+    × (alone_list bits at span old (own_commands s requests) ≡ alone_list bits other_at span other_old (own_commands s other_requests)))
     → (s : ℕ) (x : S) (y : T) → slice_get spans s ≡ Some x → slice_get other_spans s ≡ Some y
     → AllZip P (alone_replies bits at (view x) old (own_commands s requests)) (alone_replies bits other_at (other_view y) other_old (own_commands s other_requests))
     × (alone_list bits at (view x) old (own_commands s requests) ≡ alone_list bits other_at (other_view y) other_old (own_commands s other_requests))
@@ -106,7 +106,7 @@ alone_of_equal_views P bits at other_at view other_view spans other_spans old ot
     let same_view : view x ≡ other_view y = same_Some (view x) (other_view y) (sym here ∙ ap (λ ps. slice_get ps s) same ∙ at_view other_view other_spans s y it) in
     subst
     (λ (p : Span). AllZip P (alone_replies bits at (view x) old (own_commands s requests)) (alone_replies bits other_at p other_old (own_commands s other_requests))
-        × (alone_list bits at (view x) old (own_commands s requests) ≡ alone_list bits other_at p other_old (own_commands s other_requests)))
+    × (alone_list bits at (view x) old (own_commands s requests) ≡ alone_list bits other_at p other_old (own_commands s other_requests)))
     same_view (alone s (view x) here)
 
 -- what holds of two spans' numbers holds of the spans

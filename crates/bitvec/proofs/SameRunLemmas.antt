@@ -76,13 +76,13 @@ module _ {S : Type 0} (bits : ℕ) (at : ℕ → ℕ) (view : S → Span) (spans
 -- the law, of lists of numbers
 pub same_runs : (bits : ℕ) (at : ℕ → ℕ) → IsOneToOne bits at → OrderBetweenSpansDoesNotMatter bits at
 same_runs bits at law spans old here there requests other_requests replies other_replies fits below other_below same run other_run =
-    let long : length here ≡ length there = run.placed.as_many_words ∙ sym other_run.placed.as_many_words in
-    ( replies_of_numbers bits at (λ (x : Span). x) spans old here there requests other_requests replies other_replies same run other_run
-    , same_lists here there long (λ k d h.
-      let within : k < length there = omega (arith, h, long) in
-      get_or_default here k d 0 h
-      ∙ same_number bits at (λ (x : Span). x) spans old here there requests other_requests replies other_replies same run other_run fits law k (below k 0 h) (other_below k 0 within)
-      ∙ sym (get_or_default there k d 0 within))
+    let long : length here ≡ length there = run.placed.as_many_words ∙ sym other_run.placed.as_many_words in (
+      replies_of_numbers bits at (λ (x : Span). x) spans old here there requests other_requests replies other_replies same run other_run,
+      same_lists here there long (λ k d h.
+          let within : k < length there = omega (arith, h, long) in
+          get_or_default here k d 0 h
+          ∙ same_number bits at (λ (x : Span). x) spans old here there requests other_requests replies other_replies same run other_run fits law k (below k 0 h) (other_below k 0 within)
+          ∙ sym (get_or_default there k d 0 within)),
     )
 
 -- memories of registers whose words have the same numbers are the same

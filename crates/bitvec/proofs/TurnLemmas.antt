@@ -79,11 +79,11 @@ module _ (bits : ℕ) (at other_at : ℕ → ℕ) (some : 0 < bits) (one : IsOne
   replies_turned [] [] xs h = tt
   replies_turned [] (d ∷ ds) xs h = absurd h
   replies_turned (c ∷ cs) [] xs h = absurd h
-  replies_turned (c ∷ cs) (d ∷ ds) xs h =
-      ( reply_turned c d xs h.0
-      , subst (λ (ys : List Bool). AllZip (AreSameReplies (IsTurned bits at other_at)) (replies_to bits at head cs (list_after bits at head c xs)) (replies_to bits other_at head ds ys)) (after_turned c d xs h.0)
-        (replies_turned cs ds (list_after bits at head c xs) h.1)
-      )
+  replies_turned (c ∷ cs) (d ∷ ds) xs h = (
+    reply_turned c d xs h.0,
+    subst (λ (ys : List Bool). AllZip (AreSameReplies (IsTurned bits at other_at)) (replies_to bits at head cs (list_after bits at head c xs)) (replies_to bits other_at head ds ys)) (after_turned c d xs h.0)
+        (replies_turned cs ds (list_after bits at head c xs) h.1),
+  )
 
   pub list_turned : (cs ds : List (Command ℕ)) (xs : List Bool) → AllZip (AreSameCommands (IsTurned bits at other_at)) cs ds → list_after_all bits at head cs xs ≡ list_after_all bits other_at head ds xs
   list_turned [] [] xs h = refl

@@ -10,6 +10,7 @@ pub use bitvec_order::index;
 
 pub mod laws;
 pub mod order;
+pub mod prelude;
 pub mod run;
 #[cfg(test)]
 mod tests;

@@ -7,6 +7,7 @@ mod order;
 mod order_laws;
 mod pointer_laws;
 mod pointers;
+mod prelude;
 mod spans;
 mod traits;
 

@@ -67,10 +67,7 @@ fn pointers_are_equal_at_one_place<R: BitRegister, O>(
 
 /// A span has a bit in a word exactly where the word is one of its `elements`, counted from its first
 /// word on.
-fn elements_are_the_words_with_a_bit<R: BitRegister, O>(
-    span: BitSpan<R, O>,
-    word: isize,
-) -> bool
+fn elements_are_the_words_with_a_bit<R: BitRegister, O>(span: BitSpan<R, O>, word: isize) -> bool
     ensures { IsTrue result ↔ HasBitIn R.BITS (span_of span) word }
 {
     let first = span.address();

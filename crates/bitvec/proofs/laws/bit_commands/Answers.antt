@@ -16,12 +16,12 @@ returns g c = λ spans other_spans memory other_memory requests other_requests f
     let cs = own_commands s requests in
     let own = own_bit_commands s requests (recursion_from_All (λ request. IsBitCommand request.command) requests bit) in
     let commands = one_list_of_commands (own_commands s requests) (own_commands s other_requests) (own_same IsSameNumber s requests other_requests same_requests) in
-    let lists = zip_at (λ (a b : Span). list_of bits at a memory ≡ list_of other_bits other_at b other_memory) spans other_spans s span other same is other_is in
-    ( same_replies-along _ _
-      ( bit_replies bits other_bits at other_at span.head other.head cs (list_of bits at span memory) own
-      ∙ ap (replies_to other_bits other_at other.head cs) lists
-      ∙ ap (λ (ds : List (Command _)). replies_to other_bits other_at other.head ds (list_of other_bits other_at other other_memory)) commands)
-    , bit_list bits other_bits at other_at span.head other.head cs (list_of bits at span memory) own
-      ∙ ap (list_after_all other_bits other_at other.head cs) lists
-      ∙ ap (λ (ds : List (Command _)). list_after_all other_bits other_at other.head ds (list_of other_bits other_at other other_memory)) commands
+    let lists = zip_at (λ (a b : Span). list_of bits at a memory ≡ list_of other_bits other_at b other_memory) spans other_spans s span other same is other_is in (
+      same_replies-along _ _
+          (bit_replies bits other_bits at other_at span.head other.head cs (list_of bits at span memory) own
+          ∙ ap (replies_to other_bits other_at other.head cs) lists
+          ∙ ap (λ (ds : List (Command _)). replies_to other_bits other_at other.head ds (list_of other_bits other_at other other_memory)) commands),
+      bit_list bits other_bits at other_at span.head other.head cs (list_of bits at span memory) own
+          ∙ ap (list_after_all other_bits other_at other.head cs) lists
+          ∙ ap (λ (ds : List (Command _)). list_after_all other_bits other_at other.head ds (list_of other_bits other_at other other_memory)) commands,
     )

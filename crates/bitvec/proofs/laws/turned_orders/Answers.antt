@@ -21,8 +21,8 @@ returns g c = λ spans memory other_memory requests other_requests fits same sam
     let xs = list_of bits at span memory in
     let own = own_same (IsTurned bits at other_at) s requests other_requests same_requests in
     let in_memory : Fits bits span (length memory) = subst (λ x. Fits bits x (length memory)) (get_or_from_slice_get spans s span span is) (fits s span (slice_get_within spans s span is)) in
-    let lists = list_of-same_bits bits at other_at span memory other_memory some in_memory same in
-    ( subst (λ (ys : List Bool). AllZip (AreSameReplies (IsTurned bits at other_at)) (replies_to bits at span.head cs xs) (replies_to bits other_at span.head ds ys)) lists
-      (replies_turned bits at other_at some one other_one span.head cs ds xs own)
-    , list_turned bits at other_at some one other_one span.head cs ds xs own ∙ ap (list_after_all bits other_at span.head ds) lists
+    let lists = list_of-same_bits bits at other_at span memory other_memory some in_memory same in (
+      subst (λ (ys : List Bool). AllZip (AreSameReplies (IsTurned bits at other_at)) (replies_to bits at span.head cs xs) (replies_to bits other_at span.head ds ys)) lists
+          (replies_turned bits at other_at some one other_one span.head cs ds xs own),
+      list_turned bits at other_at some one other_one span.head cs ds xs own ∙ ap (list_after_all bits other_at span.head ds) lists,
     )

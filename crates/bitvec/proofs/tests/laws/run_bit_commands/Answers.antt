@@ -27,11 +27,11 @@ returns g c =
     let requests = map (request_number number) c.args.requests.now in
     let other_requests = map (request_number other_number) c.args.other_requests.now in
     let alone =
-        alone_of_views
-        (λ (s : ℕ) (a b : Span). AllZip (AreSameReplies IsSameNumber) (alone_replies bits at a here (own_commands s requests)) (alone_replies other_bits other_at b there (own_commands s other_requests))
-            × (alone_list bits at a here (own_commands s requests) ≡ alone_list other_bits other_at b there (own_commands s other_requests)))
-        span_of span_of spans other_spans
-        (c.bit_commands.ensures (map span_of spans) (map span_of other_spans) here there requests other_requests fits other_fits lists c.requires.bit_commands c.requires.same_requests) in
+    alone_of_views
+    (λ (s : ℕ) (a b : Span). AllZip (AreSameReplies IsSameNumber) (alone_replies bits at a here (own_commands s requests)) (alone_replies other_bits other_at b there (own_commands s other_requests))
+    × (alone_list bits at a here (own_commands s requests) ≡ alone_list other_bits other_at b there (own_commands s other_requests)))
+    span_of span_of spans other_spans
+    (c.bit_commands.ensures (map span_of spans) (map span_of other_spans) here there requests other_requests fits other_fits lists c.requires.bit_commands c.requires.same_requests) in
     record {
       same_replies = carried_replies (AreSameReplies IsSameNumber) bits other_bits at other_at span_of span_of spans other_spans here _ there _ _ _ _ _ c.run.ensures c.run-2.ensures long alone;
       same_lists = carried_lists (AreSameReplies IsSameNumber) bits other_bits at other_at span_of span_of spans other_spans here _ there _ _ _ _ _ c.run.ensures c.run-2.ensures long alone;

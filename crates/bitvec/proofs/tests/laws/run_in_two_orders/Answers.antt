@@ -24,7 +24,7 @@ returns g c =
     let other_replies = map (reply_number number) c.run-2.new.replies in
     let run = run_of_views bits at span_of spans old here requests replies c.run.ensures in
     let other_run = run_of_views bits at span_of spans old there other_requests other_replies
-        (subst (λ (words : List _). IsRun bits at span_of spans (map number words) other_requests other_replies there) (sym c.requires.same_memory) c.run-2.ensures) in
+    (subst (λ (words : List _). IsRun bits at span_of spans (map number words) other_requests other_replies there) (sym c.requires.same_memory) c.run-2.ensures) in
     let below = all_views number (λ n. n < 2 ^ g.R.BitRegister.BITS) c.run.new.memory c.numbers_are_below.ensures in
     let other_below = all_views number (λ n. n < 2 ^ g.R.BitRegister.BITS) c.run-2.new.memory c.numbers_are_below-2.ensures in
     let same = subst (λ (n : ℕ). HaveSameOwnCommands n requests other_requests) (sym long) c.requires.same_commands in
