@@ -2,7 +2,7 @@
 
 use crate::index::{BitIdx, Limits};
 use crate::mem::BitRegister;
-use crate::order::{Lsb0, Msb0};
+use crate::order::{BitOrder, Lsb0, Msb0};
 use crate::ptr::range::{BitPtrRange, EmptyRange};
 use crate::ptr::single::{BitPtr, Dangling};
 use std::ops::{Bound, Range};
@@ -10,6 +10,11 @@ use std::test::Fail;
 
 // The pointer at a place from 0 on.
 fn at<R: BitRegister>(place: u16) -> BitPtr<R, Lsb0> {
+    under(place)
+}
+
+// The same under any order.
+fn under<R: BitRegister, O>(place: u16) -> BitPtr<R, O> {
     let width = u16::from(R::BITS);
     let bit = BitIdx::new_unchecked((place % width) as u8);
     BitPtr::new((place / width) as isize, bit)
@@ -54,25 +59,45 @@ fn wraps_at_the_ends_of_the_word_index(rt: HostRuntime) -> Result<(), Fail> {
     Ok(())
 }
 
+// The word and the bit so many places on, where there is such a place.
+fn stepped(from: u16, by: isize) -> Option<(isize, u8)> {
+    let pointer = at::<u32>(from);
+    if pointer.can_offset(by) {
+        Some(parts(pointer.offset(by)))
+    } else {
+        None
+    }
+}
+
+// The same by `add` and by `sub`, and the count that `offset_from` answers for the way back.
+fn there_and_back(from: u16, count: u8) -> Option<((isize, u8), (isize, u8), isize)> {
+    let low = at::<u32>(from);
+    if !low.can_offset(isize::from(count)) {
+        return None;
+    }
+    let high = low.add(usize::from(count));
+    if !high.can_offset(-isize::from(count)) || !low.can_offset_from(high) {
+        return None;
+    }
+    let back = high.sub(usize::from(count));
+    Some((parts(high), parts(back), low.offset_from(high)))
+}
+
 #[test]
-fn steps_and_measures(rt: HostRuntime) -> Result<(), Fail> {
-    let low = at::<u32>(10);
-    assert!(rt; low.can_offset(15));
-    let high = low.offset(15);
-    assert_eq!(rt; parts(high), (0, 25));
-    assert!(rt; high.can_offset(-15));
-    assert_eq!(rt; parts(high.offset(-15)), (0, 10));
-    assert_eq!(rt; parts(low.add(15)), (0, 25));
-    assert_eq!(rt; parts(high.sub(15)), (0, 10));
-    assert!(rt; high.can_offset_from(low));
-    assert_eq!(rt; high.offset_from(low), 15);
-    assert!(rt; low.can_offset_from(high));
-    assert_eq!(rt; low.offset_from(high), -15);
-    assert!(rt; low.is_in(1));
-    assert!(rt; !low.is_in(0));
-    assert!(rt; low.run_in(1, 22));
-    assert!(rt; !low.run_in(1, 23));
-    Ok(())
+fn steps_and_measures(rt: HostRuntime) {
+    assert_eq!(rt; stepped(10, 15), Some((0, 25)));
+    assert_eq!(rt; stepped(25, -15), Some((0, 10)));
+    assert_eq!(rt; stepped(10, -15), Some((-1, 27)));
+    assert_eq!(rt; there_and_back(10, 15), Some(((0, 25), (0, 10), -15)));
+}
+
+#[test]
+fn tests_that_a_memory_has_the_bits(rt: HostRuntime) {
+    let pointer = at::<u32>(10);
+    assert!(rt; pointer.is_in(1));
+    assert!(rt; !pointer.is_in(0));
+    assert!(rt; pointer.run_in(1, 22));
+    assert!(rt; !pointer.run_in(1, 23));
 }
 
 #[test]
@@ -100,11 +125,22 @@ fn takes_places_from_both_ends(rt: HostRuntime) -> Result<(), Fail> {
     assert_eq!(rt; range.len(), 10);
     assert_eq!(rt; range.next().map(parts::<u16>), Some((0, 3)));
     assert_eq!(rt; range.next_back().map(parts::<u16>), Some((0, 12)));
+    Ok(())
+}
+
+#[test]
+fn is_empty_past_its_last_place(rt: HostRuntime) {
+    let start = at::<u16>(0);
+    assert!(rt; start.can_offset(16));
+    let mut range = start.range(16);
+    assert!(rt; range.nth(2).is_some());
+    assert!(rt; range.nth_back(2).is_some());
+    assert_eq!(rt; range.len(), 10);
     assert!(rt; range.nth(10).is_none());
     assert!(rt; range.is_empty());
-    assert_eq!(rt; parts(range.start()), (0, 12));
+    assert_eq!(rt; parts(range.start()), (0, 13));
+    assert_eq!(rt; parts(range.end()), (0, 13));
     assert!(rt; range.next().is_none());
-    Ok(())
 }
 
 #[test]
@@ -161,14 +197,32 @@ fn is_copied_out_of_a_slice(rt: HostRuntime) -> Result<(), Fail> {
     Ok(())
 }
 
-#[test]
-fn reads_and_writes_one_bit(rt: HostRuntime) -> Result<(), Fail> {
-    let mut memory = [5u8, 0];
-    for (place, want) in [(0, true), (1, false), (2, true)] {
-        let pointer = at::<u8>(place);
-        assert!(rt; pointer.is_in(memory.len()));
-        assert_eq!(rt; pointer.read(&memory), want, "at {place}");
+// The bit of a memory so many places from its first bit, where it has one.
+fn bit_from_the_first(memory: &[u8], by: isize) -> Option<bool> {
+    let first: BitPtr<u8, Lsb0> = BitPtr::from_slice(memory);
+    if !first.can_offset(by) {
+        return None;
     }
+    let pointer = first.offset(by);
+    if pointer.is_in(memory.len()) {
+        Some(pointer.read(memory))
+    } else {
+        None
+    }
+}
+
+#[test]
+fn reads_one_bit(rt: HostRuntime) {
+    let memory = [5u8];
+    assert_eq!(rt; bit_from_the_first(&memory, 0), Some(true));
+    assert_eq!(rt; bit_from_the_first(&memory, 1), Some(false));
+    assert_eq!(rt; bit_from_the_first(&memory, 2), Some(true));
+    assert_eq!(rt; bit_from_the_first(&memory, 8), None);
+}
+
+#[test]
+fn writes_one_bit(rt: HostRuntime) -> Result<(), Fail> {
+    let mut memory = [5u8, 0];
     let pointer = at::<u8>(11);
     assert!(rt; pointer.is_in(memory.len()));
     pointer.write(&mut memory, true);
@@ -179,112 +233,159 @@ fn reads_and_writes_one_bit(rt: HostRuntime) -> Result<(), Fail> {
     Ok(())
 }
 
-#[test]
-fn swaps_two_bits(rt: HostRuntime) -> Result<(), Fail> {
-    let mut memory = [2u8, 0];
-    let mut other = [0u16];
-    let (low, high) = (at::<u8>(1), at::<u8>(9));
-    assert!(rt; low.is_in(memory.len()) && high.is_in(memory.len()));
-    low.swap_within(&mut memory, high);
-    assert_eq!(rt; memory, [0, 2]);
-    let with: BitPtr<u16, Msb0> = BitPtr::new(0, BitIdx::new_unchecked(1));
-    assert!(rt; high.is_in(memory.len()) && with.is_in(other.len()));
-    high.swap(&mut memory, with, &mut other);
-    assert_eq!(rt; memory, [0, 0]);
-    assert_eq!(rt; other, [0x4000]);
-    Ok(())
+// A memory with two of its bits exchanged, where it has them.
+fn swapped<const N: usize>(memory: [u8; N], one: u16, other: u16) -> Option<[u8; N]> {
+    let mut memory = memory;
+    let (here, there) = (at::<u8>(one), at::<u8>(other));
+    if !here.is_in(memory.len()) || !there.is_in(memory.len()) {
+        return None;
+    }
+    here.swap_within(&mut memory, there);
+    Some(memory)
+}
+
+// Two memories with a bit of each exchanged, where they have them.
+fn exchanged(memory: [u8; 2], one: u16, other: [u16; 1], with: u16) -> Option<([u8; 2], [u16; 1])> {
+    let mut memory = memory;
+    let mut other = other;
+    let (here, there) = (at::<u8>(one), under::<u16, Msb0>(with));
+    if !here.is_in(memory.len()) || !there.is_in(other.len()) {
+        return None;
+    }
+    here.swap(&mut memory, there, &mut other);
+    Some((memory, other))
 }
 
 #[test]
-fn copies_from_one_memory_to_another(rt: HostRuntime) -> Result<(), Fail> {
-    let source = [0x8001u16];
-    let mut target = [0u8; 2];
-    let first: BitPtr<u16, Msb0> = BitPtr::new(0, BitIdx::MIN);
-    let dest = at::<u8>(0);
-    assert!(rt; first.run_in(source.len(), 16) && dest.run_in(target.len(), 16));
-    first.copy_to(&source, dest, &mut target, 16);
-    assert_eq!(rt; target, [0x01, 0x80]);
-    let mut back = [0u16];
-    let third: BitPtr<u16, Msb0> = BitPtr::new(0, BitIdx::new_unchecked(2));
-    let from = at::<u8>(12);
-    assert!(rt; from.run_in(target.len(), 4) && third.run_in(back.len(), 4));
-    from.copy_to_nonoverlapping(&target, third, &mut back, 4);
-    assert_eq!(rt; back, [0x0400]);
-    Ok(())
+fn swaps_two_bits(rt: HostRuntime) {
+    assert_eq!(rt; swapped([2, 0], 1, 9), Some([0, 2]));
+    assert_eq!(rt; swapped([0x12, 0x34, 0x56], 4, 4), Some([0x12, 0x34, 0x56]));
+    assert_eq!(rt; exchanged([0, 2], 9, [0], 1), Some(([0, 0], [0x4000])));
+    assert_eq!(rt; exchanged([1, 0], 0, [0], 0), Some(([0, 0], [0x8000])));
+}
+
+// A memory with a run of bits copied inside it, where it has both runs.
+fn copied_within<O: BitOrder<u8>, const N: usize>(
+    memory: [u8; N],
+    from: u16,
+    to: u16,
+    count: usize,
+) -> Option<[u8; N]> {
+    let mut memory = memory;
+    let (source, target) = (under::<u8, O>(from), under::<u8, O>(to));
+    if !source.run_in(memory.len(), count) || !target.run_in(memory.len(), count) {
+        return None;
+    }
+    source.copy_within(&mut memory, target, count);
+    Some(memory)
+}
+
+// The same, asked of the target.
+fn copied_from_within<const N: usize>(
+    memory: [u8; N],
+    from: u16,
+    to: u16,
+    count: usize,
+) -> Option<[u8; N]> {
+    let mut memory = memory;
+    let (source, target) = (at::<u8>(from), at::<u8>(to));
+    if !source.run_in(memory.len(), count) || !target.run_in(memory.len(), count) {
+        return None;
+    }
+    target.copy_from_within(&mut memory, source, count);
+    Some(memory)
 }
 
 #[test]
-fn copies_into_one_memory_from_another(rt: HostRuntime) -> Result<(), Fail> {
-    let mut memory = [0xFFu8, 0];
-    let source = [0x4000_0000u32];
-    let src: BitPtr<u32, Msb0> = BitPtr::new(0, BitIdx::MIN);
-    let third = at::<u8>(2);
-    assert!(rt; third.run_in(memory.len(), 3) && src.run_in(source.len(), 3));
-    third.copy_from(&mut memory, src, &source, 3);
-    assert_eq!(rt; memory, [0xEB, 0]);
-    let nibbles = [0x3Cu8];
-    let (seventh, from) = (at::<u8>(6), at::<u8>(2));
-    assert!(rt; seventh.run_in(memory.len(), 4) && from.run_in(nibbles.len(), 4));
-    seventh.copy_from_nonoverlapping(&mut memory, from, &nibbles, 4);
-    assert_eq!(rt; memory, [0xEB, 0x03]);
-    Ok(())
+fn copies_inside_one_memory(rt: HostRuntime) {
+    assert_eq!(rt; copied_within::<Lsb0, 1>([0x0D], 0, 2, 6), Some([0x35]));
+    assert_eq!(rt; copied_from_within([0x35], 2, 0, 6), Some([0x0D]));
+    let memory = [0x12, 0x34, 0x56];
+    assert_eq!(rt;
+        copied_within::<Msb0, 3>(memory, 4, 0, 16),
+        Some([0x23, 0x45, 0x56])
+    );
+    assert_eq!(rt;
+        copied_within::<Lsb0, 3>(memory, 0, 4, 16),
+        Some([0x22, 0x41, 0x53])
+    );
+    assert_eq!(rt; copied_within::<Lsb0, 3>(memory, 24, 24, 0), Some(memory));
+    assert_eq!(rt; copied_within::<Lsb0, 3>(memory, 24, 0, 1), None);
 }
 
 #[test]
-fn copies_inside_one_memory(rt: HostRuntime) -> Result<(), Fail> {
-    let mut memory = [0x0Du8];
-    let (first, third) = (at::<u8>(0), at::<u8>(2));
-    assert!(rt; first.run_in(memory.len(), 6) && third.run_in(memory.len(), 6));
-    first.copy_within(&mut memory, third, 6);
-    assert_eq!(rt; memory, [0x35]);
-    assert!(rt; first.run_in(memory.len(), 6) && third.run_in(memory.len(), 6));
-    first.copy_from_within(&mut memory, third, 6);
-    assert_eq!(rt; memory, [0x0D]);
-    let mut nibbles = [0x12u8, 0x34, 0x56];
-    let start: BitPtr<u8, Msb0> = BitPtr::new(0, BitIdx::MIN);
-    let second: BitPtr<u8, Msb0> = BitPtr::new(0, BitIdx::new_unchecked(4));
-    assert!(rt; start.run_in(nibbles.len(), 16) && second.run_in(nibbles.len(), 16));
-    second.copy_within(&mut nibbles, start, 16);
-    assert_eq!(rt; nibbles, [0x23, 0x45, 0x56]);
-    Ok(())
-}
-
-#[test]
-fn copies_between_runs_apart(rt: HostRuntime) -> Result<(), Fail> {
+fn copies_between_runs_apart(rt: HostRuntime) {
     let mut memory = [0x0Fu8, 0];
     let from: BitPtr<u8, Lsb0> = BitPtr::new(0, BitIdx::new_unchecked(2));
     let dest: BitPtr<u8, Lsb0> = BitPtr::new(1, BitIdx::new_unchecked(1));
     assert!(rt; from.run_in(memory.len(), 4) && dest.run_in(memory.len(), 4));
     from.copy_within_nonoverlapping(&mut memory, dest, 4);
     assert_eq!(rt; memory, [0x0F, 0x06]);
-    Ok(())
+}
+
+// Which of the four calls copies from one memory to another.
+#[derive(Clone, Copy)]
+enum Call {
+    To,
+    ToNonoverlapping,
+    From,
+    FromNonoverlapping,
+}
+
+// The target memory after a run of bits is copied there, where both memories have theirs.
+fn copied_across<R: BitRegister, O: BitOrder<R>, R2: BitRegister, O2: BitOrder<R2>, const N: usize>(
+    call: Call,
+    source: &[R],
+    from: u16,
+    target: [R2; N],
+    to: u16,
+    count: usize,
+) -> Option<[R2; N]> {
+    let mut target = target;
+    let (src, dest) = (under::<R, O>(from), under::<R2, O2>(to));
+    if !src.run_in(source.len(), count) || !dest.run_in(target.len(), count) {
+        return None;
+    }
+    match call {
+        Call::To => src.copy_to(source, dest, &mut target, count),
+        Call::ToNonoverlapping => src.copy_to_nonoverlapping(source, dest, &mut target, count),
+        Call::From => dest.copy_from(&mut target, src, source, count),
+        Call::FromNonoverlapping => dest.copy_from_nonoverlapping(&mut target, src, source, count),
+    }
+    Some(target)
 }
 
 #[test]
-fn copies_and_swaps_at_the_edges(rt: HostRuntime) -> Result<(), Fail> {
-    let mut memory = [0x01u8];
-    let mut other = [0u16];
-    let first = at::<u8>(0);
-    let with: BitPtr<u16, Msb0> = BitPtr::new(0, BitIdx::MIN);
-    assert!(rt; first.is_in(memory.len()) && with.is_in(other.len()));
-    first.swap(&mut memory, with, &mut other);
-    assert_eq!(rt; memory, [0x00]);
-    assert_eq!(rt; other, [0x8000]);
-    let mut memory = [0x12u8, 0x34, 0x56];
-    let (first, fifth, past) = (at::<u8>(0), at::<u8>(4), at::<u8>(24));
-    assert!(rt; fifth.is_in(memory.len()));
-    fifth.swap_within(&mut memory, fifth);
-    assert_eq!(rt; memory, [0x12, 0x34, 0x56]);
-    assert!(rt; past.run_in(memory.len(), 0));
-    past.copy_within(&mut memory, past, 0);
-    assert_eq!(rt; memory, [0x12, 0x34, 0x56]);
-    assert!(rt; first.run_in(memory.len(), 16) && fifth.run_in(memory.len(), 16));
-    first.copy_within(&mut memory, fifth, 16);
-    assert_eq!(rt; memory, [0x22, 0x41, 0x53]);
-    let mut target = [0u8];
-    let source = [0x0fu8];
-    assert!(rt; fifth.run_in(target.len(), 4) && first.run_in(source.len(), 4));
-    fifth.copy_from(&mut target, first, &source, 4);
-    assert_eq!(rt; target, [0xf0]);
-    Ok(())
+fn copies_from_one_memory_to_another(rt: HostRuntime) {
+    let bytes = copied_across::<u16, Msb0, u8, Lsb0, 2>(Call::To, &[0x8001], 0, [0; 2], 0, 16);
+    assert_eq!(rt; bytes, Some([0x01, 0x80]));
+    let from = [0x01, 0x80];
+    let word = copied_across::<u8, Lsb0, u16, Msb0, 1>(
+        Call::ToNonoverlapping,
+        &from,
+        12,
+        [0],
+        2,
+        4,
+    );
+    assert_eq!(rt; word, Some([0x0400]));
+}
+
+#[test]
+fn copies_into_one_memory_from_another(rt: HostRuntime) {
+    let into = [0xFF, 0];
+    let bytes = copied_across::<u32, Msb0, u8, Lsb0, 2>(Call::From, &[0x4000_0000], 0, into, 2, 3);
+    assert_eq!(rt; bytes, Some([0xEB, 0]));
+    let into = [0xEB, 0];
+    let bytes = copied_across::<u8, Lsb0, u8, Lsb0, 2>(
+        Call::FromNonoverlapping,
+        &[0x3C],
+        2,
+        into,
+        6,
+        4,
+    );
+    assert_eq!(rt; bytes, Some([0xEB, 0x03]));
+    let byte = copied_across::<u8, Lsb0, u8, Lsb0, 1>(Call::From, &[0x0F], 0, [0], 4, 4);
+    assert_eq!(rt; byte, Some([0xF0]));
 }

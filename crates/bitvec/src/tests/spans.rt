@@ -3,7 +3,7 @@
 use super::span_at;
 use crate::domain::{Domain, DomainMut};
 use crate::index::BitIdx;
-use crate::mem::BitRegister;
+use crate::mem::{BitRegister, bits_of};
 use crate::order::{BitOrder, Lsb0, Msb0};
 use crate::ptr::single::BitPtr;
 use crate::ptr::span::{BitSpan, BitSpanError, SpanLimits};
@@ -157,20 +157,37 @@ fn names_the_case_of_a_refusal(rt: HostRuntime) -> Result<(), Fail> {
     Ok(())
 }
 
-// How many words the greatest span can meet.
-fn most_words<R: BitRegister>() -> usize {
-    BitSpan::<R, Lsb0>::REGION_MAX_ELTS
+// The most bits of a span, the most words that it can meet, and the most words of a body that
+// `into_bit_domain` takes.
+fn limits<R: BitRegister>() -> (usize, usize, usize) {
+    let bits = BitSpan::<R, Lsb0>::REGION_MAX_BITS;
+    let words = BitSpan::<R, Lsb0>::REGION_MAX_ELTS;
+    (bits, words, bits / bits_of::<R>())
 }
 
 #[test]
-fn has_the_limits_of_each_register(rt: HostRuntime) -> Result<(), Fail> {
-    assert_eq!(rt; BitSpan::<u8, Lsb0>::REGION_MAX_BITS, 2305843009213693951);
-    assert_eq!(rt; most_words::<u8>(), 288230376151711745);
-    assert_eq!(rt; most_words::<u16>(), 144115188075855873);
-    assert_eq!(rt; most_words::<u32>(), 72057594037927937);
-    assert_eq!(rt; most_words::<u64>(), 36028797018963969);
-    assert_eq!(rt; most_words::<usize>(), 36028797018963969);
-    Ok(())
+fn has_the_limits_of_each_register(rt: HostRuntime) {
+    let bits = 2305843009213693951;
+    assert_eq!(rt;
+        limits::<u8>(),
+        (bits, 288230376151711745, 288230376151711743)
+    );
+    assert_eq!(rt;
+        limits::<u16>(),
+        (bits, 144115188075855873, 144115188075855871)
+    );
+    assert_eq!(rt;
+        limits::<u32>(),
+        (bits, 72057594037927937, 72057594037927935)
+    );
+    assert_eq!(rt;
+        limits::<u64>(),
+        (bits, 36028797018963969, 36028797018963967)
+    );
+    assert_eq!(rt;
+        limits::<usize>(),
+        (bits, 36028797018963969, 36028797018963967)
+    );
 }
 
 #[test]
