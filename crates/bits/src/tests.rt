@@ -1,58 +1,25 @@
-//! Answers of the program, and writers that fail.
+//! Answers of the program.
+
+mod mangled;
+mod memory;
+mod refusing;
+mod sizes;
+mod writers;
 
 mod orders;
 
 use crate::answer::answer;
+use crate::tests::writers::Slow;
 use std::alloc::{AllocError, Global};
-use std::io;
-use std::io::Write;
 use std::test::Fail;
 
-// A writer that takes at most `step` bytes a call, and fails once it has taken `limit`.
-#[derive(Drop)]
-struct Slow {
-    taken: Vec<u8>,
-    step: usize,
-    limit: usize,
-    flushes: usize,
-    flush_fails: bool,
-}
-
-impl Slow {
-    fn new(alloc: Global, step: usize, limit: usize) -> Slow {
-        Slow {
-            taken: Vec::new(alloc),
-            step,
-            limit,
-            flushes: 0,
-            flush_fails: false,
-        }
-    }
-}
-
-impl Write for Slow {
-    fn write(&mut self, buf: &[u8]) -> io::Result<usize> {
-        if self.taken.len() >= self.limit {
-            return Err(io::Error::from(io::ErrorKind::BrokenPipe));
-        }
-        let n = buf.len().min(self.step).min(self.limit - self.taken.len());
-        self.taken.extend_from_slice(&buf[..n])?;
-        Ok(n)
-    }
-
-    fn flush(&mut self) -> io::Result<()> {
-        if self.flush_fails {
-            return Err(io::Error::from(io::ErrorKind::BrokenPipe));
-        }
-        self.flushes = self.flushes.saturating_add(1);
-        Ok(())
-    }
-}
-
-// The arguments of a line.
+// The arguments of a line, each after a blank; two blanks stand round an empty one.
 fn words(alloc: Global, line: &str) -> Result<Vec<String>, AllocError> {
     let mut all = Vec::new(alloc);
-    for word in line.split_whitespace() {
+    if line.is_empty() {
+        return Ok(all);
+    }
+    for word in line.split(' ') {
         all.push(String::from_str(alloc, word)?)?;
     }
     Ok(all)
@@ -184,6 +151,32 @@ fn answers(rt: HostRuntime) -> Result<(), Fail> {
         ("domain lsb0 u8 +1 4 8", 2, USAGE),
         ("domain lsb0 u8 12 -4 8", 2, USAGE),
         ("domain lsb0 u8 12 4 18446744073709551616", 2, USAGE),
+        ("domain lsb0 u8 0x12 0 1", 2, USAGE),
+        ("domain lsb0 u8 100 0 1", 2, USAGE),
+        ("domain lsb0 u8 12,,34 0 1", 2, USAGE),
+        ("domain lsb0 u8 12, 0 1", 2, USAGE),
+        ("domain lsb0 u8 g 0 1", 2, USAGE),
+        ("domain lsb0 u8  0 1", 2, USAGE),
+        ("domain lsb0 u8 12 +4 1", 2, USAGE),
+        ("domain lsb0 u8 12 18446744073709551616 0", 2, USAGE),
+        (
+            "domain lsb0 u8 12 18446744073709551615 1",
+            2,
+            "fault: span does not fit\n",
+        ),
+        ("domain lsb0 u8 12 16 0", 2, "fault: span does not fit\n"),
+        ("domain lsb0 u8 12 8 0", 0, "total 0\n"),
+        ("mask lsb0 u8 256 -", 2, USAGE),
+        (
+            "mask lsb0 u8 255 -",
+            2,
+            "fault: the value 255 is too large to index into u8 (8 bits wide)\n",
+        ),
+        (
+            "run lsb0 u8 0 0+3,3+2,5+3 1:set:0,0:store:0:ff,2:invert:0,1:clear:0,2:replace:1:0,2:copy:0:1:2,1:load:1,3:load:0",
+            0,
+            "word 0\nword 0\nword 0\nword 18\nbit 1\ndone\npast end\nno span\nmemory 67\n",
+        ),
     ] {
         let args = words(rt.alloc(), line)?;
         let mut out = Slow::new(rt.alloc(), 1, 1000);
@@ -208,31 +201,5 @@ fn writes_four_nibbles(rt: HostRuntime) -> Result<(), Fail> {
         assert_eq!(rt; answer(&rt.alloc(), &args, &mut out), 0, "by {order}");
         assert_eq!(rt; out.taken.as_slice(), want.as_bytes(), "by {order}");
     }
-    Ok(())
-}
-
-// The first answer is 27 bytes long.
-const FIRST_LEN: usize = 27;
-
-#[test]
-fn a_write_may_fail(rt: HostRuntime) -> Result<(), Fail> {
-    let args = words(rt.alloc(), FIRST)?;
-    for limit in 0..FIRST_LEN {
-        let mut out = Slow::new(rt.alloc(), 3, limit);
-        assert_eq!(rt; answer(&rt.alloc(), &args, &mut out), 4, "at {limit}");
-        assert_eq!(rt; out.taken.len(), limit);
-        assert_eq!(rt; out.flushes, 0);
-    }
-    let mut out = Slow::new(rt.alloc(), 3, FIRST_LEN);
-    assert_eq!(rt; answer(&rt.alloc(), &args, &mut out), 0);
-    Ok(())
-}
-
-#[test]
-fn a_flush_may_fail(rt: HostRuntime) -> Result<(), Fail> {
-    let args = words(rt.alloc(), FIRST)?;
-    let mut out = Slow::new(rt.alloc(), 3, FIRST_LEN);
-    out.flush_fails = true;
-    assert_eq!(rt; answer(&rt.alloc(), &args, &mut out), 4);
     Ok(())
 }
