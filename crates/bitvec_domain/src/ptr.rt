@@ -1,5 +1,5 @@
 //! Pointers to bits, ranges of them, and spans of bits.
 
-pub use bitvec_ptr::ptr::{range, single};
+pub use bitvec_ptr::ptr::{range, single, writer};
 
 pub mod span;

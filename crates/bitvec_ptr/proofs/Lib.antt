@@ -1,5 +1,7 @@
 pub mod BitLemmas
 pub mod CopyLemmas
+pub mod EdgeLemmas
+pub mod JoinLemmas
 pub mod MemoryLemmas
 pub mod PlaceLemmas
 pub mod PlaceOrder

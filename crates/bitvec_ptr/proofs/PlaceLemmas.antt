@@ -3,8 +3,8 @@ use Rattle.std.proofs.Common.{◌≡◌, ℕ, ℤ, pos, negsuc, ◌+◌, ◌*◌
 use Rattle.std.specs.Int.{int_div_euclid}
 use Rattle.std.proofs.lemmas.Int.{ints}
 use Rattle.std.proofs.lemmas.Bool.{cases_eq, eq-eqb, ne_eqb}
-use Rattle.std.proofs.lemmas.Nat.{div-add-mod', mod_below}
-use Rattle.std.proofs.Math.Nat.{lt_of_mul-lt-mul_right, div-eq_of_lt-le}
+use Rattle.std.proofs.lemmas.Nat.{div-add-mod', mod_below, mod-mul-add}
+use Rattle.std.proofs.Math.Nat.{lt_of_mul-lt-mul_right, div-eq_of_lt, div-eq_of_lt-le, add-div_right}
 use borrow.Author.Differences.{sum_is_lem, product_is, up, down}
 use Rattle.bitvec_ptr.specs.Place.{words_met, tail_of}
 
@@ -72,3 +72,36 @@ floor_place bits word h n some =
     let two = sum_is_lem ((word *ℤ pos bits) +ℤ pos h) (pos n) in
     let same : up q + down r ≡ down q + up r = close_products (up q + down r) (down q + up r) bits (omega (arith, bounds, parts, rest, sum, product, one, two)) (omega (arith, bounds, parts, rest, sum, product, one, two)) in
     omega (arith, ints, same)
+
+-- the words that an interval meets which lies in one word, and which enters a second one
+pub met_one : (bits bit count : ℕ) → 0 < count → bit + count ≤ bits → words_met bits bit count ≡ 1
+met_one bits bit count h k =
+    let inside : bit + count - 1 < bits = omega arith in
+    words_met-some bits bit count h ∙ ap (λ n. n + 1) (div-eq_of_lt inside) ∙ omega arith
+
+pub met_more : (bits bit count : ℕ) → bit < bits → bits < bit + count → words_met bits bit count ≡ (count - (bits - bit) - 1) / bits + 2
+met_more bits bit count h k =
+    let left = count - (bits - bit) - 1 in
+    let some : 0 < bits = omega arith in
+    let all : bit + count - 1 ≡ left + bits = omega arith in
+    let next : (left + bits) / bits ≡ left / bits + 1 = add-div_right left some in
+    words_met-some bits bit count (omega arith) ∙ ap (λ n. n / bits + 1) all ∙ ap (λ n. n + 1) next ∙ omega arith
+
+-- how many whole words it meets between its first and its last, and how much of it lies in the last
+pub whole_last : (bits width bit index count : ℕ) → width ≡ bits → index ≡ bit → bit < bits → bits < bit + count
+    → (bits - bit + ((count - (width - index) - 1) / width * bits + ((count - (width - index) - 1) % width + 1)) ≡ count) × ((count - (width - index) - 1) % width + 1 ≤ bits)
+    × (words_met bits bit count ≡ (count - (width - index) - 1) / width + 2)
+whole_last bits width bit index count e f h k =
+    rw (e, f) (
+    let left = count - (bits - bit) - 1 in
+    let some : 0 < bits = omega arith in
+    let parts = div-add-mod' left bits in
+    let rest = mod_below left bits some in
+    (omega (arith, parts), omega (arith, rest), met_more bits bit count h k))
+
+-- the index of a place that is the start of a word
+pub zero_index : (bits w i v : ℕ) → i < bits → w * bits + i ≡ v * bits → i ≡ 0
+zero_index bits w i v h e =
+    let some : 0 < bits = omega arith in
+    let same : w * bits + i ≡ v * bits + 0 = omega (arith, e) in
+    sym (mod-mul-add w bits i h) ∙ ap (λ n. n % bits) same ∙ mod-mul-add v bits 0 some

@@ -4,6 +4,9 @@ pub mod Memory
 pub mod Place
 pub mod PtrRange
 pub mod PtrRangeLemmas
+pub mod Shifts
 pub mod Steps
+pub mod Writer
+pub mod WriterView
 pub use Rattle.bitvec_mem.specs.Digit
 pub use Rattle.bitvec_order.specs.Order

@@ -1,229 +1,100 @@
 //! Copies of runs of bits, between two memories and inside one.
 
-ghost use Rattle.std.specs.Prelude.{◌≡◌, ⊤, ℕ, ℤ, pos, ◌+◌, ◌-◌, ◌*◌, ◌<◌, ◌≤◌, ◌+ℤ◌, ◌≤ℤ◌, Some, true, false, length, map, slice_get, slice_set};
+ghost use Rattle.std.specs.Prelude.{◌≡◌, ℕ, ℤ, pos, nat_abs, ◌+◌, ◌*◌, ◌<◌, ◌≤◌, ◌+ℤ◌, ◌≤ℤ◌, true, false, length, map};
 ghost use Rattle.std.specs.Int.{int_div_euclid};
 ghost use Rattle.bitvec_ptr.specs.BitPtr.{ptr_of};
 ghost use Rattle.bitvec_ptr.specs.Memory.{memory_bits, copied};
-ghost use Rattle.bitvec_ptr.specs.Place.{place_of, index_of};
+ghost use Rattle.bitvec_ptr.specs.Place.{place_of, index_of, words_met};
 ghost use Rattle.bitvec_ptr.specs.Steps.{RunsIn, AreApart};
+ghost use Rattle.bitvec_ptr.specs.WriterView.{writer_memory, writer_of};
 
-use crate::ptr::single::{BitPtr, bit_at, with_bit};
+use crate::ptr::counted::{copy_across, move_across};
+use crate::ptr::cursor::Cursor;
+use crate::ptr::single::BitPtr;
+use crate::ptr::writer::WordWriter;
 use bitvec_mem::mem::BitRegister;
-use bitvec_order::index::BitIdx;
 use bitvec_order::order::BitOrder;
-use std::alloc::AllocError;
-use std::marker::PhantomData;
-
-// A place from the first of a memory on: the index of a word, and that of a bit in it.
-//
-// It is no single number, since the places of a long memory pass the type.
-#[derive_where(Copy)]
-struct Cursor<R: BitRegister> {
-    word: usize,
-    bit: u8,
-    of: PhantomData<R>,
-    pub ghost in_word: { bit ≤ R.BITS - 1 },
-}
-
-impl<R: BitRegister> Clone for Cursor<R> {
-    ghost is_clone = { λ it copy. copy ≡ it };
-
-    ghost is_infallible = { λ _. ⊤ };
-
-    fn clone(&self) -> Result<Self, AllocError> {
-        Ok(*self)
-    }
-}
-
-impl<R: BitRegister> Cursor<R> {
-    // The place of a bit of a word.
-    fn new(word: usize, bit: u8) -> Self
-        requires { bit < R.BITS }
-        ensures word { result.word ≡ word }
-        ensures bit { result.bit ≡ bit }
-    {
-        Cursor {
-            word,
-            bit,
-            of: PhantomData,
-        }
-    }
-
-    // The place of a pointer.
-    fn at<O>(pointer: BitPtr<R, O>) -> Self
-        requires { pos 0 ≤ℤ (ptr_of pointer).word }
-        ensures { result.word * R.BITS + result.bit ≡ index_of R.BITS (ptr_of pointer) }
-    {
-        Cursor::new(pointer.address() as usize, pointer.bit().into_inner())
-    }
-
-    // The next place.
-    fn next(self) -> Self
-        requires { self.word < usize.MAX }
-        ensures { result.word * R.BITS + result.bit ≡ self.word * R.BITS + self.bit + 1 }
-    {
-        if self.bit < R::MASK {
-            Cursor::new(self.word, self.bit + 1)
-        } else {
-            Cursor::new(self.word + 1, 0)
-        }
-    }
-
-    // The place before.
-    fn before(self) -> Self
-        requires { 0 < self.word + self.bit }
-        ensures { result.word * R.BITS + result.bit + 1 ≡ self.word * R.BITS + self.bit }
-    {
-        if self.bit > 0 {
-            Cursor::new(self.word, self.bit - 1)
-        } else {
-            Cursor::new(self.word - 1, R::MASK)
-        }
-    }
-
-    // The place `count` places on.
-    fn advanced(self, count: usize) -> Self
-        requires { self.word * R.BITS + self.bit + count < 18446744073709551616 * R.BITS }
-        ensures { result.word * R.BITS + result.bit ≡ self.word * R.BITS + self.bit + count }
-    {
-        let width = usize::from(R::BITS);
-        let bit = usize::from(self.bit) + count % width;
-        Cursor::new(self.word + count / width + bit / width, (bit % width) as u8)
-    }
-
-    // Whether the place is at or before another.
-    fn is_at_most(self, other: Self) -> bool
-        ensures yes { result ≡ true → self.word * R.BITS + self.bit ≤ other.word * R.BITS + other.bit }
-        ensures no { result ≡ false → other.word * R.BITS + other.bit ≤ self.word * R.BITS + self.bit }
-    {
-        if self.word == other.word {
-            return self.bit <= other.bit;
-        }
-        self.word < other.word
-    }
-
-    // The bit at the place.
-    fn read<O: BitOrder<R>>(self, memory: &[R]) -> bool
-        requires { self.word < length memory.now }
-        ensures { slice_get (memory_bits R.BITS O.at_of (map R.number memory.now)) (self.word * R.BITS + self.bit) ≡ Some result }
-    {
-        bit_at::<R, O>(memory[self.word], BitIdx::new_unchecked(self.bit))
-    }
-
-    // Writes the bit at the place.
-    fn write<O: BitOrder<R>>(self, memory: &mut [R], bit: bool)
-        requires { self.word < length memory.old }
-        ensures bits { memory_bits R.BITS O.at_of (map R.number memory.new)
-            ≡ slice_set (memory_bits R.BITS O.at_of (map R.number memory.old)) (self.word * R.BITS + self.bit) bit }
-        ensures words { length memory.new ≡ length memory.old }
-    {
-        let index = BitIdx::new_unchecked(self.bit);
-        memory[self.word] = with_bit::<R, O>(memory[self.word], index, bit);
-    }
-}
-
-// Copies `count` bits from one memory to another.
-fn copy_between<R: BitRegister, O: BitOrder<R>, R2: BitRegister, O2: BitOrder<R2>>(
-    source: &[R],
-    from: Cursor<R>,
-    target: &mut [R2],
-    to: Cursor<R2>,
-    count: usize,
-)
-    requires from_in { 0 < count → from.word * R.BITS + from.bit + count ≤ length source.now * R.BITS }
-    requires to_in { 0 < count → to.word * R2.BITS + to.bit + count ≤ length target.old * R2.BITS }
-    ensures bits { memory_bits R2.BITS O2.at_of (map R2.number target.new)
-        ≡ copied (memory_bits R.BITS O.at_of (map R.number source.now)) (from.word * R.BITS + from.bit)
-        (memory_bits R2.BITS O2.at_of (map R2.number target.old)) (to.word * R2.BITS + to.bit) count }
-    ensures words { length target.new ≡ length target.old }
-{
-    let mut read = from;
-    let mut write = to;
-    for _done in 0..count {
-        let bit = read.read::<O>(source);
-        write.write::<O2>(target, bit);
-        read = read.next();
-        write = write.next();
-    }
-}
-
-// Copies `count` bits inside a memory, the first of them first.
-fn copy_from_front<R: BitRegister, O: BitOrder<R>>(
-    memory: &mut [R],
-    from: Cursor<R>,
-    to: Cursor<R>,
-    count: usize,
-)
-    requires from_in { 0 < count → from.word * R.BITS + from.bit + count ≤ length memory.old * R.BITS }
-    requires to_in { 0 < count → to.word * R.BITS + to.bit + count ≤ length memory.old * R.BITS }
-    requires downwards { to.word * R.BITS + to.bit ≤ from.word * R.BITS + from.bit }
-    ensures bits { let old = memory_bits R.BITS O.at_of (map R.number memory.old) in
-        memory_bits R.BITS O.at_of (map R.number memory.new)
-        ≡ copied old (from.word * R.BITS + from.bit) old (to.word * R.BITS + to.bit) count }
-    ensures words { length memory.new ≡ length memory.old }
-{
-    let mut read = from;
-    let mut write = to;
-    for _done in 0..count {
-        let bit = read.read::<O>(memory);
-        write.write::<O>(memory, bit);
-        read = read.next();
-        write = write.next();
-    }
-}
-
-// Copies `count` bits inside a memory, the last of them first.
-fn copy_from_back<R: BitRegister, O: BitOrder<R>>(
-    memory: &mut [R],
-    from: Cursor<R>,
-    to: Cursor<R>,
-    count: usize,
-)
-    requires from_in { 0 < count → from.word * R.BITS + from.bit + count ≤ length memory.old * R.BITS }
-    requires to_in { 0 < count → to.word * R.BITS + to.bit + count ≤ length memory.old * R.BITS }
-    requires upwards { from.word * R.BITS + from.bit ≤ to.word * R.BITS + to.bit }
-    ensures bits { let old = memory_bits R.BITS O.at_of (map R.number memory.old) in
-        memory_bits R.BITS O.at_of (map R.number memory.new)
-        ≡ copied old (from.word * R.BITS + from.bit) old (to.word * R.BITS + to.bit) count }
-    ensures words { length memory.new ≡ length memory.old }
-{
-    if count == 0 {
-        return;
-    }
-    let mut read = from.advanced(count);
-    let mut write = to.advanced(count);
-    let mut left = count;
-    while left > 0 {
-        left -= 1;
-        read = read.before();
-        write = write.before();
-        let bit = read.read::<O>(memory);
-        write.write::<O>(memory, bit);
-    }
-}
-
-// Copies `count` bits inside a memory, in the order in which no bit is written before it is read.
-fn copy_inside<R: BitRegister, O: BitOrder<R>>(
-    memory: &mut [R],
-    from: Cursor<R>,
-    to: Cursor<R>,
-    count: usize,
-)
-    requires from_in { 0 < count → from.word * R.BITS + from.bit + count ≤ length memory.old * R.BITS }
-    requires to_in { 0 < count → to.word * R.BITS + to.bit + count ≤ length memory.old * R.BITS }
-    ensures bits { let old = memory_bits R.BITS O.at_of (map R.number memory.old) in
-        memory_bits R.BITS O.at_of (map R.number memory.new)
-        ≡ copied old (from.word * R.BITS + from.bit) old (to.word * R.BITS + to.bit) count }
-    ensures words { length memory.new ≡ length memory.old }
-{
-    if to.is_at_most(from) {
-        copy_from_front::<R, O>(memory, from, to, count);
-    } else {
-        copy_from_back::<R, O>(memory, from, to, count);
-    }
-}
 
 impl<R: BitRegister, O: BitOrder<R>> BitPtr<R, O> {
+    /// Copies `count` bits of `memory`, from this pointer on, to those from `dest` on of the memory
+    /// that the writer borrows, and puts each word that they meet once and no other word.
+    ///
+    /// Requires that [`run_in`](BitPtr::run_in) holds of each run, and, where there are bits to copy,
+    /// that the mark stands at the target: before its first word if the writer is a rising one, after
+    /// its last if it is a falling one. Then the mark stands at the target's other edge, and
+    /// [`writes`](WordWriter::writes) has grown by the number of words that the target meets. With
+    /// count 0 the writer stays as it is. Our own.
+    #[inline(always)]
+    pub fn copy_through<R2: BitRegister, O2: BitOrder<R2>>(
+        self,
+        memory: &[R],
+        dest: BitPtr<R2, O2>,
+        writer: &mut WordWriter<R2>,
+        count: usize,
+    )
+        requires from_in { RunsIn R.BITS (ptr_of self) (length memory.now) count }
+        requires to_in { RunsIn R2.BITS (ptr_of dest) (length (writer_of writer.old).words) count }
+        requires rising { 0 < count → (writer_of writer.old).rising ≡ true
+            → (writer_of writer.old).mark ≡ nat_abs (ptr_of dest).word }
+        requires falling { 0 < count → (writer_of writer.old).rising ≡ false
+            → (writer_of writer.old).mark ≡ nat_abs (ptr_of dest).word + words_met R2.BITS (ptr_of dest).bit count }
+        ensures reference { (writer_memory writer.new).ghost_name ≡ (writer_memory writer.old).ghost_name }
+        ensures direction { (writer_of writer.new).rising ≡ (writer_of writer.old).rising }
+        ensures len { length (writer_of writer.new).words ≡ length (writer_of writer.old).words }
+        ensures writes { (writer_of writer.new).writes ≡ (writer_of writer.old).writes + words_met R2.BITS (ptr_of dest).bit count }
+        ensures rising_mark { 0 < count → (writer_of writer.old).rising ≡ true
+            → (writer_of writer.new).mark ≡ nat_abs (ptr_of dest).word + words_met R2.BITS (ptr_of dest).bit count }
+        ensures falling_mark { 0 < count → (writer_of writer.old).rising ≡ false
+            → (writer_of writer.new).mark ≡ nat_abs (ptr_of dest).word }
+        ensures bits { memory_bits R2.BITS O2.at_of (map R2.number (writer_of writer.new).words)
+            ≡ copied (memory_bits R.BITS O.at_of (map R.number memory.now)) (index_of R.BITS (ptr_of self))
+            (memory_bits R2.BITS O2.at_of (map R2.number (writer_of writer.old).words)) (index_of R2.BITS (ptr_of dest)) count }
+        ensures none { count ≡ 0 → writer_of writer.new ≡ writer_of writer.old }
+    {
+        if count == 0 {
+            return;
+        }
+        copy_across::<R, O, R2, O2>(memory, Cursor::at(self), writer, Cursor::at(dest), count);
+    }
+
+    /// Copies `count` bits inside the memory that the writer borrows, from this pointer on, to those
+    /// from `dest` on, and puts each word that they meet once and no other word.
+    ///
+    /// The two runs may overlap, and what is copied is what was there before the call. Requires what
+    /// [`copy_through`](BitPtr::copy_through) does, and, where there are bits to copy, a rising writer
+    /// where `dest` is at or before this pointer and a falling one otherwise. Mark and writes move as
+    /// there. Our own.
+    #[inline(always)]
+    pub fn copy_within_through(self, dest: Self, writer: &mut WordWriter<R>, count: usize)
+        requires from_in { RunsIn R.BITS (ptr_of self) (length (writer_of writer.old).words) count }
+        requires to_in { RunsIn R.BITS (ptr_of dest) (length (writer_of writer.old).words) count }
+        requires rising { 0 < count → (writer_of writer.old).rising ≡ true
+            → (writer_of writer.old).mark ≡ nat_abs (ptr_of dest).word }
+        requires falling { 0 < count → (writer_of writer.old).rising ≡ false
+            → (writer_of writer.old).mark ≡ nat_abs (ptr_of dest).word + words_met R.BITS (ptr_of dest).bit count }
+        requires downwards { 0 < count → index_of R.BITS (ptr_of dest) ≤ index_of R.BITS (ptr_of self)
+            → (writer_of writer.old).rising ≡ true }
+        requires upwards { 0 < count → index_of R.BITS (ptr_of self) < index_of R.BITS (ptr_of dest)
+            → (writer_of writer.old).rising ≡ false }
+        ensures reference { (writer_memory writer.new).ghost_name ≡ (writer_memory writer.old).ghost_name }
+        ensures direction { (writer_of writer.new).rising ≡ (writer_of writer.old).rising }
+        ensures len { length (writer_of writer.new).words ≡ length (writer_of writer.old).words }
+        ensures writes { (writer_of writer.new).writes ≡ (writer_of writer.old).writes + words_met R.BITS (ptr_of dest).bit count }
+        ensures rising_mark { 0 < count → (writer_of writer.old).rising ≡ true
+            → (writer_of writer.new).mark ≡ nat_abs (ptr_of dest).word + words_met R.BITS (ptr_of dest).bit count }
+        ensures falling_mark { 0 < count → (writer_of writer.old).rising ≡ false
+            → (writer_of writer.new).mark ≡ nat_abs (ptr_of dest).word }
+        ensures bits { let old = memory_bits R.BITS O.at_of (map R.number (writer_of writer.old).words) in
+            memory_bits R.BITS O.at_of (map R.number (writer_of writer.new).words)
+            ≡ copied old (index_of R.BITS (ptr_of self)) old (index_of R.BITS (ptr_of dest)) count }
+        ensures none { count ≡ 0 → writer_of writer.new ≡ writer_of writer.old }
+    {
+        if count == 0 {
+            return;
+        }
+        move_across::<R, O>(Cursor::at(self), writer, Cursor::at(dest), count);
+    }
+
     /// Copies `count` bits of `memory`, from this pointer on, to those of `target` from `dest` on, and
     /// changes no other bit: [`run_in`](BitPtr::run_in) is the test of each run.
     ///
@@ -243,7 +114,10 @@ impl<R: BitRegister, O: BitOrder<R>> BitPtr<R, O> {
             (memory_bits R2.BITS O2.at_of (map R2.number target.old)) (index_of R2.BITS (ptr_of dest)) count }
         ensures words { length target.new ≡ length target.old }
     {
-        copy_between::<R, O, R2, O2>(memory, Cursor::at(self), target, Cursor::at(dest), count);
+        let to = Cursor::at(dest);
+        let mut writer = WordWriter::rising(target);
+        writer.skip_to(to.word);
+        self.copy_through(memory, dest, &mut writer, count);
     }
 
     /// Another name of [`copy_to`](BitPtr::copy_to), since two memories never overlap. As in the Rust
@@ -319,7 +193,17 @@ impl<R: BitRegister, O: BitOrder<R>> BitPtr<R, O> {
             ≡ copied old (index_of R.BITS (ptr_of self)) old (index_of R.BITS (ptr_of dest)) count }
         ensures words { length memory.new ≡ length memory.old }
     {
-        copy_inside::<R, O>(memory, Cursor::at(self), Cursor::at(dest), count);
+        let to = Cursor::at(dest);
+        if to.is_at_most(Cursor::at(self)) {
+            let mut writer = WordWriter::rising(memory);
+            writer.skip_to(to.word);
+            self.copy_within_through(dest, &mut writer, count);
+            return;
+        }
+        let end = to.word + dest.elements(count);
+        let mut writer = WordWriter::falling(memory);
+        writer.skip_to(end);
+        self.copy_within_through(dest, &mut writer, count);
     }
 
     /// Copies `count` bits of a memory, from `src` on, to those from this pointer on, and changes no

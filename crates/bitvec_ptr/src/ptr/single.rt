@@ -271,7 +271,7 @@ impl<R: BitRegister, O> BitPtr<R, O> {
     }
 
     // How many words `count` bits from this one on meet.
-    fn elements(self, count: usize) -> usize
+    pub(crate) fn elements(self, count: usize) -> usize
         ensures { result ≡ words_met R.BITS (ptr_of self).bit count }
     {
         self.bit().span(count).0

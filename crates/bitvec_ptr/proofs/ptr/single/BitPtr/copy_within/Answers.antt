@@ -1,13 +1,12 @@
-use Rattle.std.proofs.Common.{◌<◌, length, nat_abs, arith}
-use Rattle.bitvec_ptr.proofs.CopyLemmas.{met_covers}
+use Rattle.std.proofs.Common.{arith}
 use Rattle.bitvec_ptr.proofs.ptr.single.BitPtr.copy_within.Goals as goal
 
-pub copy_inside-requires-clause-from_in : goal.copy_inside-requires-clause-from_in
-copy_inside-requires-clause-from_in g c = λ h.
-    let some : 0 < g.R.BitRegister.BITS = omega (arith, g.met.R.BitRegister.eight_law) in
-    rw c.at.ensures (met_covers g.R.BitRegister.BITS (nat_abs c.args.self.word) c.args.self.bit c.args.count (length c.args.memory.now) some h c.requires.from_in.1)
+pub copy_within_through-requires-clause-upwards : goal.copy_within_through-requires-clause-upwards
+copy_within_through-requires-clause-upwards g c = λ _ up.
+    let at_most = c.is_at_most.ensures.yes c.if-is_at_most.true in
+    absurd (omega (arith, at_most, up, c.at-to.ensures.place, c.at.ensures.place))
 
-pub copy_inside-requires-clause-to_in : goal.copy_inside-requires-clause-to_in
-copy_inside-requires-clause-to_in g c = λ h.
-    let some : 0 < g.R.BitRegister.BITS = omega (arith, g.met.R.BitRegister.eight_law) in
-    rw c.at-2.ensures (met_covers g.R.BitRegister.BITS (nat_abs c.args.dest.word) c.args.dest.bit c.args.count (length c.args.memory.now) some h c.requires.to_in.1)
+pub copy_within_through-requires-2-clause-downwards : goal.copy_within_through-requires-2-clause-downwards
+copy_within_through-requires-2-clause-downwards g c = λ _ down.
+    let past = c.is_at_most.ensures.no c.if-is_at_most.false in
+    absurd (omega (arith, past, down, c.at-to.ensures.place, c.at.ensures.place))

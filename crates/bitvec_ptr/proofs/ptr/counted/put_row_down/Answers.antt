@@ -1,0 +1,96 @@
+use Rattle.std.proofs.Common.{◌≡◌, ◌+◌, ◌-◌, ◌*◌, ◌≤◌, length, map, refl, ap, ◌∙◌, arith}
+use Rattle.std.proofs.Math.Nat.{mul-le-mul_right}
+use Rattle.bitvec_ptr.specs.Memory.{memory_bits, copied}
+use Rattle.bitvec_ptr.proofs.CopyLemmas.{length-bits, place_below}
+use Rattle.bitvec_ptr.proofs.EdgeLemmas.{allows_on}
+use Rattle.bitvec_ptr.proofs.JoinLemmas.{copied_no_words, row_less, row_back}
+use Rattle.bitvec_ptr.proofs.ptr.counted.put_row_down.Goals as goal
+
+pub loop-done-init : goal.loop-done-init
+loop-done-init g c =
+    let R = g.R.BitRegister in
+    let R2 = g.R2.BitRegister in
+    let source = memory_bits R.BITS g.O.BitAt.at_of (map R.number c.args.source.now) in
+    let target = memory_bits R2.BITS g.O2.BitAt.at_of (map R2.number c.args.writer.now.words.now) in
+    record {
+      reference = refl;
+      direction = c.requires.downwards;
+      len = refl;
+      writes = omega arith;
+      mark = omega arith;
+      bits = copied_no_words source (c.args.from.word * R.BITS + c.args.from.bit + (c.args.count - 0) * R2.BITS) target (c.args.to * R2.BITS + (c.args.count - 0) * R2.BITS) R2.BITS;
+    }
+
+pub words_on-read-requires-clause-short : goal.words_on-read-requires-clause-short
+words_on-read-requires-clause-short g c =
+    let less = row_less g.R2.BitRegister.BITS (c.args.count - 1 - c.loop-done.done) c.args.count (omega arith) in
+    omega (arith, less)
+
+pub words_on-read-requires-clause-inside : goal.words_on-read-requires-clause-inside
+words_on-read-requires-clause-inside g c =
+    let R = g.R.BitRegister in
+    let R2 = g.R2.BitRegister in
+    let less = row_less R2.BITS (c.args.count - 1 - c.loop-done.done) c.args.count (omega arith) in
+    place_below R.BITS (c.args.from.word * R.BITS + c.args.from.bit + (c.args.count - 1 - c.loop-done.done) * R2.BITS) (length c.args.source.now) (omega (arith, g.met.R.BitRegister.eight_law)) (omega (arith, less)) (omega arith)
+
+pub put_bits-requires-clause-way : goal.put_bits-requires-clause-way
+put_bits-requires-clause-way g c =
+    let R = g.R.BitRegister in
+    let R2 = g.R2.BitRegister in
+    allows_on c.args.way R.BITS g.O.BitAt.at_of R2.BITS g.O2.BitAt.at_of c.args.from.bit 0 c.words_on-read.result.bit 0 c.requires.way (λ w e. c.words_on-read.ensures.bit w ∙ e)
+
+pub put_bits-requires-clause-from_in : goal.put_bits-requires-clause-from_in
+put_bits-requires-clause-from_in g c =
+    let less = row_less g.R2.BitRegister.BITS (c.args.count - 1 - c.loop-done.done) c.args.count (omega arith) in
+    omega (arith, less, c.words_on-read.ensures.place, c.BITS.ensures, c.loop-done.invariant.len)
+
+pub loop-done-preserved : goal.loop-done-preserved
+loop-done-preserved g c =
+    let R = g.R.BitRegister in
+    let R2 = g.R2.BitRegister in
+    let source = memory_bits R.BITS g.O.BitAt.at_of (map R.number c.args.source.now) in
+    let target = memory_bits R2.BITS g.O2.BitAt.at_of (map R2.number c.args.writer.now.words.now) in
+    let now = memory_bits R2.BITS g.O2.BitAt.at_of (map R2.number c.loop-done.writer.words.now) in
+    let new = memory_bits R2.BITS g.O2.BitAt.at_of (map R2.number c.put_bits.new.writer.words.now) in
+    let here = c.loop-done.invariant in
+    let put = c.put_bits.ensures in
+    let s = c.args.from.word * R.BITS + c.args.from.bit in
+    let t = c.args.to * R2.BITS in
+    let k = c.args.count - 1 - c.loop-done.done in
+    let less = row_less R2.BITS k c.args.count (omega arith) in
+    let next : (k + 1) * R2.BITS ≡ k * R2.BITS + R2.BITS = omega arith in
+    let write : (c.args.to + k) * R2.BITS + 0 ≡ t + k * R2.BITS = omega arith in
+    let m = length-bits R.BITS g.O.BitAt.at_of R.number c.args.source.now in
+    let n = length-bits R2.BITS g.O2.BitAt.at_of R2.number c.args.writer.now.words.now in
+    let room : c.args.to * R2.BITS + c.args.count * R2.BITS ≤ length c.args.writer.now.words.now * R2.BITS =
+    (let up : (c.args.to + c.args.count) * R2.BITS ≤ length c.args.writer.now.words.now * R2.BITS = mul-le-mul_right R2.BITS c.requires.to_in in omega (arith, up)) in
+    let done = c.loop-done.done in
+    let whole : (k + 1 + done) * R2.BITS ≡ c.args.count * R2.BITS = ap (λ v. v * R2.BITS) (let v : k + 1 + done ≡ c.args.count = omega arith in v) in
+    let a : c.args.count - done ≡ k + 1 = omega arith in
+    let b : k ≡ c.args.count - (done + 1) = omega arith in
+    record {
+      reference = put.reference ∙ here.reference;
+      direction = put.direction ∙ here.direction;
+      len = put.len ∙ here.len;
+      writes = omega (arith, put.writes, here.writes);
+      mark = let v = put.falling_mark here.direction in omega (arith, v, here.mark);
+      bits = row_back source target now new s t R2.BITS k (c.args.count - done) done (c.words_on-read.result.word * R.BITS + c.words_on-read.result.bit) ((c.args.to + k) * R2.BITS + 0) c.BITS.result c.words_on-read.ensures.place write c.BITS.ensures a (omega (arith, whole, room, n)) (omega (arith, whole, c.requires.from_in, m)) here.bits put.bits
+          ∙ ap (λ v. copied source (s + v * R2.BITS) target (t + v * R2.BITS) ((done + 1) * R2.BITS)) b;
+    }
+
+pub returns-clause-bits : goal.returns-clause-bits
+returns-clause-bits g c =
+    let R = g.R.BitRegister in
+    let R2 = g.R2.BitRegister in
+    let source = memory_bits R.BITS g.O.BitAt.at_of (map R.number c.args.source.now) in
+    let target = memory_bits R2.BITS g.O2.BitAt.at_of (map R2.number c.args.writer.now.words.now) in
+    let count = c.args.count in
+    let none : c.args.from.word * R.BITS + c.args.from.bit + (count - c.loop-done.done) * R2.BITS ≡ c.args.from.word * R.BITS + c.args.from.bit =
+    (let v : count - c.loop-done.done ≡ 0 = omega arith in ap (λ n. c.args.from.word * R.BITS + c.args.from.bit + n * R2.BITS) v ∙ omega arith) in
+    let zero : c.args.to * R2.BITS + (count - c.loop-done.done) * R2.BITS ≡ c.args.to * R2.BITS =
+    (let v : count - c.loop-done.done ≡ 0 = omega arith in ap (λ n. c.args.to * R2.BITS + n * R2.BITS) v ∙ omega arith) in
+    let all : c.loop-done.done * R2.BITS ≡ count * R2.BITS = ap (λ n. n * R2.BITS) (let v : c.loop-done.done ≡ count = omega arith in v) in
+    c.loop-done.invariant.bits
+    ∙ ap (λ v. copied source v target (c.args.to * R2.BITS + (count - c.loop-done.done) * R2.BITS) (c.loop-done.done * R2.BITS)) none
+    ∙ ap (λ v. copied source (c.args.from.word * R.BITS + c.args.from.bit) target v (c.loop-done.done * R2.BITS)) zero
+    ∙ ap (λ v. copied source (c.args.from.word * R.BITS + c.args.from.bit) target (c.args.to * R2.BITS) v) all

@@ -1,0 +1,15 @@
+use Rattle.std.proofs.Common.{◌≡◌, ◌⊎◌, ℕ, ◌+◌, ◌-◌, ◌<◌, ◌≤◌}
+use Rattle.bitvec_mem.specs.Digit.{digit}
+use Rattle.bitvec_ptr.proofs.ptr.shift.singly.Given as goal
+
+abbrev pub invariant-loop-done : goal.invariant-loop-done
+invariant-loop-done g l =
+    let R = g.R.BitRegister in
+    let R2 = g.R2.BitRegister in
+    let at = g.O.BitAt.at_of in
+    let at2 = g.O2.BitAt.at_of in
+    record {
+      low : (j : ℕ) → j < l.done → l.shift + j < R.BITS → digit (R2.number l.gathered) (at2 (l.bit + j)) ≡ digit (R.number l.low) (at (l.shift + j));
+      high : (j : ℕ) → j < l.done → R.BITS ≤ l.shift + j → digit (R2.number l.gathered) (at2 (l.bit + j)) ≡ digit (R.number l.high) (at (l.shift + j - R.BITS));
+      outside : (j : ℕ) → j < R2.BITS → (j < l.bit) ⊎ (l.bit + l.done ≤ j) → digit (R2.number l.gathered) (at2 j) ≡ digit (R2.number l.fn.word) (at2 j);
+    }

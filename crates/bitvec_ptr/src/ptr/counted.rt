@@ -1,0 +1,641 @@
+//! Copies through a writer: each word of the target is gathered and put once.
+//!
+//! The functions that loop over a writer are inlined as far as the function that makes the writer, so
+//! that its mark and count are kept in registers.
+
+ghost use Rattle.std.specs.Prelude.{◌≡◌, ℕ, ◌+◌, ◌-◌, ◌*◌, ◌<◌, ◌≤◌, ◌⊎◌, true, false, length, map, slice_index};
+ghost use Rattle.bitvec_mem.specs.Digit.{digit};
+ghost use Rattle.bitvec_ptr.specs.Memory.{bit_of, memory_bits, copied};
+ghost use Rattle.bitvec_ptr.specs.Place.{words_met};
+ghost use Rattle.bitvec_ptr.specs.Shifts.{Allows};
+ghost use Rattle.bitvec_ptr.specs.WriterView.{writer_memory, writer_of};
+
+use crate::ptr::cursor::Cursor;
+use crate::ptr::shift::{Way, gathered, way_of};
+use crate::ptr::single::with_bit;
+use crate::ptr::writer::WordWriter;
+use bitvec_mem::mem::BitRegister;
+use bitvec_order::index::BitIdx;
+use bitvec_order::order::BitOrder;
+
+// The word with `count` of its bits, from index `bit` on, read one by one from a memory.
+fn gathered_far<R: BitRegister, O: BitOrder<R>, R2: BitRegister, O2: BitOrder<R2>>(
+    source: &[R],
+    from: Cursor<R>,
+    word: R2,
+    bit: u8,
+    count: u8,
+) -> R2
+    requires bit_in { bit + count ≤ R2.BITS }
+    requires from_in { from.word * R.BITS + from.bit + count ≤ length source.now * R.BITS }
+    ensures inside { (j : ℕ) → j < count → digit (R2.number result) (O2.at_of (bit + j))
+        ≡ bit_of R.BITS O.at_of (map R.number source.now) (from.word * R.BITS + from.bit + j) }
+    ensures outside { (j : ℕ) → j < R2.BITS → (j < bit) ⊎ (bit + count ≤ j)
+        → digit (R2.number result) (O2.at_of j) ≡ digit (R2.number word) (O2.at_of j) }
+{
+    let mut gathered = word;
+    let mut read = from;
+    for done in 0..count {
+        let taken = read.read::<O>(source);
+        gathered = with_bit::<R2, O2>(gathered, BitIdx::new_unchecked(bit + done), taken);
+        read = read.next();
+    }
+    gathered
+}
+
+// The two words of a memory that have `count` bits from a place on; the first twice where it has all.
+#[inline(always)]
+fn pair_from<R: BitRegister>(source: &[R], from: Cursor<R>, count: u8) -> (R, R)
+    requires some { 0 < count }
+    requires most { count ≤ R.BITS }
+    requires from_in { from.word * R.BITS + from.bit + count ≤ length source.now * R.BITS }
+    ensures low { R.number result.0 ≡ slice_index (map R.number source.now) from.word }
+    ensures high { R.BITS < from.bit + count → R.number result.1 ≡ slice_index (map R.number source.now) (from.word + 1) }
+{
+    let low = source[from.word];
+    if from.bit + count > R::BITS {
+        return (low, source[from.word + 1]);
+    }
+    (low, low)
+}
+
+// The same of a writer's words.
+#[inline(always)]
+fn pair_in<R: BitRegister>(writer: &WordWriter<R>, from: Cursor<R>, count: u8) -> (R, R)
+    requires some { 0 < count }
+    requires most { count ≤ R.BITS }
+    requires from_in { from.word * R.BITS + from.bit + count ≤ length (writer_of writer.now).words * R.BITS }
+    ensures low { R.number result.0 ≡ slice_index (map R.number (writer_of writer.now).words) from.word }
+    ensures high { R.BITS < from.bit + count → R.number result.1 ≡ slice_index (map R.number (writer_of writer.now).words) (from.word + 1) }
+{
+    let low = writer.get(from.word);
+    if from.bit + count > R::BITS {
+        let high = writer.get(from.word + 1);
+        return (low, high);
+    }
+    (low, low)
+}
+
+// The word with `count` of its bits, from index `bit` on, as a memory has them from a place on.
+#[inline(always)]
+fn gathered_from<R: BitRegister, O: BitOrder<R>, R2: BitRegister, O2: BitOrder<R2>>(
+    way: Way,
+    source: &[R],
+    from: Cursor<R>,
+    word: R2,
+    bit: u8,
+    count: u8,
+) -> R2
+    requires some { 0 < count }
+    requires bit_in { bit + count ≤ R2.BITS }
+    requires way { Allows way R.BITS O.at_of R2.BITS O2.at_of from.bit bit }
+    requires from_in { from.word * R.BITS + from.bit + count ≤ length source.now * R.BITS }
+    ensures inside { (j : ℕ) → j < count → digit (R2.number result) (O2.at_of (bit + j))
+        ≡ bit_of R.BITS O.at_of (map R.number source.now) (from.word * R.BITS + from.bit + j) }
+    ensures outside { (j : ℕ) → j < R2.BITS → (j < bit) ⊎ (bit + count ≤ j)
+        → digit (R2.number result) (O2.at_of j) ≡ digit (R2.number word) (O2.at_of j) }
+{
+    if R::BITS != R2::BITS {
+        return gathered_far::<R, O, R2, O2>(source, from, word, bit, count);
+    }
+    let (low, high) = pair_from(source, from, count);
+    gathered::<R, O, R2, O2>(way, low, high, from.bit, word, bit, count)
+}
+
+// Copies `count` bits into one word of the writer's memory, from its index `bit` on.
+#[inline(always)]
+fn put_bits<R: BitRegister, O: BitOrder<R>, R2: BitRegister, O2: BitOrder<R2>>(
+    way: Way,
+    source: &[R],
+    from: Cursor<R>,
+    writer: &mut WordWriter<R2>,
+    to: usize,
+    bit: u8,
+    count: u8,
+)
+    requires some { 0 < count }
+    requires bit_in { bit + count ≤ R2.BITS }
+    requires way { Allows way R.BITS O.at_of R2.BITS O2.at_of from.bit bit }
+    requires from_in { from.word * R.BITS + from.bit + count ≤ length source.now * R.BITS }
+    requires to_in { to < length (writer_of writer.old).words }
+    requires rising { (writer_of writer.old).rising ≡ true → (writer_of writer.old).mark ≤ to }
+    requires falling { (writer_of writer.old).rising ≡ false → to < (writer_of writer.old).mark }
+    ensures reference { (writer_memory writer.new).ghost_name ≡ (writer_memory writer.old).ghost_name }
+    ensures direction { (writer_of writer.new).rising ≡ (writer_of writer.old).rising }
+    ensures len { length (writer_of writer.new).words ≡ length (writer_of writer.old).words }
+    ensures writes { (writer_of writer.new).writes ≡ (writer_of writer.old).writes + 1 }
+    ensures rising_mark { (writer_of writer.old).rising ≡ true → (writer_of writer.new).mark ≡ to + 1 }
+    ensures falling_mark { (writer_of writer.old).rising ≡ false → (writer_of writer.new).mark ≡ to }
+    ensures bits { memory_bits R2.BITS O2.at_of (map R2.number (writer_of writer.new).words)
+        ≡ copied (memory_bits R.BITS O.at_of (map R.number source.now)) (from.word * R.BITS + from.bit)
+        (memory_bits R2.BITS O2.at_of (map R2.number (writer_of writer.old).words)) (to * R2.BITS + bit) count }
+{
+    let old = writer.get(to);
+    let word = gathered_from::<R, O, R2, O2>(way, source, from, old, bit, count);
+    writer.put(to, word);
+}
+
+// Copies `count` bits inside the writer's memory into one of its words, from its index `bit` on.
+#[inline(always)]
+fn move_bits<R: BitRegister, O: BitOrder<R>>(
+    way: Way,
+    from: Cursor<R>,
+    writer: &mut WordWriter<R>,
+    to: usize,
+    bit: u8,
+    count: u8,
+)
+    requires some { 0 < count }
+    requires bit_in { bit + count ≤ R.BITS }
+    requires way { Allows way R.BITS O.at_of R.BITS O.at_of from.bit bit }
+    requires from_in { from.word * R.BITS + from.bit + count ≤ length (writer_of writer.old).words * R.BITS }
+    requires to_in { to < length (writer_of writer.old).words }
+    requires rising { (writer_of writer.old).rising ≡ true → (writer_of writer.old).mark ≤ to }
+    requires falling { (writer_of writer.old).rising ≡ false → to < (writer_of writer.old).mark }
+    ensures reference { (writer_memory writer.new).ghost_name ≡ (writer_memory writer.old).ghost_name }
+    ensures direction { (writer_of writer.new).rising ≡ (writer_of writer.old).rising }
+    ensures len { length (writer_of writer.new).words ≡ length (writer_of writer.old).words }
+    ensures writes { (writer_of writer.new).writes ≡ (writer_of writer.old).writes + 1 }
+    ensures rising_mark { (writer_of writer.old).rising ≡ true → (writer_of writer.new).mark ≡ to + 1 }
+    ensures falling_mark { (writer_of writer.old).rising ≡ false → (writer_of writer.new).mark ≡ to }
+    ensures bits { let old = memory_bits R.BITS O.at_of (map R.number (writer_of writer.old).words) in
+        memory_bits R.BITS O.at_of (map R.number (writer_of writer.new).words)
+        ≡ copied old (from.word * R.BITS + from.bit) old (to * R.BITS + bit) count }
+{
+    let old = writer.get(to);
+    let (low, high) = pair_in(writer, from, count);
+    let word = gathered::<R, O, R, O>(way, low, high, from.bit, old, bit, count);
+    writer.put(to, word);
+}
+
+// Copies whole words by rising index.
+#[inline(always)]
+fn put_row<R: BitRegister, O: BitOrder<R>, R2: BitRegister, O2: BitOrder<R2>>(
+    way: Way,
+    source: &[R],
+    from: Cursor<R>,
+    writer: &mut WordWriter<R2>,
+    to: usize,
+    count: usize,
+)
+    requires way { Allows way R.BITS O.at_of R2.BITS O2.at_of from.bit 0 }
+    requires short { count * R2.BITS ≤ usize.MAX }
+    requires from_in { from.word * R.BITS + from.bit + count * R2.BITS ≤ length source.now * R.BITS }
+    requires to_in { to + count ≤ length (writer_of writer.old).words }
+    requires upwards { (writer_of writer.old).rising ≡ true }
+    requires stands { (writer_of writer.old).mark ≡ to }
+    ensures reference { (writer_memory writer.new).ghost_name ≡ (writer_memory writer.old).ghost_name }
+    ensures direction { (writer_of writer.new).rising ≡ true }
+    ensures len { length (writer_of writer.new).words ≡ length (writer_of writer.old).words }
+    ensures writes { (writer_of writer.new).writes ≡ (writer_of writer.old).writes + count }
+    ensures mark { (writer_of writer.new).mark ≡ to + count }
+    ensures bits { memory_bits R2.BITS O2.at_of (map R2.number (writer_of writer.new).words)
+        ≡ copied (memory_bits R.BITS O.at_of (map R.number source.now)) (from.word * R.BITS + from.bit)
+        (memory_bits R2.BITS O2.at_of (map R2.number (writer_of writer.old).words)) (to * R2.BITS) (count * R2.BITS) }
+{
+    for k in 0..count {
+        let read = from.words_on::<R2>(k);
+        put_bits::<R, O, R2, O2>(way, source, read, writer, to + k, 0, R2::BITS);
+    }
+}
+
+// Copies whole words by falling index.
+#[inline(always)]
+fn put_row_down<R: BitRegister, O: BitOrder<R>, R2: BitRegister, O2: BitOrder<R2>>(
+    way: Way,
+    source: &[R],
+    from: Cursor<R>,
+    writer: &mut WordWriter<R2>,
+    to: usize,
+    count: usize,
+)
+    requires way { Allows way R.BITS O.at_of R2.BITS O2.at_of from.bit 0 }
+    requires short { count * R2.BITS ≤ usize.MAX }
+    requires from_in { from.word * R.BITS + from.bit + count * R2.BITS ≤ length source.now * R.BITS }
+    requires to_in { to + count ≤ length (writer_of writer.old).words }
+    requires downwards { (writer_of writer.old).rising ≡ false }
+    requires stands { (writer_of writer.old).mark ≡ to + count }
+    ensures reference { (writer_memory writer.new).ghost_name ≡ (writer_memory writer.old).ghost_name }
+    ensures direction { (writer_of writer.new).rising ≡ false }
+    ensures len { length (writer_of writer.new).words ≡ length (writer_of writer.old).words }
+    ensures writes { (writer_of writer.new).writes ≡ (writer_of writer.old).writes + count }
+    ensures mark { (writer_of writer.new).mark ≡ to }
+    ensures bits { memory_bits R2.BITS O2.at_of (map R2.number (writer_of writer.new).words)
+        ≡ copied (memory_bits R.BITS O.at_of (map R.number source.now)) (from.word * R.BITS + from.bit)
+        (memory_bits R2.BITS O2.at_of (map R2.number (writer_of writer.old).words)) (to * R2.BITS) (count * R2.BITS) }
+{
+    for done in 0..count {
+        let k = count - 1 - done;
+        let read = from.words_on::<R2>(k);
+        put_bits::<R, O, R2, O2>(way, source, read, writer, to + k, 0, R2::BITS);
+    }
+}
+
+// Copies whole words inside the writer's memory, by rising index and downwards.
+#[inline(always)]
+fn move_row<R: BitRegister, O: BitOrder<R>>(
+    way: Way,
+    from: Cursor<R>,
+    writer: &mut WordWriter<R>,
+    to: usize,
+    count: usize,
+)
+    requires way { Allows way R.BITS O.at_of R.BITS O.at_of from.bit 0 }
+    requires short { count * R.BITS ≤ usize.MAX }
+    requires from_in { from.word * R.BITS + from.bit + count * R.BITS ≤ length (writer_of writer.old).words * R.BITS }
+    requires to_in { to + count ≤ length (writer_of writer.old).words }
+    requires before { to * R.BITS ≤ from.word * R.BITS + from.bit }
+    requires upwards { (writer_of writer.old).rising ≡ true }
+    requires stands { (writer_of writer.old).mark ≡ to }
+    ensures reference { (writer_memory writer.new).ghost_name ≡ (writer_memory writer.old).ghost_name }
+    ensures direction { (writer_of writer.new).rising ≡ true }
+    ensures len { length (writer_of writer.new).words ≡ length (writer_of writer.old).words }
+    ensures writes { (writer_of writer.new).writes ≡ (writer_of writer.old).writes + count }
+    ensures mark { (writer_of writer.new).mark ≡ to + count }
+    ensures bits { let old = memory_bits R.BITS O.at_of (map R.number (writer_of writer.old).words) in
+        memory_bits R.BITS O.at_of (map R.number (writer_of writer.new).words)
+        ≡ copied old (from.word * R.BITS + from.bit) old (to * R.BITS) (count * R.BITS) }
+{
+    for k in 0..count {
+        let read = from.words_on::<R>(k);
+        move_bits::<R, O>(way, read, writer, to + k, 0, R::BITS);
+    }
+}
+
+// Copies whole words inside the writer's memory, by falling index and upwards.
+#[inline(always)]
+fn move_row_down<R: BitRegister, O: BitOrder<R>>(
+    way: Way,
+    from: Cursor<R>,
+    writer: &mut WordWriter<R>,
+    to: usize,
+    count: usize,
+)
+    requires way { Allows way R.BITS O.at_of R.BITS O.at_of from.bit 0 }
+    requires short { count * R.BITS ≤ usize.MAX }
+    requires from_in { from.word * R.BITS + from.bit + count * R.BITS ≤ length (writer_of writer.old).words * R.BITS }
+    requires to_in { to + count ≤ length (writer_of writer.old).words }
+    requires behind { from.word * R.BITS + from.bit ≤ to * R.BITS }
+    requires downwards { (writer_of writer.old).rising ≡ false }
+    requires stands { (writer_of writer.old).mark ≡ to + count }
+    ensures reference { (writer_memory writer.new).ghost_name ≡ (writer_memory writer.old).ghost_name }
+    ensures direction { (writer_of writer.new).rising ≡ false }
+    ensures len { length (writer_of writer.new).words ≡ length (writer_of writer.old).words }
+    ensures writes { (writer_of writer.new).writes ≡ (writer_of writer.old).writes + count }
+    ensures mark { (writer_of writer.new).mark ≡ to }
+    ensures bits { let old = memory_bits R.BITS O.at_of (map R.number (writer_of writer.old).words) in
+        memory_bits R.BITS O.at_of (map R.number (writer_of writer.new).words)
+        ≡ copied old (from.word * R.BITS + from.bit) old (to * R.BITS) (count * R.BITS) }
+{
+    for done in 0..count {
+        let k = count - 1 - done;
+        let read = from.words_on::<R>(k);
+        move_bits::<R, O>(way, read, writer, to + k, 0, R::BITS);
+    }
+}
+
+// Whether all of `count` bits from an index of a word on lie in that word.
+fn is_in_one_word<R: BitRegister>(bit: u8, count: usize) -> bool
+    requires some { 0 < count }
+    requires bit_in { bit < R.BITS }
+    ensures met { result ≡ true → words_met R.BITS bit count ≡ 1 }
+    ensures fits { result ≡ true → bit + count ≤ R.BITS }
+    ensures more { result ≡ false → R.BITS < bit + count }
+{
+    if count > usize::from(R::BITS - bit) {
+        return false;
+    }
+    true
+}
+
+// How many whole words `count` bits meet between the first word, which they enter at an index, and the
+// last; and how many of them lie in the last.
+fn whole_and_last<R: BitRegister>(bit: u8, count: usize) -> (usize, u8)
+    requires bit_in { bit < R.BITS }
+    requires more { R.BITS < bit + count }
+    ensures all { R.BITS - bit + (result.0 * R.BITS + result.1) ≡ count }
+    ensures some { 0 < result.1 }
+    ensures most { result.1 ≤ R.BITS }
+    ensures met { words_met R.BITS bit count ≡ result.0 + 2 }
+{
+    let width = usize::from(R::BITS);
+    let first = width - usize::from(bit);
+    let left = count - first - 1;
+    (left / width, (left % width) as u8 + 1)
+}
+
+// Copies some bits into the writer's memory, from the front on.
+#[inline(always)]
+pub(super) fn copy_up<R: BitRegister, O: BitOrder<R>, R2: BitRegister, O2: BitOrder<R2>>(
+    way: Way,
+    source: &[R],
+    from: Cursor<R>,
+    writer: &mut WordWriter<R2>,
+    to: Cursor<R2>,
+    count: usize,
+)
+    requires some { 0 < count }
+    requires way { Allows way R.BITS O.at_of R2.BITS O2.at_of from.bit to.bit }
+    requires from_in { from.word * R.BITS + from.bit + count ≤ length source.now * R.BITS }
+    requires to_in { to.word + words_met R2.BITS to.bit count ≤ length (writer_of writer.old).words }
+    requires direction { (writer_of writer.old).rising ≡ true }
+    requires stands { (writer_of writer.old).mark ≡ to.word }
+    ensures reference { (writer_memory writer.new).ghost_name ≡ (writer_memory writer.old).ghost_name }
+    ensures direction { (writer_of writer.new).rising ≡ true }
+    ensures len { length (writer_of writer.new).words ≡ length (writer_of writer.old).words }
+    ensures writes { (writer_of writer.new).writes ≡ (writer_of writer.old).writes + words_met R2.BITS to.bit count }
+    ensures mark { (writer_of writer.new).mark ≡ to.word + words_met R2.BITS to.bit count }
+    ensures bits { memory_bits R2.BITS O2.at_of (map R2.number (writer_of writer.new).words)
+        ≡ copied (memory_bits R.BITS O.at_of (map R.number source.now)) (from.word * R.BITS + from.bit)
+        (memory_bits R2.BITS O2.at_of (map R2.number (writer_of writer.old).words)) (to.word * R2.BITS + to.bit) count }
+{
+    if is_in_one_word::<R2>(to.bit, count) {
+        put_bits::<R, O, R2, O2>(way, source, from, writer, to.word, to.bit, count as u8);
+        return;
+    }
+    let first = R2::BITS - to.bit;
+    let (whole, last) = whole_and_last::<R2>(to.bit, count);
+    let head = usize::from(first);
+    let tail = usize::from(last);
+    let middle = from.advanced(head);
+    let end = from.advanced(count - tail);
+    put_bits::<R, O, R2, O2>(way, source, from, writer, to.word, to.bit, first);
+    put_row::<R, O, R2, O2>(way, source, middle, writer, to.word + 1, whole);
+    put_bits::<R, O, R2, O2>(way, source, end, writer, to.word + 1 + whole, 0, last);
+}
+
+// Copies some bits into the writer's memory, from the back on.
+#[inline(always)]
+pub(super) fn copy_down<R: BitRegister, O: BitOrder<R>, R2: BitRegister, O2: BitOrder<R2>>(
+    way: Way,
+    source: &[R],
+    from: Cursor<R>,
+    writer: &mut WordWriter<R2>,
+    to: Cursor<R2>,
+    count: usize,
+)
+    requires some { 0 < count }
+    requires way { Allows way R.BITS O.at_of R2.BITS O2.at_of from.bit to.bit }
+    requires from_in { from.word * R.BITS + from.bit + count ≤ length source.now * R.BITS }
+    requires to_in { to.word + words_met R2.BITS to.bit count ≤ length (writer_of writer.old).words }
+    requires direction { (writer_of writer.old).rising ≡ false }
+    requires stands { (writer_of writer.old).mark ≡ to.word + words_met R2.BITS to.bit count }
+    ensures reference { (writer_memory writer.new).ghost_name ≡ (writer_memory writer.old).ghost_name }
+    ensures direction { (writer_of writer.new).rising ≡ false }
+    ensures len { length (writer_of writer.new).words ≡ length (writer_of writer.old).words }
+    ensures writes { (writer_of writer.new).writes ≡ (writer_of writer.old).writes + words_met R2.BITS to.bit count }
+    ensures mark { (writer_of writer.new).mark ≡ to.word }
+    ensures bits { memory_bits R2.BITS O2.at_of (map R2.number (writer_of writer.new).words)
+        ≡ copied (memory_bits R.BITS O.at_of (map R.number source.now)) (from.word * R.BITS + from.bit)
+        (memory_bits R2.BITS O2.at_of (map R2.number (writer_of writer.old).words)) (to.word * R2.BITS + to.bit) count }
+{
+    if is_in_one_word::<R2>(to.bit, count) {
+        put_bits::<R, O, R2, O2>(way, source, from, writer, to.word, to.bit, count as u8);
+        return;
+    }
+    let first = R2::BITS - to.bit;
+    let (whole, last) = whole_and_last::<R2>(to.bit, count);
+    let head = usize::from(first);
+    let tail = usize::from(last);
+    let middle = from.advanced(head);
+    let end = from.advanced(count - tail);
+    put_bits::<R, O, R2, O2>(way, source, end, writer, to.word + 1 + whole, 0, last);
+    put_row_down::<R, O, R2, O2>(way, source, middle, writer, to.word + 1, whole);
+    put_bits::<R, O, R2, O2>(way, source, from, writer, to.word, to.bit, first);
+}
+
+// Copies some bits inside the writer's memory downwards, from the front on.
+#[inline(always)]
+pub(super) fn move_down<R: BitRegister, O: BitOrder<R>>(
+    way: Way,
+    from: Cursor<R>,
+    writer: &mut WordWriter<R>,
+    to: Cursor<R>,
+    count: usize,
+)
+    requires some { 0 < count }
+    requires way { Allows way R.BITS O.at_of R.BITS O.at_of from.bit to.bit }
+    requires from_in { from.word * R.BITS + from.bit + count ≤ length (writer_of writer.old).words * R.BITS }
+    requires to_in { to.word + words_met R.BITS to.bit count ≤ length (writer_of writer.old).words }
+    requires before { to.word * R.BITS + to.bit ≤ from.word * R.BITS + from.bit }
+    requires direction { (writer_of writer.old).rising ≡ true }
+    requires stands { (writer_of writer.old).mark ≡ to.word }
+    ensures reference { (writer_memory writer.new).ghost_name ≡ (writer_memory writer.old).ghost_name }
+    ensures direction { (writer_of writer.new).rising ≡ true }
+    ensures len { length (writer_of writer.new).words ≡ length (writer_of writer.old).words }
+    ensures writes { (writer_of writer.new).writes ≡ (writer_of writer.old).writes + words_met R.BITS to.bit count }
+    ensures mark { (writer_of writer.new).mark ≡ to.word + words_met R.BITS to.bit count }
+    ensures bits { let old = memory_bits R.BITS O.at_of (map R.number (writer_of writer.old).words) in
+        memory_bits R.BITS O.at_of (map R.number (writer_of writer.new).words)
+        ≡ copied old (from.word * R.BITS + from.bit) old (to.word * R.BITS + to.bit) count }
+{
+    if is_in_one_word::<R>(to.bit, count) {
+        move_bits::<R, O>(way, from, writer, to.word, to.bit, count as u8);
+        return;
+    }
+    let first = R::BITS - to.bit;
+    let (whole, last) = whole_and_last::<R>(to.bit, count);
+    let head = usize::from(first);
+    let tail = usize::from(last);
+    let middle = from.advanced(head);
+    let end = from.advanced(count - tail);
+    move_bits::<R, O>(way, from, writer, to.word, to.bit, first);
+    move_row::<R, O>(way, middle, writer, to.word + 1, whole);
+    move_bits::<R, O>(way, end, writer, to.word + 1 + whole, 0, last);
+}
+
+// Copies some bits inside the writer's memory upwards, from the back on.
+#[inline(always)]
+pub(super) fn move_up<R: BitRegister, O: BitOrder<R>>(
+    way: Way,
+    from: Cursor<R>,
+    writer: &mut WordWriter<R>,
+    to: Cursor<R>,
+    count: usize,
+)
+    requires some { 0 < count }
+    requires way { Allows way R.BITS O.at_of R.BITS O.at_of from.bit to.bit }
+    requires from_in { from.word * R.BITS + from.bit + count ≤ length (writer_of writer.old).words * R.BITS }
+    requires to_in { to.word + words_met R.BITS to.bit count ≤ length (writer_of writer.old).words }
+    requires behind { from.word * R.BITS + from.bit ≤ to.word * R.BITS + to.bit }
+    requires direction { (writer_of writer.old).rising ≡ false }
+    requires stands { (writer_of writer.old).mark ≡ to.word + words_met R.BITS to.bit count }
+    ensures reference { (writer_memory writer.new).ghost_name ≡ (writer_memory writer.old).ghost_name }
+    ensures direction { (writer_of writer.new).rising ≡ false }
+    ensures len { length (writer_of writer.new).words ≡ length (writer_of writer.old).words }
+    ensures writes { (writer_of writer.new).writes ≡ (writer_of writer.old).writes + words_met R.BITS to.bit count }
+    ensures mark { (writer_of writer.new).mark ≡ to.word }
+    ensures bits { let old = memory_bits R.BITS O.at_of (map R.number (writer_of writer.old).words) in
+        memory_bits R.BITS O.at_of (map R.number (writer_of writer.new).words)
+        ≡ copied old (from.word * R.BITS + from.bit) old (to.word * R.BITS + to.bit) count }
+{
+    if is_in_one_word::<R>(to.bit, count) {
+        move_bits::<R, O>(way, from, writer, to.word, to.bit, count as u8);
+        return;
+    }
+    let first = R::BITS - to.bit;
+    let (whole, last) = whole_and_last::<R>(to.bit, count);
+    let head = usize::from(first);
+    let tail = usize::from(last);
+    let middle = from.advanced(head);
+    let end = from.advanced(count - tail);
+    move_bits::<R, O>(way, end, writer, to.word + 1 + whole, 0, last);
+    move_row_down::<R, O>(way, middle, writer, to.word + 1, whole);
+    move_bits::<R, O>(way, from, writer, to.word, to.bit, first);
+}
+
+// Copies some bits into the writer's memory in one way, in the direction of the writer.
+#[inline(always)]
+fn copy_one_way<R: BitRegister, O: BitOrder<R>, R2: BitRegister, O2: BitOrder<R2>>(
+    way: Way,
+    source: &[R],
+    from: Cursor<R>,
+    writer: &mut WordWriter<R2>,
+    to: Cursor<R2>,
+    count: usize,
+)
+    requires some { 0 < count }
+    requires way { Allows way R.BITS O.at_of R2.BITS O2.at_of from.bit to.bit }
+    requires from_in { from.word * R.BITS + from.bit + count ≤ length source.now * R.BITS }
+    requires to_in { to.word + words_met R2.BITS to.bit count ≤ length (writer_of writer.old).words }
+    requires rising { (writer_of writer.old).rising ≡ true → (writer_of writer.old).mark ≡ to.word }
+    requires falling { (writer_of writer.old).rising ≡ false → (writer_of writer.old).mark ≡ to.word + words_met R2.BITS to.bit count }
+    ensures reference { (writer_memory writer.new).ghost_name ≡ (writer_memory writer.old).ghost_name }
+    ensures direction { (writer_of writer.new).rising ≡ (writer_of writer.old).rising }
+    ensures len { length (writer_of writer.new).words ≡ length (writer_of writer.old).words }
+    ensures writes { (writer_of writer.new).writes ≡ (writer_of writer.old).writes + words_met R2.BITS to.bit count }
+    ensures rising_mark { (writer_of writer.old).rising ≡ true → (writer_of writer.new).mark ≡ to.word + words_met R2.BITS to.bit count }
+    ensures falling_mark { (writer_of writer.old).rising ≡ false → (writer_of writer.new).mark ≡ to.word }
+    ensures bits { memory_bits R2.BITS O2.at_of (map R2.number (writer_of writer.new).words)
+        ≡ copied (memory_bits R.BITS O.at_of (map R.number source.now)) (from.word * R.BITS + from.bit)
+        (memory_bits R2.BITS O2.at_of (map R2.number (writer_of writer.old).words)) (to.word * R2.BITS + to.bit) count }
+{
+    if writer.is_rising() {
+        copy_up::<R, O, R2, O2>(way, source, from, writer, to, count);
+        return;
+    }
+    copy_down::<R, O, R2, O2>(way, source, from, writer, to, count);
+}
+
+// Copies some bits into the writer's memory, in the best way for the two sides.
+//
+// Each way has a loop of its own, so that none of them looks at the way for each word.
+#[inline(always)]
+pub(super) fn copy_across<R: BitRegister, O: BitOrder<R>, R2: BitRegister, O2: BitOrder<R2>>(
+    source: &[R],
+    from: Cursor<R>,
+    writer: &mut WordWriter<R2>,
+    to: Cursor<R2>,
+    count: usize,
+)
+    requires some { 0 < count }
+    requires from_in { from.word * R.BITS + from.bit + count ≤ length source.now * R.BITS }
+    requires to_in { to.word + words_met R2.BITS to.bit count ≤ length (writer_of writer.old).words }
+    requires rising { (writer_of writer.old).rising ≡ true → (writer_of writer.old).mark ≡ to.word }
+    requires falling { (writer_of writer.old).rising ≡ false → (writer_of writer.old).mark ≡ to.word + words_met R2.BITS to.bit count }
+    ensures reference { (writer_memory writer.new).ghost_name ≡ (writer_memory writer.old).ghost_name }
+    ensures direction { (writer_of writer.new).rising ≡ (writer_of writer.old).rising }
+    ensures len { length (writer_of writer.new).words ≡ length (writer_of writer.old).words }
+    ensures writes { (writer_of writer.new).writes ≡ (writer_of writer.old).writes + words_met R2.BITS to.bit count }
+    ensures rising_mark { (writer_of writer.old).rising ≡ true → (writer_of writer.new).mark ≡ to.word + words_met R2.BITS to.bit count }
+    ensures falling_mark { (writer_of writer.old).rising ≡ false → (writer_of writer.new).mark ≡ to.word }
+    ensures bits { memory_bits R2.BITS O2.at_of (map R2.number (writer_of writer.new).words)
+        ≡ copied (memory_bits R.BITS O.at_of (map R.number source.now)) (from.word * R.BITS + from.bit)
+        (memory_bits R2.BITS O2.at_of (map R2.number (writer_of writer.old).words)) (to.word * R2.BITS + to.bit) count }
+{
+    match way_of::<R, O, R2, O2>(from.bit, to.bit) {
+        Way::Whole => {
+            copy_one_way::<R, O, R2, O2>(Way::Whole, source, from, writer, to, count);
+            return;
+        }
+        Way::Rising => {
+            copy_one_way::<R, O, R2, O2>(Way::Rising, source, from, writer, to, count);
+            return;
+        }
+        Way::Falling => {
+            copy_one_way::<R, O, R2, O2>(Way::Falling, source, from, writer, to, count);
+            return;
+        }
+        Way::Singly => {}
+    }
+    copy_one_way::<R, O, R2, O2>(Way::Singly, source, from, writer, to, count);
+}
+
+// Copies some bits inside the writer's memory in one way, in the direction of the writer.
+#[inline(always)]
+fn move_one_way<R: BitRegister, O: BitOrder<R>>(
+    way: Way,
+    from: Cursor<R>,
+    writer: &mut WordWriter<R>,
+    to: Cursor<R>,
+    count: usize,
+)
+    requires some { 0 < count }
+    requires way { Allows way R.BITS O.at_of R.BITS O.at_of from.bit to.bit }
+    requires from_in { from.word * R.BITS + from.bit + count ≤ length (writer_of writer.old).words * R.BITS }
+    requires to_in { to.word + words_met R.BITS to.bit count ≤ length (writer_of writer.old).words }
+    requires before { (writer_of writer.old).rising ≡ true → to.word * R.BITS + to.bit ≤ from.word * R.BITS + from.bit }
+    requires behind { (writer_of writer.old).rising ≡ false → from.word * R.BITS + from.bit ≤ to.word * R.BITS + to.bit }
+    requires rising { (writer_of writer.old).rising ≡ true → (writer_of writer.old).mark ≡ to.word }
+    requires falling { (writer_of writer.old).rising ≡ false → (writer_of writer.old).mark ≡ to.word + words_met R.BITS to.bit count }
+    ensures reference { (writer_memory writer.new).ghost_name ≡ (writer_memory writer.old).ghost_name }
+    ensures direction { (writer_of writer.new).rising ≡ (writer_of writer.old).rising }
+    ensures len { length (writer_of writer.new).words ≡ length (writer_of writer.old).words }
+    ensures writes { (writer_of writer.new).writes ≡ (writer_of writer.old).writes + words_met R.BITS to.bit count }
+    ensures rising_mark { (writer_of writer.old).rising ≡ true → (writer_of writer.new).mark ≡ to.word + words_met R.BITS to.bit count }
+    ensures falling_mark { (writer_of writer.old).rising ≡ false → (writer_of writer.new).mark ≡ to.word }
+    ensures bits { let old = memory_bits R.BITS O.at_of (map R.number (writer_of writer.old).words) in
+        memory_bits R.BITS O.at_of (map R.number (writer_of writer.new).words)
+        ≡ copied old (from.word * R.BITS + from.bit) old (to.word * R.BITS + to.bit) count }
+{
+    if writer.is_rising() {
+        move_down::<R, O>(way, from, writer, to, count);
+        return;
+    }
+    move_up::<R, O>(way, from, writer, to, count);
+}
+
+// Copies some bits inside the writer's memory, in the best way for the two places.
+//
+// Each way has a loop of its own, so that none of them looks at the way for each word.
+#[inline(always)]
+pub(super) fn move_across<R: BitRegister, O: BitOrder<R>>(
+    from: Cursor<R>,
+    writer: &mut WordWriter<R>,
+    to: Cursor<R>,
+    count: usize,
+)
+    requires some { 0 < count }
+    requires from_in { from.word * R.BITS + from.bit + count ≤ length (writer_of writer.old).words * R.BITS }
+    requires to_in { to.word + words_met R.BITS to.bit count ≤ length (writer_of writer.old).words }
+    requires before { (writer_of writer.old).rising ≡ true → to.word * R.BITS + to.bit ≤ from.word * R.BITS + from.bit }
+    requires behind { (writer_of writer.old).rising ≡ false → from.word * R.BITS + from.bit ≤ to.word * R.BITS + to.bit }
+    requires rising { (writer_of writer.old).rising ≡ true → (writer_of writer.old).mark ≡ to.word }
+    requires falling { (writer_of writer.old).rising ≡ false → (writer_of writer.old).mark ≡ to.word + words_met R.BITS to.bit count }
+    ensures reference { (writer_memory writer.new).ghost_name ≡ (writer_memory writer.old).ghost_name }
+    ensures direction { (writer_of writer.new).rising ≡ (writer_of writer.old).rising }
+    ensures len { length (writer_of writer.new).words ≡ length (writer_of writer.old).words }
+    ensures writes { (writer_of writer.new).writes ≡ (writer_of writer.old).writes + words_met R.BITS to.bit count }
+    ensures rising_mark { (writer_of writer.old).rising ≡ true → (writer_of writer.new).mark ≡ to.word + words_met R.BITS to.bit count }
+    ensures falling_mark { (writer_of writer.old).rising ≡ false → (writer_of writer.new).mark ≡ to.word }
+    ensures bits { let old = memory_bits R.BITS O.at_of (map R.number (writer_of writer.old).words) in
+        memory_bits R.BITS O.at_of (map R.number (writer_of writer.new).words)
+        ≡ copied old (from.word * R.BITS + from.bit) old (to.word * R.BITS + to.bit) count }
+{
+    match way_of::<R, O, R, O>(from.bit, to.bit) {
+        Way::Whole => {
+            move_one_way::<R, O>(Way::Whole, from, writer, to, count);
+            return;
+        }
+        Way::Rising => {
+            move_one_way::<R, O>(Way::Rising, from, writer, to, count);
+            return;
+        }
+        Way::Falling => {
+            move_one_way::<R, O>(Way::Falling, from, writer, to, count);
+            return;
+        }
+        Way::Singly => {}
+    }
+    move_one_way::<R, O>(Way::Singly, from, writer, to, count);
+}

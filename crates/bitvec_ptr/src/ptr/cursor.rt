@@ -1,0 +1,117 @@
+//! Places in a memory that the copies go over.
+
+ghost use Rattle.std.specs.Prelude.{◌≡◌, ⊤, ℕ, pos, nat_abs, ◌+◌, ◌-◌, ◌*◌, ◌<◌, ◌≤◌, ◌≤ℤ◌, true, false, length, map};
+ghost use Rattle.bitvec_ptr.specs.BitPtr.{ptr_of};
+ghost use Rattle.bitvec_ptr.specs.Memory.{bit_of};
+ghost use Rattle.bitvec_ptr.specs.Place.{index_of};
+
+use crate::ptr::single::{BitPtr, bit_at};
+use bitvec_mem::mem::BitRegister;
+use bitvec_order::index::BitIdx;
+use bitvec_order::order::BitOrder;
+use std::alloc::AllocError;
+use std::marker::PhantomData;
+
+// A place from the first of a memory on: the index of a word, and that of a bit in it.
+//
+// It is no single number, since the places of a long memory pass the type.
+#[derive_where(Copy)]
+pub(super) struct Cursor<R: BitRegister> {
+    pub(super) word: usize,
+    pub(super) bit: u8,
+    of: PhantomData<R>,
+    pub ghost in_word: { bit ≤ R.BITS - 1 },
+}
+
+impl<R: BitRegister> Clone for Cursor<R> {
+    ghost is_clone = { λ it copy. copy ≡ it };
+
+    ghost is_infallible = { λ _. ⊤ };
+
+    fn clone(&self) -> Result<Self, AllocError> {
+        Ok(*self)
+    }
+}
+
+impl<R: BitRegister> Cursor<R> {
+    // The place of a bit of a word.
+    pub(super) fn new(word: usize, bit: u8) -> Self
+        requires { bit < R.BITS }
+        ensures word { result.word ≡ word }
+        ensures bit { result.bit ≡ bit }
+    {
+        Cursor {
+            word,
+            bit,
+            of: PhantomData,
+        }
+    }
+
+    // The place of a pointer.
+    pub(super) fn at<O>(pointer: BitPtr<R, O>) -> Self
+        requires { pos 0 ≤ℤ (ptr_of pointer).word }
+        ensures word { result.word ≡ nat_abs (ptr_of pointer).word }
+        ensures bit { result.bit ≡ (ptr_of pointer).bit }
+        ensures place { result.word * R.BITS + result.bit ≡ index_of R.BITS (ptr_of pointer) }
+    {
+        Cursor::new(pointer.address() as usize, pointer.bit().into_inner())
+    }
+
+    // The next place.
+    pub(super) fn next(self) -> Self
+        requires { self.word < usize.MAX }
+        ensures { result.word * R.BITS + result.bit ≡ self.word * R.BITS + self.bit + 1 }
+    {
+        if self.bit < R::MASK {
+            Cursor::new(self.word, self.bit + 1)
+        } else {
+            Cursor::new(self.word + 1, 0)
+        }
+    }
+
+    // The place `count` places on.
+    pub(super) fn advanced(self, count: usize) -> Self
+        requires { self.word * R.BITS + self.bit + count < 18446744073709551616 * R.BITS }
+        ensures { result.word * R.BITS + result.bit ≡ self.word * R.BITS + self.bit + count }
+    {
+        let width = usize::from(R::BITS);
+        let bit = usize::from(self.bit) + count % width;
+        Cursor::new(self.word + count / width + bit / width, (bit % width) as u8)
+    }
+
+    // The place as many places on as `count` words of another register have.
+    #[inline(always)]
+    pub(super) fn words_on<R2: BitRegister>(self, count: usize) -> Self
+        requires short { count * R2.BITS ≤ usize.MAX }
+        requires inside { self.word * R.BITS + self.bit + count * R2.BITS < 18446744073709551616 * R.BITS }
+        ensures place { result.word * R.BITS + result.bit ≡ self.word * R.BITS + self.bit + count * R2.BITS }
+        ensures bit { R.BITS ≡ R2.BITS → result.bit ≡ self.bit }
+    {
+        if R::BITS == R2::BITS {
+            let word = self.word + count;
+            return Cursor::new(word, self.bit);
+        }
+        let width = usize::from(R2::BITS);
+        let places = count * width;
+        self.advanced(places)
+    }
+
+    // Whether the place is at or before another.
+    pub(super) fn is_at_most(self, other: Self) -> bool
+        ensures yes { result ≡ true → self.word * R.BITS + self.bit ≤ other.word * R.BITS + other.bit }
+        ensures no { result ≡ false → other.word * R.BITS + other.bit < self.word * R.BITS + self.bit }
+    {
+        if self.word == other.word {
+            return self.bit <= other.bit;
+        }
+        self.word < other.word
+    }
+
+    // The bit at the place.
+    pub(super) fn read<O: BitOrder<R>>(self, memory: &[R]) -> bool
+        requires { self.word < length memory.now }
+        ensures { result ≡ bit_of R.BITS O.at_of (map R.number memory.now) (self.word * R.BITS + self.bit) }
+    {
+        bit_at::<R, O>(memory[self.word], BitIdx::new_unchecked(self.bit))
+    }
+}
