@@ -59,7 +59,8 @@ fn numeral_in(n: u128, base: u8, upper: bool, least: usize, buffer: &mut [u8; 12
 /// Writes the digits of a number in the base, highest first, with zeros before them up to `least`
 /// digits; `upper` chooses the letters' case.
 ///
-/// The caller's flags change nothing. It fails only where the formatter's writer does.
+/// The caller's flags change nothing. The contract says what is written where the call succeeds and the
+/// formatter indents nothing.
 pub fn write_numeral<W: fmt::Write>(
     f: &mut fmt::Formatter<W>,
     n: u128,

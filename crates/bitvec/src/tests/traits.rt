@@ -4,7 +4,7 @@
 //! breaks it is refused, though no contract of the layer names it. That equal values have equal hashes
 //! is a law of `Hash` itself, which each impl shows.
 
-ghost use Rattle.std.specs.Prelude.{◌≡◌, ◌↔◌, ◌-◌, IsTrue, false, Ok, codes};
+ghost use Rattle.std.specs.Prelude.{◌≡◌, ◌↔◌, ◌-◌, pos, IsTrue, Ok, codes};
 ghost use Rattle.std.specs.Ordering.{nat_cmp, int_cmp};
 ghost use Rattle.std.specs.declared.cmp.Ordering.TheVariants.{Less, Equal};
 ghost use Rattle.bitvec_ptr.specs.BitPtr.{ptr_of};
@@ -351,6 +351,15 @@ fn copied_range<R: BitRegister, O>(
     range.clone()
 }
 
+fn default_range<R: BitRegister, O>() -> BitPtrRange<R, O>
+    ensures { range_of result ≡ record {
+      start = record { word = pos 0; bit = 0 };
+      end = record { word = pos 0; bit = 0 };
+    } }
+{
+    BitPtrRange::default()
+}
+
 fn equal_spans<R: BitRegister, O>(here: BitSpan<R, O>, there: BitSpan<R, O>) -> bool
     ensures { IsTrue result ↔ (span_of here ≡ span_of there) }
 {
@@ -361,6 +370,12 @@ fn copied_span<R: BitRegister, O>(span: &BitSpan<R, O>) -> Result<BitSpan<R, O>,
     ensures { result ≡ Ok span.now }
 {
     span.clone()
+}
+
+fn default_span<R: BitRegister, O>() -> BitSpan<R, O>
+    ensures { span_of result ≡ record { word = pos 0; head = 0; len = 0 } }
+{
+    BitSpan::default()
 }
 
 // A refused span: `TooLong` comes before `TooHigh`, and the same case goes by its number.

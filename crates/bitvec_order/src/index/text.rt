@@ -1,7 +1,7 @@
 //! The texts of indices, ends, positions, selectors, masks and the error of an index.
 //!
 //! As in the Rust crate without flags. Here none of them follows the caller's flags, as a width or
-//! a fill.
+//! a fill. The contracts say what is written where a call succeeds and the formatter indents nothing.
 
 ghost use Rattle.std.specs.Prelude.{◌≡◌, ◌⊎◌, ◌+◌, ◌≤◌, false, Some, codes};
 ghost use Rattle.std.specs.Fmt.{DisplaysOnOk, WritesOnOk, WritesStyledOnOk};
