@@ -1,8 +1,8 @@
 //! Copies between two memories and inside one.
 
-ghost use Rattle.std.specs.Prelude.{length};
-ghost use Rattle.bitvec_ptr.specs.BitPtr.{ptr_of};
-ghost use Rattle.bitvec_ptr.specs.Steps.{RunsIn};
+ghost use Rattle.std.specs.Prelude.{◌<◌, length};
+ghost use Rattle.bitvec.specs.BitPtr.{ptr_of};
+ghost use Rattle.bitvec.specs.Steps.{RunsIn};
 
 use crate::timer::{Job, Mode, Name, tell, time};
 use crate::words::{Formula, bytes, is_copied, words};
@@ -28,7 +28,8 @@ impl<R: BitRegister, O: BitOrder<R>, O2: BitOrder<u64>> Job for Across<'_, R, O,
 
     #[inline(never)]
     fn go(&mut self) {
-        self.from.copy_to(self.source, self.to, self.target, self.count);
+        self.from
+            .copy_to(self.source, self.to, self.target, self.count);
     }
 }
 
@@ -175,7 +176,10 @@ fn one_order<O: BitOrder<u64> + Formula>(
         kind: "shifted",
     };
     copy_across::<u64, O, O>(rt, mode, name, source, ends(LOW, NEAR), units)?;
-    let name = Name { group, kind: "down" };
+    let name = Name {
+        group,
+        kind: "down",
+    };
     copy_within::<O>(rt, mode, name, ends(HIGH, LOW))?;
     let name = Name { group, kind: "up" };
     copy_within::<O>(rt, mode, name, ends(LOW, HIGH))
@@ -199,16 +203,37 @@ pub fn copies(rt: HostRuntime, mode: Mode) -> io::Result<()> {
     };
     let count = (mode.words() - 4) * 8;
     let bytes = bytes(rt, mode.words())?;
-    copy_across::<u8, Lsb0, Lsb0>(rt, mode, name, &bytes, Ends { from, to, count }, units(count))?;
+    copy_across::<u8, Lsb0, Lsb0>(
+        rt,
+        mode,
+        name,
+        &bytes,
+        Ends { from, to, count },
+        units(count),
+    )?;
     let count = (mode.words() - 4) * 64;
     let name = Name {
         group: "copy-lsb0-",
         kind: "msb0",
     };
-    copy_across::<u64, Lsb0, Msb0>(rt, mode, name, &source, Ends { from, to, count }, units(count))?;
+    copy_across::<u64, Lsb0, Msb0>(
+        rt,
+        mode,
+        name,
+        &source,
+        Ends { from, to, count },
+        units(count),
+    )?;
     let name = Name {
         group: "copy-hilo-",
         kind: "shifted",
     };
-    copy_across::<u64, HiLo, HiLo>(rt, mode, name, &source, Ends { from, to, count }, units(count))
+    copy_across::<u64, HiLo, HiLo>(
+        rt,
+        mode,
+        name,
+        &source,
+        Ends { from, to, count },
+        units(count),
+    )
 }

@@ -1,8 +1,8 @@
 //! Passes over the words of a domain, and a fill.
 
 ghost use Rattle.std.specs.Prelude.{length};
-ghost use Rattle.bitvec_domain.specs.BitSpan.{span_of};
-ghost use Rattle.bitvec_domain.specs.Span.{Fits};
+ghost use Rattle.bitvec.specs.BitSpan.{span_of};
+ghost use Rattle.bitvec.specs.Span.{Fits};
 
 use crate::timer::{Job, Mode, Name, tell, time};
 use crate::words::{bit, words};
@@ -109,8 +109,14 @@ fn passes(rt: HostRuntime, mode: Mode, span: BitSpan<u64, Lsb0>) -> io::Result<(
     }
     let units = 65536;
     let group = "domain-";
-    let whole = Name { group, kind: "pass" };
-    let inside = Name { group, kind: "body" };
+    let whole = Name {
+        group,
+        kind: "pass",
+    };
+    let inside = Name {
+        group,
+        kind: "body",
+    };
     let words = words.as_slice();
     let sum = 0;
     let mut pass = Pass { span, words, sum };
@@ -121,7 +127,11 @@ fn passes(rt: HostRuntime, mode: Mode, span: BitSpan<u64, Lsb0>) -> io::Result<(
     }
     pass.go();
     body.go();
-    tell(rt, whole, pass.sum == sum_inside(words) ^ sum_of_ends(words))?;
+    tell(
+        rt,
+        whole,
+        pass.sum == sum_inside(words) ^ sum_of_ends(words),
+    )?;
     tell(rt, inside, body.sum == sum_inside(words))
 }
 

@@ -12,8 +12,7 @@ mod timer;
 mod words;
 
 use crate::timer::Mode;
-use std::env;
-use std::io;
+use std::{env, io};
 
 fn main(rt: HostRuntime) -> io::Result<()> {
     let mode = match env::args(&rt)?.nth(1) {

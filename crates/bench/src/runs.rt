@@ -1,7 +1,7 @@
 //! Runs of requests through the spans of one memory, and the test of these spans.
 
 ghost use Rattle.std.specs.Prelude.{◌≡◌, ◌<◌, length};
-ghost use Rattle.bitvec_domain.specs.BitSpan.{span_of};
+ghost use Rattle.bitvec.specs.BitSpan.{span_of};
 ghost use Rattle.bitvec.specs.Run.{CanRun};
 
 use crate::timer::{Job, Mode, Name, tell, time};
@@ -169,7 +169,7 @@ fn test_spans(rt: HostRuntime, mode: Mode, kind: &str, count: u16) -> io::Result
     let group = "can-run-";
     let name = Name { group, kind };
     if mode == Mode::Compare {
-        let agrees = is_right(rt, count, mode.words())?;
+        let agrees = is_right(rt, count / 10, mode.words())?;
         return tell(rt, name, agrees);
     }
     let spans = rising(rt, count)?;

@@ -84,12 +84,7 @@ fn best<J: Job>(clock: &impl Clock, job: &mut J, repeats: u64) -> io::Result<u64
 }
 
 /// Times a job of so many units, and prints the nanoseconds of one of them.
-pub fn time<J: Job>(
-    rt: HostRuntime,
-    name: Name,
-    units: u32,
-    job: &mut J,
-) -> io::Result<()>
+pub fn time<J: Job>(rt: HostRuntime, name: Name, units: u32, job: &mut J) -> io::Result<()>
     requires ready { J.ready job.old }
     requires some { 0 < units }
 {
