@@ -1,6 +1,6 @@
 //! Orders and candidates that no crate of the layer knows of: what it answers under them.
 
-ghost use Rattle.std.specs.Prelude.{◌≡◌, ℕ, ◌+◌, ◌%◌, ◌^◌, ◌<◌, ◌≤◌, ◌==◌, ◌&&◌, Bool, is_none, unwrap_or, if◌then◌else◌};
+ghost use Rattle.std.specs.Prelude.{◌≡◌, ℕ, ◌+◌, ◌%◌, ◌^◌, ◌<◌, ◌≤◌, ◌==◌, ◌&&◌, Bool, true, false, is_none, unwrap_or, if◌then◌else◌};
 ghost use Rattle.bitvec.specs.Order.{mask_start, mask_end, plain_mask_of};
 ghost use Rattle.bits.specs.Orders.{rotated, rotated_one_to_one, tabled, tabled_one_to_one};
 
@@ -123,20 +123,25 @@ fn a_run_under_rot(rt: HostRuntime) {
     let mut memory = [0xFB];
     let mut replies = [Reply::NoSpan; 1];
     assert!(rt; can_run(&spans, memory.len()));
-    run(&spans, &mut memory, &[to(1, Command::Swap(0, 3))], &mut replies);
+    run(
+        &spans,
+        &mut memory,
+        &[to(1, Command::Swap(0, 3))],
+        &mut replies,
+    );
     assert_eq!(rt; (replies, memory), ([Reply::Done], [0x7F]));
-    run(&spans, &mut memory, &[to(0, Command::Invert(0))], &mut replies);
+    run(
+        &spans,
+        &mut memory,
+        &[to(0, Command::Invert(0))],
+        &mut replies,
+    );
     assert_eq!(rt; (replies, memory), ([Reply::Word(0x78)], [0x07]));
 }
 
 /// The replies and the memory of one bit set in each of four nibbles.
 fn nibbles<O: BitOrder<u8>>() -> Option<([Reply<u8>; 4], [u8; 2])> {
-    let spans: [BitSpan<u8, O>; 4] = [
-        span_at(0, 4),
-        span_at(4, 4),
-        span_at(8, 4),
-        span_at(12, 4),
-    ];
+    let spans: [BitSpan<u8, O>; 4] = [span_at(0, 4), span_at(4, 4), span_at(8, 4), span_at(12, 4)];
     let requests = [
         to(0, Command::Replace(0, true)),
         to(1, Command::Replace(1, true)),
@@ -168,11 +173,19 @@ fn bits_of_a_store<O: BitOrder<u8>>(number: u8) -> Option<[Reply<u8>; 9]> {
 
 #[test]
 fn a_number_turned_from_lsb0_to_msb0(rt: HostRuntime) {
-    let stored = bits_of_a_store::<Lsb0>(0x0D);
-    assert_eq!(rt; stored, bits_of_a_store::<Msb0>(0xB0));
-    let bits = [true, false, true, true, false, false, false, false].map(Reply::Bit);
-    assert_eq!(rt; stored.map(|replies| replies[0]), Some(Reply::Word(0)));
-    assert_eq!(rt; stored.map(|[_, bits @ ..]| bits), Some(bits));
+    let want = [
+        Reply::Word(0),
+        Reply::Bit(true),
+        Reply::Bit(false),
+        Reply::Bit(true),
+        Reply::Bit(true),
+        Reply::Bit(false),
+        Reply::Bit(false),
+        Reply::Bit(false),
+        Reply::Bit(false),
+    ];
+    assert_eq!(rt; bits_of_a_store::<Lsb0>(0x0D), Some(want));
+    assert_eq!(rt; bits_of_a_store::<Msb0>(0xB0), Some(want));
 }
 
 /// `Lsb0`, but the position of `INDEX` is `TO`, and the selector of `SELECTED` that of the position
@@ -180,8 +193,7 @@ fn a_number_turned_from_lsb0_to_msb0(rt: HostRuntime) {
 struct Moved<const INDEX: u8, const TO: u8, const SELECTED: u8, const AS: u8>;
 
 impl<const INDEX: u8, const TO: u8, const SELECTED: u8, const AS: u8> Positions<u8>
-    for Moved<INDEX, TO, SELECTED, AS>
-{
+    for Moved<INDEX, TO, SELECTED, AS> {
     ghost at_of = { λ i. if i == INDEX then TO % 8 else i };
 
     fn position(index: u8) -> u8 {
@@ -190,8 +202,7 @@ impl<const INDEX: u8, const TO: u8, const SELECTED: u8, const AS: u8> Positions<
 }
 
 impl<const INDEX: u8, const TO: u8, const SELECTED: u8, const AS: u8> Numbers<u8>
-    for Moved<INDEX, TO, SELECTED, AS>
-{
+    for Moved<INDEX, TO, SELECTED, AS> {
     ghost select_of = { λ i. 2 ^ (if i == SELECTED then AS % 8 else (if i == INDEX then TO % 8 else i)) };
 
     ghost mask_of = { λ from upto. plain_mask_of (λ i. if i == INDEX then TO % 8 else i) (mask_start from) (mask_end 8 upto) };
@@ -258,8 +269,7 @@ const ABSENT: u8 = 9;
 struct Masked<const FROM: u8, const OTHER: u8, const UPTO: u8, const MASK: u8>;
 
 impl<const FROM: u8, const OTHER: u8, const UPTO: u8, const MASK: u8> Positions<u8>
-    for Masked<FROM, OTHER, UPTO, MASK>
-{
+    for Masked<FROM, OTHER, UPTO, MASK> {
     ghost at_of = { λ i. i };
 
     fn position(index: u8) -> u8 {
@@ -268,8 +278,7 @@ impl<const FROM: u8, const OTHER: u8, const UPTO: u8, const MASK: u8> Positions<
 }
 
 impl<const FROM: u8, const OTHER: u8, const UPTO: u8, const MASK: u8> Numbers<u8>
-    for Masked<FROM, OTHER, UPTO, MASK>
-{
+    for Masked<FROM, OTHER, UPTO, MASK> {
     ghost select_of = { λ i. 2 ^ i };
 
     ghost mask_of = { λ from upto.
@@ -412,14 +421,26 @@ fn open_fault<R: BitRegister>() -> Option<OrderFault<R>> {
     })
 }
 
+/// The fault at `u64`, where that is the first register with one.
+fn fault_at_u64<const USIZE: bool>() -> Option<OrderFault<u64>> {
+    match verify::<ByNumbers<Open<Wide<USIZE>>>>() {
+        Err(VerifyFault::U64(fault)) => Some(fault),
+        _ => None,
+    }
+}
+
+/// The fault at `usize`, where that is the first register with one.
+fn fault_at_usize<const USIZE: bool>() -> Option<OrderFault<usize>> {
+    match verify::<ByNumbers<Open<Wide<USIZE>>>>() {
+        Err(VerifyFault::Usize(fault)) => Some(fault),
+        _ => None,
+    }
+}
+
 #[test]
 fn faults_at_some_registers(rt: HostRuntime) {
-    assert_eq!(rt;
-        verify::<ByNumbers<Open<Wide<false>>>>().err(),
-        open_fault().map(VerifyFault::U64)
-    );
-    assert_eq!(rt;
-        verify::<ByNumbers<Open<Wide<true>>>>().err(),
-        open_fault().map(VerifyFault::Usize)
-    );
+    assert!(rt; fault_at_u64::<false>().is_some());
+    assert_eq!(rt; fault_at_u64::<false>(), open_fault());
+    assert!(rt; fault_at_usize::<true>().is_some());
+    assert_eq!(rt; fault_at_usize::<true>(), open_fault());
 }
