@@ -132,39 +132,40 @@ fn index_cycle(rt: HostRuntime) -> Result<(), Fail> {
     Ok(())
 }
 
-#[test]
-fn jumps(rt: HostRuntime) -> Result<(), Fail> {
-    for (from, by, words, index) in [
-        (1, 2, 0, 3),
-        (7, 1, 1, 0),
-        (3, -4, -1, 7),
-        (7, isize::MAX, -1_152_921_504_606_846_976, 6),
-    ] {
-        let want = (words, BitIdx::new(index)?);
-        assert_eq!(rt; BitIdx::<u8>::new(from)?.offset(by), want, "{from} by {by}");
-    }
-    assert_eq!(rt; BitIdx::<u16>::new(10)?.offset(40), (3, BitIdx::new(2)?));
-    Ok(())
+// Whether a step from an index ends so many registers on, at that index.
+fn jumps_to<R: BitRegister>(from: u8, by: isize, words: isize, index: u8) -> bool {
+    let Ok(from) = BitIdx::<R>::new(from) else {
+        return false;
+    };
+    let (carried, end) = from.offset(by);
+    carried == words && end.into_inner() == index
 }
 
 #[test]
-fn spans(rt: HostRuntime) -> Result<(), Fail> {
-    for (from, len, elements, tail) in [
-        (4, 0, 0, 4),
-        (3, 3, 1, 6),
-        (7, usize::MAX, 2_305_843_009_213_693_953, 6),
-    ] {
-        let tail = BitEnd::new(tail).ok_or("an end")?;
-        assert_eq!(rt;
-            BitIdx::<u8>::new(from)?.span(len),
-            (elements, tail),
-            "{from} for {len}"
-        );
-    }
-    let tail = BitEnd::new(2).ok_or("an end")?;
-    assert_eq!(rt; BitIdx::<u16>::new(10)?.span(40), (4, tail));
+fn jumps(rt: HostRuntime) {
+    assert!(rt; jumps_to::<u8>(1, 2, 0, 3));
+    assert!(rt; jumps_to::<u8>(7, 1, 1, 0));
+    assert!(rt; jumps_to::<u8>(3, -4, -1, 7));
+    assert!(rt; jumps_to::<u8>(7, isize::MAX, -1_152_921_504_606_846_976, 6));
+    assert!(rt; jumps_to::<u16>(10, 40, 3, 2));
+}
+
+// Whether a run of bits from an index meets so many registers and ends there in the last.
+fn spans_to<R: BitRegister>(from: u8, len: usize, elements: usize, tail: u8) -> bool {
+    let Ok(from) = BitIdx::<R>::new(from) else {
+        return false;
+    };
+    let (met, end) = from.span(len);
+    met == elements && end.into_inner() == tail
+}
+
+#[test]
+fn spans(rt: HostRuntime) {
+    assert!(rt; spans_to::<u8>(4, 0, 0, 4));
+    assert!(rt; spans_to::<u8>(3, 3, 1, 6));
+    assert!(rt; spans_to::<u8>(7, usize::MAX, 2_305_843_009_213_693_953, 6));
+    assert!(rt; spans_to::<u16>(10, 40, 4, 2));
     assert_eq!(rt; BitEnd::<u8>::MAX.span(8), (1, BitEnd::MAX));
-    Ok(())
 }
 
 // A value as its `Binary` shows it, since a format takes that of numbers alone.

@@ -157,37 +157,22 @@ fn names_the_case_of_a_refusal(rt: HostRuntime) -> Result<(), Fail> {
     Ok(())
 }
 
-// The most bits of a span, the most words that it can meet, and the most words of a body that
-// `into_bit_domain` takes.
-fn limits<R: BitRegister>() -> (usize, usize, usize) {
+// Whether these are the most words that a span can meet, and the most of a body that `into_bit_domain`
+// takes, where a span has at most 2305843009213693951 bits.
+fn has_limits<R: BitRegister>(words: usize, body: usize) -> bool {
     let bits = BitSpan::<R, Lsb0>::REGION_MAX_BITS;
-    let words = BitSpan::<R, Lsb0>::REGION_MAX_ELTS;
-    (bits, words, bits / bits_of::<R>())
+    bits == 2305843009213693951
+        && BitSpan::<R, Lsb0>::REGION_MAX_ELTS == words
+        && bits / bits_of::<R>() == body
 }
 
 #[test]
 fn has_the_limits_of_each_register(rt: HostRuntime) {
-    let bits = 2305843009213693951;
-    assert_eq!(rt;
-        limits::<u8>(),
-        (bits, 288230376151711745, 288230376151711743)
-    );
-    assert_eq!(rt;
-        limits::<u16>(),
-        (bits, 144115188075855873, 144115188075855871)
-    );
-    assert_eq!(rt;
-        limits::<u32>(),
-        (bits, 72057594037927937, 72057594037927935)
-    );
-    assert_eq!(rt;
-        limits::<u64>(),
-        (bits, 36028797018963969, 36028797018963967)
-    );
-    assert_eq!(rt;
-        limits::<usize>(),
-        (bits, 36028797018963969, 36028797018963967)
-    );
+    assert!(rt; has_limits::<u8>(288230376151711745, 288230376151711743));
+    assert!(rt; has_limits::<u16>(144115188075855873, 144115188075855871));
+    assert!(rt; has_limits::<u32>(72057594037927937, 72057594037927935));
+    assert!(rt; has_limits::<u64>(36028797018963969, 36028797018963967));
+    assert!(rt; has_limits::<usize>(36028797018963969, 36028797018963967));
 }
 
 #[test]
