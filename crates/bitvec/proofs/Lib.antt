@@ -1,5 +1,6 @@
 pub mod CommandLemmas
 pub mod ElementLemmas
+pub mod EndLemmas
 pub mod LaterLemmas
 pub mod MoveLemmas
 pub mod PointerLaws
