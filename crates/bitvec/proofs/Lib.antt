@@ -2,6 +2,7 @@ pub mod BitCommandLemmas
 pub mod CommandLemmas
 pub mod DisjointMasks
 pub mod ElementLemmas
+pub mod EndLemmas
 pub mod LaterLemmas
 pub mod LawLemmas
 pub mod MoveLemmas

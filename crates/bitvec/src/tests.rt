@@ -1,6 +1,7 @@
 //! The layer by the names that a user writes.
 
 mod domains;
+mod ends;
 mod index;
 mod laws;
 mod order;

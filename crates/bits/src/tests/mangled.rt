@@ -131,9 +131,6 @@ fn ill_formed_calls_have_one_line(rt: HostRuntime) -> Result<(), Fail> {
             }
         }
     }
-    assert!(rt;
-        answered > 100 && refused > 2000,
-        "{answered} and {refused}"
-    );
+    assert!(rt; answered > 0 && refused > 1000, "{answered} and {refused}");
     Ok(())
 }
