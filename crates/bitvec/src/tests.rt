@@ -1,5 +1,6 @@
 //! The layer by the names that a user writes.
 
+mod copies;
 mod domains;
 mod ends;
 mod index;
