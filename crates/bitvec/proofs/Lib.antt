@@ -3,7 +3,6 @@ pub mod ElementLemmas
 pub mod LaterLemmas
 pub mod MoveLemmas
 pub mod PointerLaws
-pub mod PointerLemmas
 pub mod RequestLemmas
 pub mod RunLemmas
 pub mod SameRunLemmas
