@@ -7,7 +7,6 @@ pub mod LaterLemmas
 pub mod LawLemmas
 pub mod MoveLemmas
 pub mod PointerLaws
-pub mod PointerLemmas
 pub mod RequestLemmas
 pub mod RisingLemmas
 pub mod RunLemmas

@@ -6,12 +6,16 @@ pub mod FillLemmas
 pub mod FilledLemmas
 pub mod ItemLemmas
 pub mod JoinLemmas
+pub mod LeftLemmas
 pub mod LentSlices
 pub mod LoanEnds
 pub mod LoanLemmas
 pub mod PartLemmas
+pub mod PlacedLemmas
+pub mod PointerLemmas
 pub mod RunLemmas
 pub mod SameSpans
 pub mod SliceLemmas
 pub mod TextLemmas
 pub mod WordsLemmas
+pub mod WrittenLemmas

@@ -39,7 +39,7 @@ named-slots (Region (Some head) body None) = (refl, refl)
 named-slots (Region None body (Some tail)) = (refl, refl)
 named-slots (Region None body None) = (refl, refl)
 
-is_some-if : {X : Type 0} (b : Bool) (x : X) → is_some (if b then Some x else None) ≡ b
+pub is_some-if : {X : Type 0} (b : Bool) (x : X) → is_some (if b then Some x else None) ≡ b
 is_some-if true x = refl
 is_some-if false x = refl
 

@@ -1,5 +1,5 @@
 -- The parts that a span has in the words of a memory, and their values.
-use Rattle.std.specs.Prelude.{ℕ, nat_abs, ◌+◌, ◌-◌, ◌/◌, ◌≤◌, ◌&&◌, Bool, true, false, length, ◌==◌, if◌then◌else◌, List, [], ◌∷◌, ◌++◌, Option, Some, None, map, nat_le, nat_lt, slice_index, slice_range}
+use Rattle.std.specs.Prelude.{◌≡◌, ℕ, nat_abs, ◌+◌, ◌-◌, ◌/◌, ◌≤◌, ◌&&◌, Bool, true, false, length, ◌==◌, if◌then◌else◌, List, [], ◌∷◌, ◌++◌, Option, Some, None, map, nat_le, nat_lt, slice_index, slice_range, take}
 use Rattle.bitvec_mem.specs.Digit.{digit}
 use Rattle.bitvec_order.specs.Order.{number_of}
 use Rattle.bitvec_ptr.specs.Place.{words_met, tail_of}
@@ -74,3 +74,29 @@ body_len (region head body tail) = length body
 -- there are no more whole words than a span's bits can fill
 abbrev pub HasShortBody : ℕ → Parts → Type 0
 HasShortBody bits parts = body_len parts ≤ region_max_bits / bits
+
+-- no parts
+abbrev pub no_parts : Parts
+no_parts = region None [] None
+
+-- what is left once the first item is taken: the parts behind it, and behind the last of all no parts
+abbrev pub after_first : Parts → Parts
+after_first (enclave part) = no_parts
+after_first (region (Some head) body tail) = region None body tail
+after_first (region None (word ∷ body) tail) = region None body tail
+after_first (region None [] tail) = no_parts
+
+-- what is left once the last item is taken, in the same way from the back
+abbrev pub before_last : Parts → Parts
+before_last (enclave part) = no_parts
+before_last (region head body (Some tail)) = region head body None
+before_last (region head (word ∷ body) None) = region head (take (length body) (word ∷ body)) None
+before_last (region head [] None) = no_parts
+
+-- the parts that a call leaves which takes the first item, whose body is short where it was
+abbrev pub LeavesAfterFirst : ℕ → Parts → Parts → Type 0
+LeavesAfterFirst bits old new = (new ≡ after_first old) × (HasShortBody bits old → HasShortBody bits new)
+
+-- those that a call leaves which takes the last
+abbrev pub LeavesBeforeLast : ℕ → Parts → Parts → Type 0
+LeavesBeforeLast bits old new = (new ≡ before_last old) × (HasShortBody bits old → HasShortBody bits new)

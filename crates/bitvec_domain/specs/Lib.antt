@@ -18,6 +18,7 @@ pub mod Words
 pub mod WordsMut
 pub mod WordsMutView
 pub mod WordsView
+pub mod Written
 pub use Rattle.bitvec_mem.specs.Digit
 pub use Rattle.bitvec_mem.specs.Numeral
 pub use Rattle.bitvec_order.specs.Order

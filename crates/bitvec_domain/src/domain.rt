@@ -20,6 +20,7 @@ mod lent;
 mod text;
 mod words;
 mod words_mut;
+mod written;
 
 pub use self::bits_lent::BitDomainMut;
 pub use self::edit::PartialElementMut;
@@ -322,13 +323,18 @@ impl<'a, R: BitRegister, O: BitOrder<R>> Iterator for Domain<'a, R, O> {
     type Item = R;
 
     ghost use Rattle.std.specs.Iterator.{YieldsFirstBy, item_count};
-    ghost use Rattle.bitvec_domain.specs.Domain.{items};
+    ghost use Rattle.bitvec_domain.specs.Domain.{items, LeavesAfterFirst};
     ghost use Rattle.bitvec_domain.specs.DomainView.{domain_parts};
 
-    ghost next_gives = { YieldsFirstBy R.number (λ d. items R.BITS O.at_of (domain_parts R.number d)) };
+    ghost next_gives = { λ d item rest. YieldsFirstBy R.number (λ d. items R.BITS O.at_of (domain_parts R.number d)) d item rest
+        × LeavesAfterFirst R.BITS (domain_parts R.number d) (domain_parts R.number rest) };
 
     ghost remaining = { item_count (λ d. items R.BITS O.at_of (domain_parts R.number d)) };
 
+    /// Takes the first item; what is left are the parts behind it.
+    ///
+    /// After an enclave or the last item that is the empty region. The body grows no longer, so
+    /// [`len`](Domain::len) may be called after it where it could be before.
     fn next(&mut self) -> Option<R> {
         match *self {
             Domain::Enclave(part) => {
@@ -373,11 +379,13 @@ impl<'a, R: BitRegister, O: BitOrder<R>> Iterator for Domain<'a, R, O> {
 
 impl<'a, R: BitRegister, O: BitOrder<R>> DoubleEndedIterator for Domain<'a, R, O> {
     ghost use Rattle.std.specs.Iterator.{YieldsLastBy};
-    ghost use Rattle.bitvec_domain.specs.Domain.{items};
+    ghost use Rattle.bitvec_domain.specs.Domain.{items, LeavesBeforeLast};
     ghost use Rattle.bitvec_domain.specs.DomainView.{domain_parts};
 
-    ghost next_back_gives = { YieldsLastBy R.number (λ d. items R.BITS O.at_of (domain_parts R.number d)) };
+    ghost next_back_gives = { λ d item rest. YieldsLastBy R.number (λ d. items R.BITS O.at_of (domain_parts R.number d)) d item rest
+        × LeavesBeforeLast R.BITS (domain_parts R.number d) (domain_parts R.number rest) };
 
+    /// Takes the last item; what is left are the parts before it, in the same way.
     fn next_back(&mut self) -> Option<R> {
         match *self {
             Domain::Enclave(part) => {

@@ -1,7 +1,7 @@
 //! Domains of worked examples, from both ends, as texts, as bits and for writing.
 
 use super::span_at;
-use crate::domain::{BitDomain, BitDomainMut, BitWords, Domain, PartialElement};
+use crate::domain::{BitDomain, BitDomainMut, BitWords, Domain, DomainMut, PartialElement};
 use crate::mem::BitRegister;
 use crate::order::{BitOrder, Lsb0, Msb0};
 use crate::ptr::span::BitSpan;
@@ -57,6 +57,77 @@ fn takes_items_from_both_ends(rt: HostRuntime) -> Result<(), Fail> {
     let mut domain = domain_at::<u8, Lsb0>(&memory, 18, 4).ok_or("does not fit")?;
     assert_eq!(rt; domain.next_back(), Some(0x14));
     assert_eq!(rt; domain.next(), None);
+    Ok(())
+}
+
+// How many items are left of a span's domain, once the first and the last are taken.
+fn count_inner<R: BitRegister, O: BitOrder<R>>(span: BitSpan<R, O>, memory: &[R]) -> Option<usize> {
+    if !span.fits(memory.len()) {
+        return None;
+    }
+    let mut domain = span.domain(memory);
+    let _first = domain.next();
+    let _last = domain.next_back();
+    Some(domain.len())
+}
+
+#[test]
+fn counts_what_is_left(rt: HostRuntime) -> Result<(), Fail> {
+    let memory = [0x12u8, 0x34, 0x56];
+    for (start, len, want) in [(4, 16, 1), (0, 24, 1), (4, 8, 0), (18, 4, 0), (3, 0, 0)] {
+        let span: BitSpan<u8, Lsb0> = span_at(start, len).ok_or("refused")?;
+        assert_eq!(rt; count_inner(span, &memory), Some(want), "at {start}+{len}");
+    }
+    let mut domain = domain_at::<u8, Lsb0>(&memory, 4, 16).ok_or("does not fit")?;
+    assert_eq!(rt; domain.next(), Some(0x10));
+    assert_eq!(rt; domain.next_back(), Some(0x06));
+    assert_eq!(rt; domain.next(), Some(0x34));
+    for _ in 0..3 {
+        assert_eq!(rt; domain.next(), None);
+        assert_eq!(rt; domain.next_back(), None);
+    }
+    Ok(())
+}
+
+// A region whose head and whose tail are the last four bits of a byte, round one whole word, and how
+// many items it has.
+fn twice_round<'a>(byte: &'a [u8], body: &'a [u8]) -> Option<(Domain<'a, u8, Lsb0>, usize)> {
+    let span: BitSpan<u8, Lsb0> = span_at(4, 4)?;
+    if !span.fits(byte.len()) || body.len() != 1 {
+        return None;
+    }
+    let (head, _, _) = span.domain(byte).region()?;
+    let domain = Domain::Region {
+        head,
+        body,
+        tail: head,
+    };
+    let count = domain.len();
+    Some((domain, count))
+}
+
+#[test]
+fn gives_the_items_of_a_region_of_ones_own(rt: HostRuntime) -> Result<(), Fail> {
+    let (mut domain, count) = twice_round(&[0x12], &[0xFF]).ok_or("an enclave")?;
+    assert_eq!(rt; count, 3);
+    let mut again = domain;
+    for want in [0x10, 0xFF, 0x10] {
+        assert_eq!(rt; domain.next(), Some(want));
+        assert_eq!(rt; again.next_back(), Some(want));
+    }
+    assert_eq!(rt; domain.next(), None);
+    assert_eq!(rt; again.next_back(), None);
+    Ok(())
+}
+
+#[test]
+fn is_empty_by_default(rt: HostRuntime) -> Result<(), Fail> {
+    let none: Domain<u16, Msb0> = Domain::default();
+    let (head, body, tail) = none.region().ok_or("an enclave")?;
+    assert!(rt; head.is_none() && body.is_empty() && tail.is_none());
+    let none: DomainMut<u16, Msb0> = DomainMut::default();
+    let (head, body, tail) = none.region().ok_or("an enclave")?;
+    assert!(rt; head.is_none() && body.is_empty() && tail.is_none());
     Ok(())
 }
 
@@ -147,12 +218,13 @@ fn has_parts_of_three_words(rt: HostRuntime) -> Result<(), Fail> {
     Ok(())
 }
 
-// The head, the length and the number of words of the parts of a span's bits.
+// The head, the length and the number of words of the parts of a span's bits, behind whether they are
+// one run alone.
 fn runs<R: BitRegister, O: BitOrder<R>>(
     memory: &[R],
     start: u32,
     len: usize,
-) -> Option<[(u8, usize, usize); 3]> {
+) -> Option<(bool, [(u8, usize, usize); 3])> {
     let span = span_at::<R, O>(start, len)?;
     if !span.fits(memory.len()) {
         return None;
@@ -160,13 +232,13 @@ fn runs<R: BitRegister, O: BitOrder<R>>(
     match span.bit_domain(memory) {
         BitDomain::Enclave(all) => {
             let one = (all.head().into_inner(), all.len(), all.words().len());
-            Some([one, (0, 0, 0), (0, 0, 0)])
+            Some((true, [one, (0, 0, 0), (0, 0, 0)]))
         }
         BitDomain::Region { head, body, tail } => {
             let first = (head.head().into_inner(), head.len(), head.words().len());
             let middle = (body.head().into_inner(), body.len(), body.words().len());
             let last = (tail.head().into_inner(), tail.len(), tail.words().len());
-            Some([first, middle, last])
+            Some((false, [first, middle, last]))
         }
     }
 }
@@ -174,21 +246,45 @@ fn runs<R: BitRegister, O: BitOrder<R>>(
 #[test]
 fn has_bits_of_three_words(rt: HostRuntime) -> Result<(), Fail> {
     let memory = [0xffff_ffffu32; 3];
-    for (start, len, want) in [
-        (0, 96, [(0, 0, 0), (0, 96, 3), (0, 0, 0)]),
-        (2, 94, [(2, 30, 1), (0, 64, 2), (0, 0, 0)]),
-        (0, 94, [(0, 0, 0), (0, 64, 2), (0, 30, 1)]),
-        (2, 92, [(2, 30, 1), (0, 32, 1), (0, 30, 1)]),
-        (34, 28, [(2, 28, 1), (0, 0, 0), (0, 0, 0)]),
+    for (start, len, alone, want) in [
+        (0, 96, false, [(0, 0, 0), (0, 96, 3), (0, 0, 0)]),
+        (2, 94, false, [(2, 30, 1), (0, 64, 2), (0, 0, 0)]),
+        (0, 94, false, [(0, 0, 0), (0, 64, 2), (0, 30, 1)]),
+        (2, 92, false, [(2, 30, 1), (0, 32, 1), (0, 30, 1)]),
+        (34, 28, true, [(2, 28, 1), (0, 0, 0), (0, 0, 0)]),
     ] {
         assert_eq!(rt;
             runs::<u32, Msb0>(&memory, start, len),
-            Some(want),
+            Some((alone, want)),
             "at {start}+{len}"
         );
     }
     let (head, body, tail) = default_bits::<u32, Msb0>().ok_or("an enclave")?;
     assert!(rt; head.is_empty() && body.is_empty() && tail.is_empty());
+    Ok(())
+}
+
+// The bits of that span in a memory.
+fn bit_domain_at<R: BitRegister, O: BitOrder<R>>(
+    memory: &[R],
+    start: u32,
+    len: usize,
+) -> Option<BitDomain<R, O>> {
+    let span = span_at::<R, O>(start, len)?;
+    if span.fits(memory.len()) {
+        Some(span.bit_domain(memory))
+    } else {
+        None
+    }
+}
+
+#[test]
+fn is_one_run_or_three(rt: HostRuntime) -> Result<(), Fail> {
+    let memory = [0x12u8, 0x34, 0x56];
+    let three = bit_domain_at::<u8, Lsb0>(&memory, 4, 16).ok_or("does not fit")?;
+    assert!(rt; three.enclave().is_none() && three.region().is_some());
+    let one = bit_domain_at::<u8, Lsb0>(&memory, 18, 4).ok_or("does not fit")?;
+    assert!(rt; one.region().is_none() && one.enclave().is_some());
     Ok(())
 }
 
@@ -225,6 +321,27 @@ fn hands_on_the_words_of_its_bits(rt: HostRuntime) -> Result<(), Fail> {
     assert!(rt; tail.read(1));
     assert!(rt; !tail.read(3));
     Ok(())
+}
+
+// Stores a word in the part of the bits from 2 to 6 of a byte, and answers what stood there.
+fn stores(byte: &mut [u8], value: u8) -> Option<u8> {
+    let span: BitSpan<u8, Lsb0> = span_at(2, 4)?;
+    if !span.fits(byte.len()) || span.elements() == 0 {
+        return None;
+    }
+    Some(span.part_mut(byte, 0).store_value(value))
+}
+
+#[test]
+fn stores_in_the_governed_bits_alone(rt: HostRuntime) {
+    let mut byte = [0xFFu8];
+    assert_eq!(rt; stores(&mut byte, 0), Some(0x3C));
+    assert_eq!(rt; byte, [0xC3]);
+    assert_eq!(rt; stores(&mut byte, 0x3C), Some(0));
+    assert_eq!(rt; byte, [0xFF]);
+    let mut byte = [0u8];
+    assert_eq!(rt; stores(&mut byte, 0xFF), Some(0));
+    assert_eq!(rt; byte, [0x3C]);
 }
 
 #[test]

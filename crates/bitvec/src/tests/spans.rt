@@ -2,7 +2,7 @@
 
 use super::span_at;
 use crate::domain::{Domain, DomainMut};
-use crate::index::BitIdx;
+use crate::index::{BitIdx, Limits};
 use crate::mem::{BitRegister, bits_of};
 use crate::order::{BitOrder, Lsb0, Msb0};
 use crate::ptr::single::BitPtr;
@@ -136,6 +136,16 @@ fn refuses_what_is_too_long_or_too_high(rt: HostRuntime) -> Result<(), Fail> {
         "Word index -12 is too high, and produces a span that passes the greatest word index."
     );
     Ok(())
+}
+
+#[test]
+fn refuses_with_the_length_or_the_word(rt: HostRuntime) {
+    let long = BitSpan::<u8, Lsb0>::new(isize::MAX, BitIdx::MIN, 2305843009213693952);
+    assert!(rt; long == Err(BitSpanError::TooLong(2305843009213693952)));
+    let high = BitSpan::<u8, Lsb0>::new(isize::MAX, BitIdx::MAX, 1);
+    assert!(rt; high == Err(BitSpanError::TooHigh(isize::MAX, PhantomData)));
+    let empty = BitSpan::<u8, Lsb0>::new(isize::MAX, BitIdx::MAX, 0);
+    assert!(rt; empty.is_ok());
 }
 
 #[test]
@@ -285,10 +295,10 @@ fn writes_an_enclave(rt: HostRuntime) -> Result<(), Fail> {
     let mut memory = [0x12u8, 0x34, 0x56];
     let span: BitSpan<u8, Lsb0> = span_at(18, 4).ok_or("refused")?;
     assert!(rt; span.fits(memory.len()));
-    let mut part = span.domain_mut(&mut memory).enclave().ok_or("a region")?;
-    assert_eq!(rt; part.invert(), 0x14);
-    let words = part.into_memory();
-    assert_eq!(rt; words.len(), 3);
+    {
+        let mut part = span.domain_mut(&mut memory).enclave().ok_or("a region")?;
+        assert_eq!(rt; part.invert(), 0x14);
+    }
     assert_eq!(rt; memory.as_slice(), [0x12, 0x34, 0x6A].as_slice());
     Ok(())
 }
@@ -307,5 +317,115 @@ fn fills_a_span(rt: HostRuntime) -> Result<(), Fail> {
         span.fill(&mut memory, bit);
         assert_eq!(rt; memory.as_slice(), want.as_slice(), "at {start}+{len}");
     }
+    Ok(())
+}
+
+#[test]
+fn writes_a_list_of_bits(rt: HostRuntime) -> Result<(), Fail> {
+    for (start, bits, want) in [
+        (
+            4,
+            [
+                true, false, true, true, false, false, false, true, true, false,
+            ]
+            .as_slice(),
+            [0xD2u8, 0x18, 0x56],
+        ),
+        (
+            18,
+            [false, false, true, true].as_slice(),
+            [0x12, 0x34, 0x72],
+        ),
+        (3, [].as_slice(), [0x12, 0x34, 0x56]),
+    ] {
+        let mut memory = [0x12u8, 0x34, 0x56];
+        let span: BitSpan<u8, Lsb0> = span_at(start, bits.len()).ok_or("refused")?;
+        assert!(rt;
+            span.fits(memory.len()) && span.len() == bits.len(),
+            "at {start}"
+        );
+        span.write_bits(&mut memory, bits);
+        assert_eq!(rt; memory.as_slice(), want.as_slice(), "at {start}");
+    }
+    Ok(())
+}
+
+// The bit `index` places after the first of a span, where it has one in a memory.
+fn bit_of<R: BitRegister, O: BitOrder<R>>(
+    span: BitSpan<R, O>,
+    memory: &[R],
+    index: usize,
+) -> Option<bool> {
+    if span.fits(memory.len()) && index < span.len() {
+        return Some(span.bitptr(index).read(memory));
+    }
+    None
+}
+
+// The same by a step from the first.
+fn bit_from_first<R: BitRegister, O: BitOrder<R>>(
+    span: BitSpan<R, O>,
+    memory: &[R],
+    index: usize,
+) -> Option<bool> {
+    if span.fits(memory.len()) && index < span.len() {
+        return Some(span.to_bitptr().add(index).read(memory));
+    }
+    None
+}
+
+// Writes that bit, where there is one, and says whether there is.
+fn write_bit_of<R: BitRegister, O: BitOrder<R>>(
+    span: BitSpan<R, O>,
+    memory: &mut [R],
+    index: usize,
+    bit: bool,
+) -> bool {
+    if span.fits(memory.len()) && index < span.len() {
+        span.bitptr(index).write(memory, bit);
+        return true;
+    }
+    false
+}
+
+// How many bits of a span are one.
+fn ones<R: BitRegister, O: BitOrder<R>>(span: BitSpan<R, O>, memory: &[R]) -> usize {
+    let mut count = 0usize;
+    if span.fits(memory.len()) {
+        for index in 0..span.len() {
+            if span.bitptr(index).read(memory) {
+                count = count.saturating_add(1);
+            }
+        }
+    }
+    count
+}
+
+// Makes each bit of a span the same, one by one.
+fn write_each<R: BitRegister, O: BitOrder<R>>(span: BitSpan<R, O>, memory: &mut [R], bit: bool) {
+    if span.fits(memory.len()) {
+        for index in 0..span.len() {
+            span.bitptr(index).write(memory, bit);
+        }
+    }
+}
+
+#[test]
+fn reads_and_writes_each_bit(rt: HostRuntime) -> Result<(), Fail> {
+    let mut memory = [0x12u8, 0x34, 0x56];
+    let span: BitSpan<u8, Lsb0> = span_at(4, 16).ok_or("refused")?;
+    assert_eq!(rt; ones(span, &memory), 6);
+    assert_eq!(rt; bit_of(span, &memory, 0), Some(true));
+    assert_eq!(rt; bit_of(span, &memory, 15), Some(false));
+    assert_eq!(rt; bit_of(span, &memory, 16), None);
+    assert_eq!(rt; bit_from_first(span, &memory, 13), Some(true));
+    assert!(rt; write_bit_of(span, &mut memory, 12, true));
+    assert!(rt; !write_bit_of(span, &mut memory, 16, true));
+    assert_eq!(rt; memory.as_slice(), [0x12, 0x34, 0x57].as_slice());
+    write_each(span, &mut memory, true);
+    assert_eq!(rt; memory.as_slice(), [0xF2, 0xFF, 0x5F].as_slice());
+    let words = [0x8001u16, 0x0180];
+    let span: BitSpan<u16, Msb0> = span_at(15, 10).ok_or("refused")?;
+    assert_eq!(rt; ones(span, &words), 3);
     Ok(())
 }

@@ -62,8 +62,8 @@ fn stored<R: BitRegister>(old: R, mask: R, value: R) -> R
 impl<'a, R: BitRegister, O> PartialElementMut<'a, R, O> {
     ghost use Rattle.bitvec_domain.specs.EditView.{memory_of, slot_in};
 
-    /// The memory that it borrows, as the edits left it. Our own.
-    pub fn into_memory(self) -> &'a mut [R]
+    // The memory that it borrows, as the edits left it: the whole loan, past the part's word.
+    pub(super) fn into_memory(self) -> &'a mut [R]
         ensures reference { result.ghost_name ≡ (memory_of self.entry).ghost_name }
         ensures memory { result.now ≡ (memory_of self.entry).now }
     {

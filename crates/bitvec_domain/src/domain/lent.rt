@@ -105,7 +105,7 @@ impl<R: BitRegister, O> BitSpan<R, O> {
     ghost use Rattle.bitvec_domain.specs.BitSpan.{span_of};
 
     // Whether the span does not begin with its first word's first bit.
-    fn has_head(self) -> bool
+    pub(super) fn has_head(self) -> bool
         ensures { result ≡ has_head (span_of self) }
     {
         self.len() != 0 && self.head().into_inner() != 0
@@ -129,7 +129,7 @@ impl<R: BitRegister, O> BitSpan<R, O> {
     }
 
     // Whether there is a part behind the whole words.
-    fn has_tail(self) -> bool
+    pub(super) fn has_tail(self) -> bool
         ensures { result ≡ has_tail R.BITS (span_of self) }
     {
         self.len() != 0 && self.tail().into_inner() != R::BITS && !self.is_inside()

@@ -72,6 +72,22 @@ impl<'a, R: BitRegister, O> Default for BitWordsMut<'a, R, O> {
 impl<'a, R: BitRegister, O> BitWordsMut<'a, R, O> {
     ghost use Rattle.bitvec_domain.specs.WordsMutView.{words_memory, stretch_in};
 
+    // The memory that it borrows, as the edits left it: the whole loan, past the run's words.
+    pub(super) fn into_memory(self) -> &'a mut [R]
+        ensures reference { result.ghost_name ≡ (words_memory self.entry).ghost_name }
+        ensures memory { result.now ≡ (words_memory self.entry).now }
+    {
+        let BitWordsMut {
+            memory,
+            first: _,
+            count: _,
+            head: _,
+            len: _,
+            order: _,
+        } = self;
+        memory
+    }
+
     /// How many bits there are.
     pub fn len(&self) -> usize
         ensures { result ≡ (stretch_in self.now).len }

@@ -4,6 +4,7 @@ ghost use Rattle.std.specs.Prelude.{◌≡◌, ⊤, ℕ, ℤ, pos, ◌+◌, ◌-
 ghost use Rattle.std.specs.Int.{int_div_euclid};
 ghost use Rattle.std.specs.Fmt.{DisplaysOnOk, WritesStyledOnOk};
 ghost use Rattle.bitvec_ptr.specs.Place.{place_at, place_of, words_met, tail_of};
+ghost use Rattle.bitvec_ptr.specs.Steps.{CanOffset, IsIn};
 ghost use Rattle.bitvec_domain.specs.Span.{region_max_bits, Fits, AreDisjoint, span_places};
 ghost use Rattle.bitvec_domain.specs.SpanText.{case_text};
 ghost use Rattle.bitvec_domain.specs.Refusals.{signed_text, too_long_text, too_high_text, error_name, too_long_case, too_high_case};
@@ -303,10 +304,28 @@ impl<R: BitRegister, O> BitSpan<R, O> {
     }
 
     /// The pointer to the first bit, and for an empty span to where it would be.
+    ///
+    /// It may be moved on by up to the span's length, and by less than that it lies in each memory
+    /// that the span [`fits`](BitSpan::fits).
     pub fn to_bitptr(self) -> BitPtr<R, O>
-        ensures { ptr_of result ≡ record { word = (span_of self).word; bit = (span_of self).head } }
+        ensures pointer { ptr_of result ≡ record { word = (span_of self).word; bit = (span_of self).head } }
+        ensures steps { (index : ℕ) → index ≤ (span_of self).len → CanOffset R.BITS (ptr_of result) (pos index) }
+        ensures inside { (index words bit : ℕ) (word : ℤ) → place_at R.BITS word bit ≡ place_of R.BITS (ptr_of result) +ℤ pos index
+            → index < (span_of self).len → bit ≤ R.BITS - 1 → Fits R.BITS (span_of self) words → IsIn (record { word = word; bit = bit }) words }
     {
         BitPtr::new(self.word, self.head())
+    }
+
+    /// The pointer to the bit `index` places after the first.
+    ///
+    /// It asks an index below the length, and lies in each memory that the span
+    /// [`fits`](BitSpan::fits). Our own.
+    pub fn bitptr(self, index: usize) -> BitPtr<R, O>
+        requires { index < (span_of self).len }
+        ensures place { place_of R.BITS (ptr_of result) ≡ place_at R.BITS (span_of self).word (span_of self).head +ℤ pos index }
+        ensures inside { (words : ℕ) → Fits R.BITS (span_of self) words → IsIn (ptr_of result) words }
+    {
+        self.to_bitptr().add(index)
     }
 
     /// The pointers to the span's bits, in order.

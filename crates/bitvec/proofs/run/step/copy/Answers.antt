@@ -9,7 +9,7 @@ use Rattle.bitvec_domain.proofs.PartLemmas.{length-list_of}
 use Rattle.bitvec.specs.declared.run.command.Command.TheVariants.{Copy}
 use Rattle.bitvec.proofs.CommandLemmas.{step-past}
 use Rattle.bitvec.proofs.MoveLemmas.{step-copy, copy_past}
-use Rattle.bitvec.proofs.PointerLemmas.{runs-pointer_at, index-pointer_at}
+use Rattle.bitvec_domain.proofs.PointerLemmas.{runs-pointer_at, index-pointer_at}
 use Rattle.bitvec.proofs.run.step.copy.Goals as goal
 
 pub copy_within-requires-clause-from_in : goal.copy_within-requires-clause-from_in

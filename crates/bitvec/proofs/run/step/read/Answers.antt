@@ -8,7 +8,7 @@ use Rattle.bitvec_domain.specs.BitSpan.{span_of}
 use Rattle.bitvec.specs.declared.run.command.Command.TheVariants.{Read}
 use Rattle.bitvec.proofs.CommandLemmas.{step-past, bit_past}
 use Rattle.bitvec.proofs.MoveLemmas.{step-read}
-use Rattle.bitvec.proofs.PointerLemmas.{in-pointer_at, index-pointer_at}
+use Rattle.bitvec_domain.proofs.PointerLemmas.{in-pointer_at, index-pointer_at}
 use Rattle.bitvec.proofs.run.step.read.Goals as goal
 
 pub read-requires : goal.read-requires

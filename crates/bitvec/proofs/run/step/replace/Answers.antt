@@ -8,7 +8,7 @@ use Rattle.bitvec_domain.specs.BitSpan.{span_of}
 use Rattle.bitvec.specs.declared.run.command.Command.TheVariants.{Replace}
 use Rattle.bitvec.proofs.CommandLemmas.{step-past, bit_past}
 use Rattle.bitvec.proofs.MoveLemmas.{step-replace}
-use Rattle.bitvec.proofs.PointerLemmas.{in-pointer_at, index-pointer_at}
+use Rattle.bitvec_domain.proofs.PointerLemmas.{in-pointer_at, index-pointer_at}
 use Rattle.bitvec.proofs.run.step.replace.Goals as goal
 
 pub replace-requires : goal.replace-requires

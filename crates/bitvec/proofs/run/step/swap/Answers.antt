@@ -9,7 +9,7 @@ use Rattle.bitvec_domain.proofs.PartLemmas.{length-list_of}
 use Rattle.bitvec.specs.declared.run.command.Command.TheVariants.{Swap}
 use Rattle.bitvec.proofs.CommandLemmas.{step-past}
 use Rattle.bitvec.proofs.MoveLemmas.{step-swap, swap_past}
-use Rattle.bitvec.proofs.PointerLemmas.{in-pointer_at, index-pointer_at}
+use Rattle.bitvec_domain.proofs.PointerLemmas.{in-pointer_at, index-pointer_at}
 use Rattle.bitvec.proofs.run.step.swap.Goals as goal
 use Rattle.bitvec.proofs.run.step.swap.Goals.{else-index-len-via-then-index-len+else-with-len, else-index-len-via-else-index-len}
 

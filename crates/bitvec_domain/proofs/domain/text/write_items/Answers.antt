@@ -10,7 +10,7 @@ returns-clause-styled g c = λ flush ok.
     let rest = c.in_ok-write_rest.ensures first.flush (search rules) in
     let close = c.write_str-3.ensures.styled rest.flush ok in
     let all = has_written_styled_append _ _ _ _ _ _ open_ (has_written_styled_append _ _ _ _ _ _ (has_written_styled_append _ _ _ _ _ _ first rest) close) in
-    rw c.in-Some.ensures.steps all
+    rw c.in-Some.ensures.steps.0 all
 
 pub returns-clause-writes : goal.returns-clause-writes
 returns-clause-writes g c = WritesOnOk-from_styled _ _ _ _ _ (returns-clause-styled g c)

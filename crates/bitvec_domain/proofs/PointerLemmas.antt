@@ -1,13 +1,15 @@
 -- The pointer to a bit of a span.
-use Rattle.std.proofs.Common.{◌≡◌, ℕ, pos, negsuc, nat_abs, ◌+◌, ◌-◌, ◌*◌, ◌/◌, ◌%◌, ◌<◌, ◌≤◌, ◌+ℤ◌, ◌≤ℤ◌, sym, ◌∙◌, ap, arith, inl, inr}
+use Rattle.std.proofs.Common.{◌≡◌, ℕ, pos, negsuc, nat_abs, ◌+◌, ◌-◌, ◌*◌, ◌/◌, ◌%◌, ◌<◌, ◌≤◌, ◌+ℤ◌, ◌≤ℤ◌, refl, sym, subst, ◌∙◌, ap, arith, inl, inr}
 use Rattle.std.specs.Prelude.{ℤ}
 use Rattle.std.proofs.lemmas.Int.{ints}
 use Rattle.std.proofs.lemmas.Nat.{mul-le, div-add-mod', div-mul-add, mod_below}
 use Rattle.std.proofs.lemmas.Bool.{cases_eq, cases_lt}
-use Rattle.bitvec_ptr.specs.Place.{Ptr, index_of, words_met}
+use Rattle.bitvec_ptr.specs.Place.{Ptr, place_at, place_of, index_of, words_met}
 use Rattle.bitvec_ptr.specs.Steps.{IsIn, RunsIn}
 use Rattle.bitvec_ptr.proofs.MemoryLemmas.{place_parts}
 use Rattle.bitvec_ptr.proofs.PlaceLemmas.{words_met-none, words_met-some}
+use Rattle.bitvec_ptr.proofs.PlaceOrder.{place_same}
+use Rattle.bitvec_ptr.proofs.StepLemmas.{step_place}
 use Rattle.bitvec_domain.specs.Span.{Span, Fits}
 
 -- a greater number has no smaller quotient
@@ -46,6 +48,13 @@ module _ (bits : ℕ) (span : Span) (words : ℕ) (in_head : span.head < bits) (
       let met = met-pointer_at i h in
       let word = word_from span.word ((span.head + i) / bits) fits.0 in
       (omega (arith, ints, fits.0), omega (arith, ints, fits.0, fits.1, met))
+
+  -- so is each pointer at its place
+  pub in-place_of : (ptr : Ptr) (i : ℕ) → ptr.bit < bits → i < span.len → place_of bits ptr ≡ place_at bits span.word span.head +ℤ pos i → IsIn ptr words
+  in-place_of ptr i small h place =
+      let some : 0 < bits = omega arith in
+      let step = step_place span.word (pos ((span.head + i) / bits)) (pos i) (pos (span.head + i)) span.head _ bits some refl refl refl in
+      subst (λ (p : Ptr). IsIn p words) (sym (place_same bits ptr (pointer_at bits span i) small (mod_below (span.head + i) bits some) (place ∙ sym step))) (in-pointer_at i h)
 
   -- so is a run of its bits
   pub runs-pointer_at : (i count : ℕ) → i + count ≤ span.len → RunsIn bits (pointer_at bits span i) words count

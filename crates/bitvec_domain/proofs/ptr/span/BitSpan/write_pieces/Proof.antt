@@ -1,0 +1,157 @@
+-- `write_pieces` lends its memory to `bit_domain_mut` for a lifetime of its own, and has it back at what the loans of the runs left. Assumes `Logic`.
+use Rattle.std.proofs.Common.{◌≡◌, ℕ, ◌^◌, ◌<◌, List, [], ◌∷◌, ◌++◌, Bool, refl, sym, ◌∙◌, ◌+◌, ◌*◌, ◌≤◌, arith, length, map, take, drop as drop_l, MutBor}
+use Rattle.std.specs.Prelude.{Option, nat_abs, IfSome}
+use Rattle.std.proofs.raw_atomic.Walks.{proved, leaves}
+use mir.Syntax.{dcons, dnil, a_type, named}
+use mir.Val.{Val, vunit, vbool}
+use mir.MapTy.{inst_fn}
+use base.Logic.{SProp, wand, emp, id⊢}
+use base.Fml.{Lft, Fml, Share, GName, ftrue, fsep, flft, fdead}
+use base.Fraction.{full_share}
+use base.Share.{left, right}
+use types.Kit.{‵, raw, ◌⊛◌, some, later, given, ◌$◌, ◌∵◌, !, qed, by, move, keep, drop, split, join, fsplit, fjoin, pick, learn, apply, use0, use1, use2, use3, await, rewrite, feq_i}
+use types.Logic.{lfts}
+use types.Run.{unit_lit, stop, fld, hop, addr, from, of_opd, no_more, and_then, returns, enter}
+use types.ByLocal.{alloc_all, pass_all, free_all, look_at, get, get_in, sets, lands_as, look_in_at}
+use types.Part.{agg, sub, whole}
+use types.Tokens.{lft_new, lft_end, one_token}
+use ghost.Rules.{Toks, span as span_lft}
+use contract.Running.{tables}
+use contract.Monad.{fact, fact_i}
+use contract.BorrowLft.{◌⊑◌, ⊑_refl, ⊑_trans, meet_⊑_left, meet_⊑_right}
+use contract.Lifetimes.{Lfts, Shares}
+use denote.Exit.{yes, no}
+use denote.Laws.{Is, shows}
+use denote.RattleType.{RattleType, owns}
+use denote.Ref.{at_last, Bor}
+use denote.Signature.{types_at, plain, shr_slice_of, named_lft}
+use denote.Steps.{nothing, heard, owned, peeks}
+use denote.Param.{param, copied, bounded}
+use denote.Param.Laws.{param_laws, copied_laws}
+use denote.Builtin.{bool}
+use denote.Plain.{bool_vals, bool_Tells, bool_Makes}
+use denote.Slice.{finally, MutSlice, slice_val, mut_slice_vals, mut_slice_Tells, shr_slice_vals, shr_slice_Tells}
+use denote.Struct.Laws.{makes}
+use denote.Triple.Spec.{triple_of}
+use denote.Triple.Clauses.{Lasts, lasts}
+use denote.Triple.Call.{calls_at}
+use denote.Triple.Table.{framed}
+use denote.Triple.Walked.{Stays, stay_dropped, stay_slice, walk_of, Goes-dropped, Goes-slice}
+use Rattle.bitvec_domain.specs.Span.{Span, Fits}
+use Rattle.bitvec_domain.specs.BitSpan.{span_of}
+use Rattle.bitvec_domain.specs.Domain.{parts_of}
+use Rattle.bitvec_domain.specs.Words.{bit_parts_of}
+use Rattle.bitvec_domain.specs.Written.{IsWritten, RunIsWritten, body_place, tail_place}
+use Rattle.bitvec_domain.specs.Lending.{LendsNamed}
+use Rattle.bitvec_domain.specs.Pieces.{names_of}
+use Rattle.bitvec_domain.specs.Loans.{has_head, has_tail, words_before, body_words, slots_of, lists_of}
+use Rattle.bitvec_domain.specs.BitLoans.{names_if, places_of}
+use Rattle.bitvec_domain.specs.BitLoansView.{lent_bits, run_names, run_places, run_words}
+use Rattle.bitvec_domain.proofs.LentSlices.{named_as, Kept, lends_whole, whole_back}
+use Rattle.bitvec_domain.proofs.LoanEnds.{last_of, AllEnd, whole_end, pieces_gone}
+use Rattle.bitvec_ptr.proofs.PlaceOrder.{bit_below}
+use Rattle.bitvec_domain.proofs.PlacedLemmas.{written-loans, total-len}
+use Rattle.bitvec_domain.specs.contracts.ptr.span.BitSpan as S
+use Rattle.bitvec_domain.proofs.ptr.span.BitSpan.TheLaws.{the_told as span_told, the_row_laws as span_laws, the_plain as span_plain}
+use Rattle.bitvec_domain.specs.contracts.lend.Pieces as P
+use Rattle.bitvec_domain.proofs.lend.Pieces.TheLaws.{the_row_laws as pieces_laws}
+use Rattle.bitvec_domain.specs.contracts.domain.bits_lent.BitDomainMut as D
+use Rattle.bitvec_domain.proofs.domain.bits_lent.BitDomainMut.TheLaws.{the_row_laws as domain_laws}
+use Rattle.bitvec_domain.specs.contracts.ptr.span.BitSpan.write_pieces as f
+use Rattle.bitvec_domain.specs.contracts.ptr.span.BitSpan.write_pieces.Key.{name as #self}
+use Rattle.bitvec_domain.proofs.ptr.span.BitSpan.write_pieces.Statement.{statement}
+use Rattle.bitvec_domain.proofs.ptr.span.BitSpan.write_pieces.Code as code
+use Rattle.bitvec_domain.specs.contracts.ptr.span.BitSpan.bit_domain_mut as g
+use Rattle.bitvec_domain.proofs.ptr.span.BitSpan.bit_domain_mut.Met.{met}
+use Rattle.bitvec_domain.specs.contracts.domain.written.write_domain as h
+use Rattle.bitvec_domain.proofs.domain.written.write_domain.Met.{met as met_h}
+
+pub write_pieces_spec : {M : Type 1} → statement M
+write_pieces_spec 𝓤 𝓛 𝓜 𝓡 wired X O L LO copy rb rbd rc rcd rd rdd re red rp rpd ro rod rq rqd rh rhd rg rgd obo obod ooc oocd oba obad m1 m2 m3 m4 m5 m6 m7 m8 m9 m10 m11 m12 =
+    let H = 𝓛.H in let 𝓣 = tables 𝓤 H 𝓜 𝓡 𝓡.env in let R : RattleType = copied 0 X in let Or : RattleType = param 1 O in let En = f.ended X O rb rbd rc rcd rd rdd re red rp rpd ro rod rq rqd rh rhd rg rgd obo obod ooc oocd oba obad in
+    let inst = bounded (a_type ∷ a_type ∷ []) (X, (O, tt)) (dcons rbd (dcons rcd (dcons rdd (dcons red (dcons rpd (dcons rod (dcons rqd (dcons rhd (dcons rgd (dcons obod (dcons oocd (dcons obad dnil)))))))))))) in let fn = inst_fn inst code.function in
+    let c = f.clauses X O rb rbd rc rcd rd rdd re red rp rpd ro rod rq rqd rh rhd rg rgd obo obod ooc oocd oba obad 𝓛 𝓜.mem 𝓡.returns in
+    let LR = copied_laws 0 X L in let LOr = param_laws 1 O LO in
+    let Spans : RattleType = S.the_row R Or rb rd rp ro rq rh rg in let told = span_told R Or rb rd rp ro rq rh rg LR LOr in
+    let mk = makes (S.the_type R Or rb rd rp ro rq rh rg) (span_plain R Or rb rd rp ro rq rh rg) 𝓛 in
+    let hs : Stays En.signature.params En.kept = (stay_dropped (plain (λ _. Spans)) no, (stay_slice (0 ∷ []) tt (plain (λ _. R)), (stay_dropped (shr_slice_of (1 ∷ []) tt (plain (λ _. bool))) yes, (stay_dropped (plain (λ _. bool)) yes, (stay_dropped (plain (λ _. bool)) yes, tt))))) in
+    proved 𝓛 En hs c 𝓜 𝓡 (Goes-dropped 𝓛 4 (plain (λ _. Spans)) no (λ κs x w. refl), (Goes-slice 𝓛 4 0 tt (plain (λ _. R)), (Goes-dropped 𝓛 4 (shr_slice_of (1 ∷ []) tt (plain (λ _. bool))) yes (λ κs x w. refl), (Goes-dropped 𝓛 4 (plain (λ _. bool)) yes (λ κs x w. refl), (Goes-dropped 𝓛 4 (plain (λ _. bool)) yes (λ κs x w. refl), tt)))))
+    (#self inst) fn (code.unfolded 𝓤 H 𝓜 𝓡 wired (X, (O, tt)) rbd rcd rdd red rpd rod rqd rhd rgd obod oocd obad)
+    (λ κs. ((λ x. told.val x ∷ []), (mut_slice_vals, (shr_slice_vals, (bool_vals, (bool_vals, tt))))))
+    (λ κs. (told.tells, (mut_slice_Tells (named 0) κs.0 R, (shr_slice_Tells (named 1) κs.1.0 bool, (bool_Tells, (bool_Tells, tt)))))) (λ κs qs bounds a gh are.
+    let κ : Lft = κs.0 in let β : Lft = κs.1.0 in let λs : Lft = κs.1.1.0 in let ω : Lft = κs.1.1.1.0 in let s₀ = a.0 in let span : Span = span_of s₀ in let m : MutBor (List X.Denot) = a.1.0 in let xs : List X.Denot = m.now in let bs : Bor (List Bool) = a.1.1.0 in let hd : Bool = a.1.1.1.0 in let tl : Bool = a.1.1.1.1.0 in let sv : Val = told.val s₀ in
+    let i : ℕ = words_before span in let n : ℕ = body_words rb.BITS span in
+    let len : ℕ = length xs in let order : Fml = fsep (flft ω qs.1.1.1.0) ftrue in let others : Fml = fsep (flft β qs.1.0) (fsep (flft λs qs.1.1.0) order) in let Slice : RattleType = MutSlice (named 0) κ R in
+    let y : (walk_of 𝓛 En hs c).Ghost = ((κs, qs, bounds, a, (sv ∷ [], (mut_slice_vals m, (shr_slice_vals bs, (bool_vals hd, (bool_vals tl, tt)))))), gh) in let Post : Val → SProp 𝓤 = (walk_of 𝓛 En hs c).post y in
+    let Asked : Type 0 = Fits rb.BITS span len × ((length bs.now ≡ span.len) × ((hd ≡ has_head span) × (tl ≡ has_tail rb.BITS span))) in
+    qed 𝓛 (((‵ (flft κ qs.0) ⊛ ‵ others) ⊛ ‵ (owns (types_at En.signature.params κs) a y.0.4)) ∷ raw (fact 𝓤 (λs ⊑ X.lives)) ∷ raw (fact 𝓤 (ω ⊑ O.lives)) ∷ raw (fact 𝓤 Asked) ∷ []) ∵
+    move ! (1 ∷ []) $ heard ! (λs ⊑ X.lives) (λ alive_in. move ! (1 ∷ []) $ heard ! (ω ⊑ O.lives) (λ alive_o. move ! (1 ∷ []) $ heard ! Asked (λ asked. let fits = asked.0 in
+    split ! $ move ! (1 ∷ []) $ fsplit ! $ drop ! $ fsplit ! $ move ! (1 ∷ []) $ fsplit ! $ move ! (1 ∷ []) $ drop ! $ move ! (1 ∷ 2 ∷ []) $
+    -- [the slice; the tokens; the list]
+    let fl : len < 2 ^ 64 = are.1.0.0.1.0 in let rm = are.1.0.0.1 in let bl : length bs.now < 2 ^ 64 = are.1.1.0.0.1.0 in let is_span : Is Spans s₀ (sv ∷ []) = are.0 in let good_s = (((span_laws R Or rb rd rp ro rq rh rg LR LOr).lawful 𝓛).typed s₀ (sv ∷ []) is_span).0 in
+    enter ! 𝓣.C 𝓣.Λ fn (sv ∷ slice_val m.ref_ptr len ∷ slice_val bs.ref_ptr (length bs.now) ∷ vbool hd ∷ vbool tl ∷ []) Post $
+    alloc_all ! (λ l. pass_all ! refl (good_s, ((tt, (tt, (record { fits = fl }, tt))), ((tt, (tt, (record { fits = bl }, tt))), ((tt, tt), ((tt, tt), tt))))) $
+    sets ! (addr ! (from ! (fld ! refl (hop ! (look_in_at ! 2 (sub ! 0 refl (whole !))) (stop !))))) refl (tt, tt) $
+    sets ! (agg ! (and_then ! (get ! refl) (and_then ! (get_in ! (fld ! refl (stop !)) (sub ! 1 refl (whole !))) (no_more !)))) refl (tt, (tt, (record { fits = fl }, tt))) $
+    -- αs is a lifetime for the two calls, within R's
+    move ! (1 ∷ []) $ split ! $ move ! (1 ∷ []) $ fsplit ! $ move ! (1 ∷ []) $ fsplit ! $
+    -- [the token of R's lifetime; that of O's; that of the list's; the token of κ; the slice; the list]
+    lft_new ! tt (λ α. let ts : Toks = (α ∷ [], full_share) ∷ (λs, qs.1.1.0) ∷ [] in let αs : Lft = span_lft ts in move ! (0 ∷ 1 ∷ []) $
+    use2 𝓛 (some (λ (t : Share). ‵ (flft αs t) ⊛ raw (wand 𝓤 (𝓛.A.lft αs t) (lfts 𝓛 ts)))) (one_token 𝓛 ts) $ pick ! (λ t. split ! $ move ! (5 ∷ 4 ∷ []) $
+    -- [the slice; the token of κ; the token of αs; the way back; the token of O's; that of the list's; the list]
+    let κs' : Lfts 3 = (αs, (αs, (ω, tt))) in let qs' : Shares 3 = (left t, (right t, (qs.1.1.1.0, tt))) in let κs'' : Lfts 4 = (αs, (β, (αs, (ω, tt)))) in let qs'' : Shares 4 = (left t, (qs.1.0, (right t, (qs.1.1.1.0, tt)))) in let others' : Fml = fsep (flft αs (right t)) order in let others'' : Fml = fsep (flft β qs.1.0) others' in let Lent : RattleType = MutSlice (named 0) αs R in let bounds' = ⊑_refl αs in
+    let alive' : αs ⊑ X.lives = ⊑_trans αs λs X.lives (meet_⊑_right (α ∷ []) λs) alive_in in
+    use2 𝓛 (later (some (λ (δ : GName). ‵ (Lent.own_val (named_as δ m) (mut_slice_vals m)) ⊛ Kept 𝓛 R (named 0) κ qs.0 αs m rm δ))) (lends_whole 𝓛 R (named 0) κ qs.0 αs m rm) $ await ! tt $ pick ! (λ δ₀. split ! $ let s : MutBor (List X.Denot) = named_as δ₀ m in
+    -- [the loan; what the lender keeps; the token of αs; the way back; the token of O's]
+    move ! (2 ∷ []) $ use1 𝓛 (‵ (flft αs (left t)) ⊛ ‵ (flft αs (right t))) (𝓛.lfts.lft_split αs t) $ split ! $ move ! (1 ∷ 5 ∷ []) $ fjoin ! $ move ! (1 ∷ 0 ∷ []) $ join ! $ move ! (1 ∷ 0 ∷ []) $
+    -- [the loan; the tokens; what the lender keeps; the way back]
+    let lft = named_lft 3 0 tt κs' in
+    let Row : RattleType = P.the_row lft (param 0 X) in let LP = pieces_laws lft (param 0 X) (param_laws 0 X L) in
+    let Dom : RattleType = D.the_row lft R Or rb rd rp ro rq rh rg in let LD = domain_laws lft R Or rb rd rp ro rq rh rg LR LOr in
+    let G = triple_of 𝓛 (g.signature X O rb rbd rc rcd rd rdd re red rp rpd ro rod rq rqd rh rhd rg rgd) (g.spec X O rb rbd rc rcd rd rdd re red rp rpd ro rod rq rqd rh rhd rg rgd 𝓛 𝓜.mem 𝓡.returns) in
+    let z : G.Ghost = ((κs', qs', (bounds', tt), (s₀, (s, tt)), (sv ∷ [], (mut_slice_vals m, tt))), tt) in
+    nothing ! $ move ! (1 ∷ 0 ∷ []) $ fjoin ! $ owned ! Spans _ mk s₀ _ is_span $ fjoin ! $ move ! (1 ∷ 0 ∷ []) $ join ! $
+    use0 𝓛 (raw (fact 𝓤 (Fits rb.BITS span len))) (fact_i 𝓤 _ (emp 𝓤) fits) $ use0 𝓛 (raw (fact 𝓤 (ω ⊑ O.lives))) (fact_i 𝓤 _ (emp 𝓤) alive_o) $ join ! $ use0 𝓛 (raw (fact 𝓤 (αs ⊑ X.lives))) (fact_i 𝓤 _ (emp 𝓤) alive') $ join ! $ move ! (1 ∷ 0 ∷ []) $ join ! $
+    use1 𝓛 (raw (G.pre z)) (id⊢ 𝓤 _) $
+    calls_at ! (framed 𝓤 H 𝓜 𝓣) G (met 𝓤 𝓛 𝓜 𝓡 (code.calls-bitvec_domain::ptr::span::BitSpan::bit_domain_mut 𝓡.env wired) X O L LO copy rb rbd rc rcd rd rdd re red rp rpd ro rod rq rqd rh rhd rg rgd m1 m2 m3 m4 m5 m6 m7 m8 m9) z (and_then ! (get ! refl) (and_then ! (get ! refl) (no_more !))) (λ v.
+    use1 𝓛 (later (some (λ (e : Dom.Denot). ((‵ (flft αs (left t)) ⊛ ‵ others') ⊛ ‵ (Dom.own_val e (v ∷ []))) ⊛ some (λ (ws : Lasts (g.ended X O rb rbd rc rcd rd rdd re red rp rpd ro rod rq rqd rh rhd rg rgd) κs' (s₀, (s, tt))). ‵ (lasts (g.ended X O rb rbd rc rcd rd rdd re red rp rpd ro rod rq rqd rh rhd rg rgd) κs' (s₀, (s, tt)) ws)
+    ⊛ ‵ (LendsNamed R s i n (names_if (has_head span) (has_tail rb.BITS span) (run_names e))) ⊛ raw (fact 𝓤 (lent_bits rb.number e ≡ bit_parts_of rb.BITS (parts_of rb.BITS span (map rb.number xs)))) ⊛ raw (fact 𝓤 (run_places e ≡ places_of rb.BITS (slots_of rb.BITS span) n)) ⊛ raw (fact 𝓤 (run_words e ≡ lists_of rb.BITS span xs)))))) (id⊢ 𝓤 _) $ await ! tt $ pick ! (λ e. split ! $ split ! $ move ! (2 ∷ []) $ pick ! (λ ws. split ! $ drop ! $
+    split ! $ move ! (1 ∷ []) $ split ! $ drop ! $ split ! $ heard ! _ (λ placed. heard ! _ (λ listed. move ! (2 ∷ []) $ peeks ! Dom (Is Dom) (shows 𝓛 Dom) e (v ∷ []) (λ as_domain. let good = ((LD.lawful 𝓛).typed e (v ∷ []) as_domain).0 in
+    -- [the domain; what the loan ends as; the tokens; what the lender keeps; the way back; the token of the list's; the list]
+    lands_as ! refl refl good $ sets ! (of_opd ! (get ! refl)) refl good $
+    let J = triple_of 𝓛 (h.signature X O rb rbd rc rcd rd rdd re red rp rpd ro rod rq rqd rh rhd rg rgd obo obod ooc oocd oba obad) (h.spec X O rb rbd rc rcd rd rdd re red rp rpd ro rod rq rqd rh rhd rg rgd obo obod ooc oocd oba obad 𝓛 𝓜.mem 𝓡.returns) in
+    let z2 : J.Ghost = ((κs'', qs'', (bounds', tt), (e, (bs, (hd, (tl, tt)))), (v ∷ [], (shr_slice_vals bs, (bool_vals hd, (bool_vals tl, tt))))), tt) in
+    let in_head = bit_below rb.BITS s₀.head m1.eight_law s₀.in_word in let Enough : Type 0 = (run_places e).0.len + ((body_place (run_places e)).len + (tail_place (run_places e)).len) ≤ length bs.now in
+    let enough : Enough = (let total = total-len rb.BITS span in_head (run_places e) placed in let as_many = asked.1.0 in omega (arith, total, as_many)) in
+    nothing ! $ owned ! bool _ (bool_Makes 𝓛) tl _ refl $ fjoin ! $ owned ! bool _ (bool_Makes 𝓛) hd _ refl $ fjoin ! $ move ! (7 ∷ 0 ∷ []) $ fjoin ! $ move ! (1 ∷ 0 ∷ []) $ fjoin ! $
+    -- [the arguments; what the loan ends as; the tokens; what the lender keeps; the way back; the token of the list's]
+    move ! (2 ∷ []) $ split ! $ move ! (6 ∷ 1 ∷ []) $ fjoin ! $ move ! (1 ∷ 0 ∷ []) $ join ! $ join ! $ use0 𝓛 (raw (fact 𝓤 Enough)) (fact_i 𝓤 _ (emp 𝓤) enough) $ use0 𝓛 (raw (fact 𝓤 (ω ⊑ O.lives))) (fact_i 𝓤 _ (emp 𝓤) alive_o) $ join ! $ use0 𝓛 (raw (fact 𝓤 (αs ⊑ X.lives))) (fact_i 𝓤 _ (emp 𝓤) alive') $ join ! $ move ! (1 ∷ 0 ∷ []) $ join ! $
+    use1 𝓛 (raw (J.pre z2)) (id⊢ 𝓤 _) $
+    calls_at ! (framed 𝓤 H 𝓜 𝓣) J (met_h 𝓤 𝓛 𝓜 𝓡 (code.calls-bitvec_domain::domain::written::write_domain 𝓡.env wired) X O L LO copy rb rbd rc rcd rd rdd re red rp rpd ro rod rq rqd rh rhd rg rgd obo obod ooc oocd oba obad m1 m2 m3 m4 m5 m6 m7 m8 m9 m10 m11 m12) z2 (and_then ! (get ! refl) (and_then ! (get ! refl) (and_then ! (get ! refl) (and_then ! (get ! refl) (no_more !))))) (λ w.
+    let Front : Row.Denot → Type 0 = λ p. IfSome p.front (λ (r : MutBor (List X.Denot)). RunIsWritten rb.BITS oba.at_of bs.now 0 (run_places e).0 (map rb.number (run_words e).0) (map rb.number r.now)) in
+    let Body : Row.Denot → Type 0 = λ p. IfSome p.body (λ (r : MutBor (List X.Denot)). RunIsWritten rb.BITS oba.at_of bs.now (run_places e).0.len (body_place (run_places e)) (map rb.number (run_words e).1) (map rb.number r.now)) in
+    let Back : Row.Denot → Type 0 = λ p. IfSome p.back (λ (r : MutBor (List X.Denot)). RunIsWritten rb.BITS oba.at_of bs.now ((run_places e).0.len + (body_place (run_places e)).len) (tail_place (run_places e)) (map rb.number (run_words e).2) (map rb.number r.now)) in
+    use1 𝓛 (later (some (λ (p : Row.Denot). ((‵ (flft αs (left t)) ⊛ ‵ others'') ⊛ ‵ (Row.own_val p (w ∷ []))) ⊛ some (λ (zs : Lasts (h.ended X O rb rbd rc rcd rd rdd re red rp rpd ro rod rq rqd rh rhd rg rgd obo obod ooc oocd oba obad) κs'' (e, (bs, (hd, (tl, tt))))). ‵ (lasts (h.ended X O rb rbd rc rcd rd rdd re red rp rpd ro rod rq rqd rh rhd rg rgd obo obod ooc oocd oba obad) κs'' (e, (bs, (hd, (tl, tt)))) zs)
+    ⊛ raw (fact 𝓤 (names_of p ≡ names_if hd tl (run_names e))) ⊛ raw (fact 𝓤 (Front p)) ⊛ raw (fact 𝓤 (Body p)) ⊛ raw (fact 𝓤 (Back p)))))) (id⊢ 𝓤 _) $ await ! tt $ pick ! (λ p. split ! $ split ! $ move ! (2 ∷ []) $ pick ! (λ zs. split ! $ drop ! $ split ! $ heard ! _ (λ put. let nm : names_of p ≡ names_if (has_head span) (has_tail rb.BITS span) (run_names e) = put ∙ (λ k. names_if (asked.1.1.0 k) (asked.1.1.1 k) (run_names e)) in split ! $ heard ! _ (λ pf. split ! $ heard ! _ (λ pb. heard ! _ (λ pk.
+    move ! (1 ∷ []) $ peeks ! Row (Is Row) (shows 𝓛 Row) p (w ∷ []) (λ as_pieces. lands_as ! refl refl (((LP.lawful 𝓛).typed p (w ∷ []) as_pieces).0) $ sets ! (of_opd ! (unit_lit !)) refl (tt, tt) $
+    -- [the pieces; the tokens; what the loan ends as; what the lender keeps; the way back]
+    let v0 : List X.Denot = take i xs in let v1 : List X.Denot = take n (drop_l i xs) in let v2 : List X.Denot = drop_l n (drop_l i xs) in
+    let c0 : List X.Denot = last_of p.front v0 in let c1 : List X.Denot = last_of p.body v1 in let c2 : List X.Denot = last_of p.back v2 in
+    let all : List X.Denot = c0 ++ (c1 ++ c2) in
+    use1 𝓛 (later (‵ (AllEnd 𝓛 R (names_of p) (v0, v1, v2) (c0, c1, c2)))) (pieces_gone 𝓛 (param 0 X) lft p (w ∷ []) (v0, v1, v2)) $ await ! tt $
+    move ! (2 ∷ []) $ rewrite ! 0 (λ (names : Option GName × Option GName × Option GName). ‵ (LendsNamed R s i n names)) (sym nm) refl $ move ! (0 ∷ 1 ∷ []) $ use2 𝓛 (‵ (finally R δ₀ all)) (whole_end 𝓛 R s i n (names_of p) (c0, c1, c2)) $
+    -- [the last list of the loan; the tokens; what the lender keeps; the way back]
+    move ! (1 ∷ []) $ split ! $ move ! (1 ∷ []) $ fsplit ! $ move ! (1 ∷ []) $ fsplit ! $ move ! (3 ∷ 0 ∷ []) $ use2 𝓛 (‵ (flft αs t)) (𝓛.lfts.lft_join αs t) $
+    -- [the token of αs; that of O's; that of the list's; the last list; what the lender keeps; the way back]
+    move ! (0 ∷ 5 ∷ []) $ apply ! $ use1 𝓛 (‵ (flft (α ∷ []) full_share) ⊛ ‵ (flft λs qs.1.1.0)) (id⊢ 𝓤 _) $ split ! $ lft_end ! tt $ use1 𝓛 (‵ (fdead αs)) (𝓛.lfts.dead-incl αs (α ∷ []) (meet_⊑_left (α ∷ []) λs)) $
+    -- [αs is over; the token of R's lifetime; that of O's; that of the list's; the last list; what the lender keeps]
+    move ! (0 ∷ 5 ∷ 4 ∷ []) $
+    use3 𝓛 (later (given (length all ≡ len) (‵ (Slice.own_val (at_last m all) (mut_slice_vals m)) ⊛ ‵ (flft κ qs.0)))) (whole_back 𝓛 R (named 0) κ qs.0 αs m rm δ₀ all) $ await ! tt $ learn ! (λ as_long. split ! $
+    -- [the slice; the token of κ; that of R's; that of O's; that of the list's]
+    returns ! (look_at ! 0 refl) $ free_all ! refl $
+    move ! (2 ∷ 3 ∷ []) $ fjoin ! $ move ! (3 ∷ 0 ∷ []) $ fjoin ! $ move ! (2 ∷ 0 ∷ []) $ join ! $ nothing ! $ nothing ! $ fjoin ! $ nothing ! $ fjoin ! $ nothing ! $ fjoin ! $ move ! (2 ∷ 0 ∷ []) $ fjoin ! $ nothing ! $ fjoin ! $
+    let Done : Type 0 = IsWritten rb.BITS oba.at_of bs.now 0 (nat_abs span.word * rb.BITS + span.head) span.len (map rb.number xs) (map rb.number all) in
+    use0 𝓛 (raw (fact 𝓤 Done)) (fact_i 𝓤 _ (emp 𝓤) (written-loans rb.number rb.BITS oba.at_of bs.now span xs in_head fits.1 e p placed listed nm pf pb pk)) $
+    feq_i ! (List Val) (vunit ∷ []) (vunit ∷ []) refl $
+    -- [the result; the `ensures`; the slice; the tokens]
+    keep ! (3 ∷ 2 ∷ 0 ∷ 1 ∷ []) $ by ! (leaves 𝓛 En hs c y vunit tt (tt, (all, (tt, (tt, (tt, tt))))) (tt, (as_long, (tt, (tt, (tt, tt)))))))))))))))))))))))))))))
