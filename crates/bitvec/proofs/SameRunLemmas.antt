@@ -85,14 +85,14 @@ same_runs bits at law spans old here there requests other_requests replies other
           ∙ sym (get_or_default there k d 0 within)),
     )
 
--- memories of registers whose words have the same numbers are the same
-pub same_words : {W : Type 0} (number : W → ℕ) → ((a b : W) → number a ≡ number b → a ≡ b) → (here there : List W) → map number here ≡ map number there → here ≡ there
-same_words number one [] [] e = refl
-same_words number one [] (b ∷ there) e = cc
-same_words number one (a ∷ here) [] e = cc
-same_words number one (a ∷ here) (b ∷ there) e =
+-- memories of words below a limit are the same where the words have the same numbers
+pub same_words : {W : Type 0} (number : W → ℕ) (limit : ℕ) → ((a b : W) → number a < limit → number b < limit → number a ≡ number b → a ≡ b) → (here there : List W) → All (λ word. number word < limit) here → All (λ word. number word < limit) there → map number here ≡ map number there → here ≡ there
+same_words number limit one [] [] below other_below e = refl
+same_words number limit one [] (b ∷ there) below other_below e = cc
+same_words number limit one (a ∷ here) [] below other_below e = cc
+same_words number limit one (a ∷ here) (b ∷ there) below other_below e =
     let first : number a ≡ number b = cc in
     let rest : map number here ≡ map number there = cc in
-    let same = one a b first in
-    let others = same_words number one here there rest in
+    let same = one a b below.0 other_below.0 first in
+    let others = same_words number limit one here there below.1 other_below.1 rest in
     rw (same, others) refl

@@ -2,12 +2,13 @@
 //!
 //! The trait [`BitRegister`] is the only thing that the layers above know of a word.
 
-ghost use Rattle.std.specs.Prelude.{◌≡◌, ℕ, List, codes, ◌+◌, ◌-◌, ◌*◌, ◌/◌, ◌%◌, ◌^◌, ◌<◌, ◌≤◌, ◌↔◌, ◌==◌, ◌&&◌, ◌||◌, if◌then◌else◌, not, true, false, IsNone, IfSome, refl};
+ghost use Rattle.std.specs.Prelude.{◌≡◌, ⊤, ℕ, List, codes, ◌+◌, ◌-◌, ◌*◌, ◌/◌, ◌%◌, ◌^◌, ◌<◌, ◌≤◌, ◌↔◌, ◌==◌, ◌&&◌, ◌||◌, if◌then◌else◌, not, true, false, IsNone, IfSome, refl};
 ghost use Rattle.std.specs.Ordering.{nat_cmp};
 ghost use Rattle.std.proofs.Common.{lit≤};
 ghost use Rattle.bitvec_mem.specs.SameDigits.{same_from_digits};
 ghost use Rattle.bitvec_mem.specs.Digit.{digit, differ, count_below};
 
+use std::alloc::AllocError;
 use std::fmt::Debug;
 use std::hash::Hash;
 
@@ -58,7 +59,7 @@ pub trait BitRegister: Copy + Default + Eq + Ord + Hash + Debug {
     // The value that a number is.
     ghost from_number: { ℕ → Self };
 
-    ghost number_back: { (a : Self) → from_number (number a) ≡ a };
+    ghost number_back: { (a : Self) → number a < 2 ^ BITS → from_number (number a) ≡ a };
 
     /// `NAME`, with a contract: a constant that is a text can't have one.
     fn name_text() -> &'static str
@@ -139,16 +140,14 @@ pub trait BitRegister: Copy + Default + Eq + Ord + Hash + Debug {
 
     ghost all_law: { number ALL ≡ 2 ^ BITS - 1 };
 
-    ghost from_number_law: { (n : ℕ) → n < 2 ^ BITS → number (from_number n) ≡ n };
-
-    ghost same_law: { (a b : Self) → number a ≡ number b → a ≡ b };
-
     ghost digits_law: { (a b : Self) → number a < 2 ^ BITS → number b < 2 ^ BITS
         → ((p : ℕ) → p < BITS → digit (number a) p ≡ digit (number b) p) → a ≡ b };
 
-    ghost eq_law: { (a b : Self) → Self.eq a b ≡ (number a == number b) };
+    ghost eq_law: { (a b : Self) → number a < 2 ^ BITS → number b < 2 ^ BITS
+        → Self.eq a b ≡ (number a == number b) };
 
-    ghost order_law: { (a b : Self) → Self.cmp a b ≡ nat_cmp (number a) (number b) };
+    ghost order_law: { (a b : Self) → number a < 2 ^ BITS → number b < 2 ^ BITS
+        → Self.cmp a b ≡ nat_cmp (number a) (number b) };
 
     ghost default_law: { (a : Self) → Self.is_default a → a ≡ ZERO };
 }
@@ -187,7 +186,7 @@ impl BitRegister for u8 {
 
     ghost from_number = { λ n. n };
 
-    ghost number_back = { λ a. refl };
+    ghost number_back = { λ a h. refl };
 
     fn name_text() -> &'static str {
         Self::NAME
@@ -247,15 +246,11 @@ impl BitRegister for u8 {
 
     ghost all_law = { refl };
 
-    ghost from_number_law = { λ n h. refl };
-
-    ghost same_law = { λ a b h. h };
-
     ghost digits_law = { same_from_digits 8 };
 
-    ghost eq_law = { λ a b. refl };
+    ghost eq_law = { λ a b h k. refl };
 
-    ghost order_law = { λ a b. refl };
+    ghost order_law = { λ a b h k. refl };
 
     ghost default_law = { λ a h. h };
 }
@@ -294,7 +289,7 @@ impl BitRegister for u16 {
 
     ghost from_number = { λ n. n };
 
-    ghost number_back = { λ a. refl };
+    ghost number_back = { λ a h. refl };
 
     fn name_text() -> &'static str {
         Self::NAME
@@ -354,15 +349,11 @@ impl BitRegister for u16 {
 
     ghost all_law = { refl };
 
-    ghost from_number_law = { λ n h. refl };
-
-    ghost same_law = { λ a b h. h };
-
     ghost digits_law = { same_from_digits 16 };
 
-    ghost eq_law = { λ a b. refl };
+    ghost eq_law = { λ a b h k. refl };
 
-    ghost order_law = { λ a b. refl };
+    ghost order_law = { λ a b h k. refl };
 
     ghost default_law = { λ a h. h };
 }
@@ -401,7 +392,7 @@ impl BitRegister for u32 {
 
     ghost from_number = { λ n. n };
 
-    ghost number_back = { λ a. refl };
+    ghost number_back = { λ a h. refl };
 
     fn name_text() -> &'static str {
         Self::NAME
@@ -461,15 +452,11 @@ impl BitRegister for u32 {
 
     ghost all_law = { refl };
 
-    ghost from_number_law = { λ n h. refl };
-
-    ghost same_law = { λ a b h. h };
-
     ghost digits_law = { same_from_digits 32 };
 
-    ghost eq_law = { λ a b. refl };
+    ghost eq_law = { λ a b h k. refl };
 
-    ghost order_law = { λ a b. refl };
+    ghost order_law = { λ a b h k. refl };
 
     ghost default_law = { λ a h. h };
 }
@@ -508,7 +495,7 @@ impl BitRegister for u64 {
 
     ghost from_number = { λ n. n };
 
-    ghost number_back = { λ a. refl };
+    ghost number_back = { λ a h. refl };
 
     fn name_text() -> &'static str {
         Self::NAME
@@ -568,15 +555,11 @@ impl BitRegister for u64 {
 
     ghost all_law = { refl };
 
-    ghost from_number_law = { λ n h. refl };
-
-    ghost same_law = { λ a b h. h };
-
     ghost digits_law = { same_from_digits 64 };
 
-    ghost eq_law = { λ a b. refl };
+    ghost eq_law = { λ a b h k. refl };
 
-    ghost order_law = { λ a b. refl };
+    ghost order_law = { λ a b h k. refl };
 
     ghost default_law = { λ a h. h };
 }
@@ -615,7 +598,7 @@ impl BitRegister for usize {
 
     ghost from_number = { λ n. n };
 
-    ghost number_back = { λ a. refl };
+    ghost number_back = { λ a h. refl };
 
     fn name_text() -> &'static str {
         Self::NAME
@@ -675,15 +658,11 @@ impl BitRegister for usize {
 
     ghost all_law = { refl };
 
-    ghost from_number_law = { λ n h. refl };
-
-    ghost same_law = { λ a b h. h };
-
     ghost digits_law = { same_from_digits 64 };
 
-    ghost eq_law = { λ a b. refl };
+    ghost eq_law = { λ a b h k. refl };
 
-    ghost order_law = { λ a b. refl };
+    ghost order_law = { λ a b h k. refl };
 
     ghost default_law = { λ a h. h };
 }
@@ -712,10 +691,20 @@ pub fn elts<R: BitRegister>(bits: usize) -> usize
 ///
 /// It is copied, compared, hashed and made by default as its `elem` is. As in the Rust crate, where
 /// it stands for atomic and shared words too.
-#[derive(Clone, Copy, PartialEq, Eq, PartialOrd, Ord, Hash, Default, Debug)]
+#[derive(Copy, PartialEq, Eq, PartialOrd, Ord, Hash, Default, Debug)]
 pub struct BitElement<R: BitRegister = usize> {
     /// The word.
     pub elem: R,
+}
+
+impl<R: BitRegister> Clone for BitElement<R> {
+    ghost is_clone = { λ it copy. copy ≡ it };
+
+    ghost is_infallible = { λ _. ⊤ };
+
+    fn clone(&self) -> Result<Self, AllocError> {
+        Ok(*self)
+    }
 }
 
 impl<R: BitRegister> BitElement<R> {

@@ -400,7 +400,7 @@ impl<R: BitRegister> Model for BitSel<R> {
 
     ghost inverse = { λ n. record { sel = R.from_number n } };
 
-    ghost inverse_ok = { λ a h i. record { sel = R.number_back a.sel i } };
+    ghost inverse_ok = { λ a h i. record { sel = R.number_back a.sel h.0 i } };
 }
 
 impl<R: BitRegister> Clone for BitSel<R> {
@@ -476,7 +476,7 @@ impl<R: BitRegister> Model for BitMask<R> {
 
     ghost inverse = { λ n. record { mask = R.from_number n } };
 
-    ghost inverse_ok = { λ a h i. record { mask = R.number_back a.mask i } };
+    ghost inverse_ok = { λ a h i. record { mask = R.number_back a.mask h i } };
 }
 
 /// The mask with no position and the mask with all.

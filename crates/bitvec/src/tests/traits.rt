@@ -50,6 +50,12 @@ fn hash_of_an_element<R: BitRegister, H: Hasher>(
     element.elem.hash(there);
 }
 
+fn copied_element<R: BitRegister>(element: &BitElement<R>) -> Result<BitElement<R>, AllocError>
+    ensures { result ≡ Ok element.now }
+{
+    element.clone()
+}
+
 fn default_element<R: BitRegister>() -> BitElement<R>
     ensures { result.elem ≡ R.ZERO }
 {
