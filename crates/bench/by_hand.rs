@@ -76,6 +76,16 @@ fn joined<const RISING: bool>(first: u64, second: u64, down: u32, up: u32) -> u6
     if RISING { first >> down | second << up } else { second >> down | first << up }
 }
 
+/// Eight words made of nine neighbours, all read before any is written.
+#[inline(always)]
+fn joined_block<const RISING: bool>(read: &[u64], down: u32, up: u32) -> [u64; 8] {
+    let mut block = [0; 8];
+    for j in 0..8 {
+        block[j] = joined::<RISING>(read[j], read[j + 1], down, up);
+    }
+    block
+}
+
 #[inline(always)]
 fn put<const RISING: bool>(word: &mut u64, with: u64, bit: usize, count: usize) {
     let mask = mask::<RISING>(bit, count);
@@ -128,8 +138,7 @@ fn copy_down<const RISING: bool>(memory: &mut [u64], from: usize, to: usize, cou
     let (down, up) = shifts::<RISING>(shift);
     let mut k = 0;
     while k + 8 <= whole {
-        let read: [u64; 9] = memory[first + k..first + k + 9].try_into().unwrap();
-        let block: [u64; 8] = std::array::from_fn(|j| joined::<RISING>(read[j], read[j + 1], down, up));
+        let block = joined_block::<RISING>(&memory[first + k..first + k + 9], down, up);
         memory[start + k..start + k + 8].copy_from_slice(&block);
         k += 8;
     }
@@ -160,8 +169,7 @@ fn copy_up<const RISING: bool>(memory: &mut [u64], from: usize, to: usize, count
     let mut k = whole;
     while k >= 8 {
         k -= 8;
-        let read: [u64; 9] = memory[first + k..first + k + 9].try_into().unwrap();
-        let block: [u64; 8] = std::array::from_fn(|j| joined::<RISING>(read[j], read[j + 1], down, up));
+        let block = joined_block::<RISING>(&memory[first + k..first + k + 9], down, up);
         memory[start + k..start + k + 8].copy_from_slice(&block);
     }
     while k > 0 {

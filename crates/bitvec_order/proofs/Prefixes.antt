@@ -1,6 +1,6 @@
 -- Masks of the indices below a bound, and the mask between two bounds as what one of them has and the other lacks.
 use Rattle.std.proofs.Common.{◌≡◌, ℕ, ◌+◌, ◌-◌, ◌<◌, ◌≤◌, ◌^◌, false, true, not, ◌&&◌, nat_le, nat_lt, sym, ap, ◌∙◌, subst, inl, inr, arith}
-use Rattle.std.proofs.lemmas.Bool.{cases_lt, le-leb, lt-leb, lt-ltb, le-ltb}
+use Rattle.std.proofs.lemmas.Bool.{cases_lt, le-leb, lt-ltb, le-ltb}
 use Rattle.std.proofs.lemmas.Bool.Decides.{nat_tests}
 use Rattle.bitvec_mem.specs.Digit.{digit}
 use Rattle.bitvec_mem.proofs.DigitLemmas.{digit_all}

@@ -1,4 +1,4 @@
-use Rattle.std.proofs.Common.{◌≡◌, sym, ap, ◌∙◌, subst, ◌<◌, ◌^◌, arith}
+use Rattle.std.proofs.Common.{ap, ◌∙◌, arith}
 use Rattle.std.proofs.lemmas.Nat.{pow_pos}
 use Rattle.bitvec_order.specs.OrderLemmas.{low_one_to_one}
 use Rattle.bitvec_order.proofs.Prefixes.{whole_prefix, low_prefix, mask_from_value}

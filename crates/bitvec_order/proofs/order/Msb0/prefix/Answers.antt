@@ -1,5 +1,4 @@
-use Rattle.std.proofs.Common.{◌≡◌, ◌-◌, ◌≤◌, arith}
-use Rattle.bitvec_order.specs.Order.{IsMaskOf}
+use Rattle.std.proofs.Common.{◌≡◌, ◌-◌, arith}
 use Rattle.bitvec_order.specs.OrderLemmas.{high_one_to_one}
 use Rattle.bitvec_order.proofs.Prefixes.{high_prefix, mask_from_value}
 use Rattle.bitvec_order.proofs.order.Msb0.prefix.Goals as goal
