@@ -264,30 +264,6 @@ fn has_bits_of_three_words(rt: HostRuntime) -> Result<(), Fail> {
     Ok(())
 }
 
-// The bits of that span in a memory.
-fn bit_domain_at<R: BitRegister, O: BitOrder<R>>(
-    memory: &[R],
-    start: u32,
-    len: usize,
-) -> Option<BitDomain<R, O>> {
-    let span = span_at::<R, O>(start, len)?;
-    if span.fits(memory.len()) {
-        Some(span.bit_domain(memory))
-    } else {
-        None
-    }
-}
-
-#[test]
-fn is_one_run_or_three(rt: HostRuntime) -> Result<(), Fail> {
-    let memory = [0x12u8, 0x34, 0x56];
-    let three = bit_domain_at::<u8, Lsb0>(&memory, 4, 16).ok_or("does not fit")?;
-    assert!(rt; three.enclave().is_none() && three.region().is_some());
-    let one = bit_domain_at::<u8, Lsb0>(&memory, 18, 4).ok_or("does not fit")?;
-    assert!(rt; one.region().is_none() && one.enclave().is_some());
-    Ok(())
-}
-
 // The head, the body and the tail of the bits of no span.
 fn default_bits<'a, R: BitRegister, O>() -> Option<
     (BitWords<'a, R, O>, BitWords<'a, R, O>, BitWords<'a, R, O>),

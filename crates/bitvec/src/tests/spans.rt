@@ -362,14 +362,17 @@ fn bit_of<R: BitRegister, O: BitOrder<R>>(
     None
 }
 
-// The same by a step from the first.
+// The same by a step from the first, to a pointer that is tested.
 fn bit_from_first<R: BitRegister, O: BitOrder<R>>(
     span: BitSpan<R, O>,
     memory: &[R],
     index: usize,
 ) -> Option<bool> {
-    if span.fits(memory.len()) && index < span.len() {
-        return Some(span.to_bitptr().add(index).read(memory));
+    if index < span.len() {
+        let pointer = span.to_bitptr().add(index);
+        if pointer.is_in(memory.len()) {
+            return Some(pointer.read(memory));
+        }
     }
     None
 }
