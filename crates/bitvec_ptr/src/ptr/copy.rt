@@ -11,7 +11,7 @@ ghost use Rattle.bitvec_ptr.specs.WriterView.{writer_memory, writer_of};
 use crate::ptr::counted::{copy_across, move_across};
 use crate::ptr::cursor::Cursor;
 use crate::ptr::single::BitPtr;
-use crate::ptr::writer::WordWriter;
+use crate::ptr::writer::{WordWriter, near_edge};
 use bitvec_mem::mem::BitRegister;
 use bitvec_order::order::BitOrder;
 
@@ -194,15 +194,9 @@ impl<R: BitRegister, O: BitOrder<R>> BitPtr<R, O> {
         ensures words { length memory.new ≡ length memory.old }
     {
         let to = Cursor::at(dest);
-        if to.is_at_most(Cursor::at(self)) {
-            let mut writer = WordWriter::rising(memory);
-            writer.skip_to(to.word);
-            self.copy_within_through(dest, &mut writer, count);
-            return;
-        }
-        let end = to.word + dest.elements(count);
-        let mut writer = WordWriter::falling(memory);
-        writer.skip_to(end);
+        let rising = to.is_at_most(Cursor::at(self));
+        let edge = near_edge(rising, to.word, dest.elements(count));
+        let mut writer = WordWriter::standing_at(memory, rising, edge);
         self.copy_within_through(dest, &mut writer, count);
     }
 

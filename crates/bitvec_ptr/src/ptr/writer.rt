@@ -5,6 +5,19 @@
 
 ghost use Rattle.std.specs.Prelude.{◌≡◌, ◌+◌, ◌<◌, ◌≤◌, Some, true, false, length, slice_get, slice_set};
 
+// The edge of `count` words from the word `first` on to which a writer comes first.
+pub(super) fn near_edge(rising: bool, first: usize, count: usize) -> usize
+    requires { first + count ≤ usize.MAX }
+    ensures rising { rising ≡ true → result ≡ first }
+    ensures falling { rising ≡ false → result ≡ first + count }
+    ensures most { result ≤ first + count }
+{
+    if rising {
+        return first;
+    }
+    first + count
+}
+
 /// The words of a memory, written by rising or by falling index, each of them at most once.
 ///
 /// The mark is an edge between two words. A rising writer puts no word below its mark, a falling
@@ -52,6 +65,23 @@ impl<'a, R: Copy> WordWriter<'a, R> {
         WordWriter {
             words,
             rising: false,
+            mark,
+            writes: 0,
+        }
+    }
+
+    // A writer of a memory's words, by rising or by falling index, whose mark stands at an edge.
+    pub(super) fn standing_at(words: &'a mut [R], rising: bool, mark: usize) -> Self
+        requires { mark ≤ length words.old }
+        ensures reference { (writer_memory result).ghost_name ≡ words.entry.ghost_name }
+        ensures words { (writer_of result).words ≡ words.old }
+        ensures direction { (writer_of result).rising ≡ rising }
+        ensures mark { (writer_of result).mark ≡ mark }
+        ensures writes { (writer_of result).writes ≡ 0 }
+    {
+        WordWriter {
+            words,
+            rising,
             mark,
             writes: 0,
         }
