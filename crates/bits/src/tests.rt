@@ -2,11 +2,10 @@
 
 mod mangled;
 mod memory;
+mod orders;
 mod refusing;
 mod sizes;
 mod writers;
-
-mod orders;
 
 use crate::answer::answer;
 use crate::tests::writers::Slow;
