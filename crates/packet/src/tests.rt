@@ -1,6 +1,8 @@
 //! Words of worked headers, by hand from the orders' definitions: index i is digit i under `Lsb0`, and
 //! digit 31 - i under `Msb0`.
 
+mod two_spans;
+
 use crate::field::Field;
 use crate::header::{FLAGS, Header, LENGTH, VERSION, read, write};
 use bitvec::order::{BitOrder, Lsb0, Msb0};
