@@ -20,42 +20,6 @@ fn progress<R: Copy>(writer: &WordWriter<R>) -> (usize, usize) {
 }
 
 #[test]
-fn counts_an_overlapping_copy_upwards(rt: HostRuntime) -> Result<(), Fail> {
-    let mut memory = [0x0Du8];
-    let (from, dest) = (at::<u8, Lsb0>(0), at::<u8, Lsb0>(2));
-    assert!(rt; from.run_in(memory.len(), 6) && dest.run_in(memory.len(), 6));
-    let mut writer = WordWriter::falling(&mut memory);
-    from.copy_within_through(dest, &mut writer, 6);
-    assert_eq!(rt; progress(&writer), (1, 0));
-    assert_eq!(rt; memory, [0x35]);
-    Ok(())
-}
-
-#[test]
-fn counts_an_overlapping_copy_downwards(rt: HostRuntime) -> Result<(), Fail> {
-    let mut memory = [0x12u8, 0x34, 0x56];
-    let (from, dest) = (at::<u8, Msb0>(4), at::<u8, Msb0>(0));
-    assert!(rt; from.run_in(memory.len(), 16) && dest.run_in(memory.len(), 16));
-    let mut writer = WordWriter::rising(&mut memory);
-    from.copy_within_through(dest, &mut writer, 16);
-    assert_eq!(rt; progress(&writer), (2, 2));
-    assert_eq!(rt; memory, [0x23, 0x45, 0x56]);
-    Ok(())
-}
-
-#[test]
-fn counts_a_copy_upwards_over_three_words(rt: HostRuntime) -> Result<(), Fail> {
-    let mut memory = [0x12u8, 0x34, 0x56];
-    let (from, dest) = (at::<u8, Lsb0>(0), at::<u8, Lsb0>(4));
-    assert!(rt; from.run_in(memory.len(), 16) && dest.run_in(memory.len(), 16));
-    let mut writer = WordWriter::falling(&mut memory);
-    from.copy_within_through(dest, &mut writer, 16);
-    assert_eq!(rt; progress(&writer), (3, 0));
-    assert_eq!(rt; memory, [0x22, 0x41, 0x53]);
-    Ok(())
-}
-
-#[test]
 fn counts_a_copy_between_registers_and_orders(rt: HostRuntime) -> Result<(), Fail> {
     let source = [0x8001u16];
     let mut target = [0u8; 2];
@@ -69,26 +33,6 @@ fn counts_a_copy_between_registers_and_orders(rt: HostRuntime) -> Result<(), Fai
     from.copy_through(&source, dest, &mut writer, 16);
     assert_eq!(rt; progress(&writer), (2, 0));
     assert_eq!(rt; target, [0x01, 0x80]);
-    Ok(())
-}
-
-#[test]
-fn goes_on_where_a_copy_ended(rt: HostRuntime) -> Result<(), Fail> {
-    let source = [0xFFu8, 0xFF];
-    let mut target = [0u8; 3];
-    let (from, fifth, last) = (at::<u8, Lsb0>(0), at::<u8, Lsb0>(4), at::<u8, Lsb0>(16));
-    let words = target.len();
-    assert!(rt; from.run_in(source.len(), 8) && fifth.run_in(words, 8) && last.run_in(words, 8));
-    let mut writer = WordWriter::rising(&mut target);
-    from.copy_through(&source, fifth, &mut writer, 8);
-    assert_eq!(rt; progress(&writer), (2, 2));
-    assert_eq!(rt;
-        (writer.get(0), writer.get(1), writer.get(2)),
-        (0xF0, 0x0F, 0)
-    );
-    from.copy_through(&source, last, &mut writer, 8);
-    assert_eq!(rt; progress(&writer), (3, 3));
-    assert_eq!(rt; target, [0xF0, 0x0F, 0xFF]);
     Ok(())
 }
 
@@ -145,51 +89,5 @@ fn copies_words_in_each_way(rt: HostRuntime) -> Result<(), Fail> {
     assert_eq!(rt; words_copied::<Msb0, Lsb0>(source, 4, 4), [0x2C40, 0x0005]);
     assert_eq!(rt; words_copied::<Msb0, Lsb0>(source, 4, 8), [0xC400, 0x0052]);
     assert_eq!(rt; words_copied::<Msb0, Lsb0>(source, 8, 4), [0x52C0, 0x000D]);
-    Ok(())
-}
-
-// The bits of three words, one by one.
-fn listed(memory: &[u64; 3]) -> [bool; 192] {
-    let mut bits = [false; 192];
-    for (k, bit) in bits.iter_mut().enumerate() {
-        *bit = memory[k / 64] >> (k % 64) & 1 == 1;
-    }
-    bits
-}
-
-// Whether a copy from a place to another inside three words does what it does to a list of their bits.
-fn moves_as_a_list(from: usize, to: usize, count: usize) -> bool {
-    let mut memory = [
-        0x0123_4567_89AB_CDEFu64,
-        0xF0E1_D2C3_B4A5_9687,
-        0x1357_9BDF_0246_8ACE,
-    ];
-    let before = listed(&memory);
-    let mut want = before;
-    if from + count > want.len() || to + count > want.len() {
-        return false;
-    }
-    for k in 0..count {
-        want[to + k] = before[from + k];
-    }
-    let (first, dest) = (at::<u64, Lsb0>(from as u16), at::<u64, Lsb0>(to as u16));
-    if !(first.run_in(memory.len(), count) && dest.run_in(memory.len(), count)) {
-        return false;
-    }
-    first.copy_within(&mut memory, dest, count);
-    listed(&memory) == want
-}
-
-#[test]
-fn moves_by_every_distance(rt: HostRuntime) -> Result<(), Fail> {
-    for distance in 0..=130 {
-        for count in [1, 61] {
-            assert!(rt; moves_as_a_list(distance, 0, count), "{distance} down");
-            assert!(rt; moves_as_a_list(0, distance, count), "{distance} up");
-        }
-        let long = 192 - distance;
-        assert!(rt; moves_as_a_list(distance, 0, long), "{distance} down, all");
-        assert!(rt; moves_as_a_list(0, distance, long), "{distance} up, all");
-    }
     Ok(())
 }
