@@ -1,6 +1,6 @@
 -- Runs of requests through spans of one memory: each span's list goes its own way. `bits` is the width of a word, `at`
 -- takes an index in a word to its position in the number, and a memory is the list of its words' numbers.
-use Rattle.std.specs.Prelude.{ℕ, pos, ◌<◌, ◌≤◌, ◌≡◌, Bool, List, [], ◌∷◌, length, slice_get, Some, All, AllPairs}
+use Rattle.std.specs.Prelude.{ℕ, pos, ◌<◌, ◌≤◌, ◌≡◌, ◌↔◌, Bool, List, [], ◌∷◌, length, slice_get, Some, All, AllPairs}
 use Rattle.bitvec_ptr.specs.Memory.{bit_of}
 use Rattle.bitvec_domain.specs.Span.{Span, Fits, Covers, AreDisjoint, list_of}
 use Rattle.bitvec.specs.declared.run.command.Command.{Command}
@@ -29,12 +29,13 @@ alone_replies bits at span words commands = replies_to bits at span.head command
 abbrev pub alone_list : ℕ → (ℕ → ℕ) → Span → List ℕ → List (Command ℕ) → List Bool
 alone_list bits at span words commands = list_after_all bits at span.head commands (list_of bits at span words)
 
--- there are as many replies as requests, and a request that names none of so many spans is answered so
+-- there are as many replies as requests, and a reply says that there is no such span exactly where its request names none
+-- of so many spans
 abbrev pub AnswersNoSpan : ℕ → List (Request ℕ) → List (Reply ℕ) → Type 0
 AnswersNoSpan spans [] [] = Unit {0}
 AnswersNoSpan spans [] (reply ∷ replies) = ⊥
 AnswersNoSpan spans (request ∷ requests) [] = ⊥
-AnswersNoSpan spans (request ∷ requests) (reply ∷ replies) = (spans ≤ request.span → reply ≡ NoSpan) × AnswersNoSpan spans requests replies
+AnswersNoSpan spans (request ∷ requests) (reply ∷ replies) = ((reply ≡ NoSpan) ↔ (spans ≤ request.span)) × AnswersNoSpan spans requests replies
 
 -- the place lies in none of the spans
 abbrev pub IsOutside : {S : Type 0} → ℕ → (S → Span) → List S → ℕ → Type 0
