@@ -66,11 +66,11 @@ run-one {S} bits at view spans named old new request reply can named_is step =
         | inr differ ↦ let t = ne_eqb request.span s differ in rw t refl
       ];
       no_span = (
-          (
-            λ none. absurd (reply_is_own bits at (view named).head request.command (list_of bits at (view named) old) (sym step.answered ∙ none)),
-            λ past. absurd (omega (arith, slice_get_within spans request.span named named_is)),
-          ),
-          tt,
+        (
+          λ none. absurd (reply_is_own bits at (view named).head request.command (list_of bits at (view named) old) (sym step.answered ∙ none)),
+          λ past. absurd (omega (arith, slice_get_within spans request.span named named_is)),
+        ),
+        tt,
       );
       placed = record {
         lists = λ s span is. elim (cases_eq request.span s) [

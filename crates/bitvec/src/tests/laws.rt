@@ -189,3 +189,117 @@ fn halves_of_a_byte_in_two_orders(rt: HostRuntime) {
     let want = (replies, [0x9D], other_replies, [0x9D]);
     assert_eq!(rt; halves_in_two_orders(), Some(want));
 }
+
+// The replies of the same bit commands to the low half of 0x0D under `Lsb0` and to four bits of
+// 0x02C0 under `Msb0`, which are the same four.
+fn bit_commands_in_two_memories() -> Option<([Reply<u8>; 3], [u8; 1], [Reply<u16>; 3], [u16; 1])> {
+    let low: BitSpan<u8, Lsb0> = BitSpan::new(0, BitIdx::new_unchecked(0), 4).ok()?;
+    let high: BitSpan<u16, Msb0> = BitSpan::new(0, BitIdx::new_unchecked(6), 4).ok()?;
+    let mut here = [0x0D];
+    let mut there = [0x02C0];
+    if !can_run(&[low], 1) || !can_run(&[high], 1) {
+        return None;
+    }
+    let requests = [
+        Request {
+            span: 0,
+            command: Command::Read(0),
+        },
+        Request {
+            span: 0,
+            command: Command::Swap(0, 1),
+        },
+        Request {
+            span: 0,
+            command: Command::Replace(3, false),
+        },
+    ];
+    let other_requests = [
+        Request {
+            span: 0,
+            command: Command::Read(0),
+        },
+        Request {
+            span: 0,
+            command: Command::Swap(0, 1),
+        },
+        Request {
+            span: 0,
+            command: Command::Replace(3, false),
+        },
+    ];
+    let mut replies = [Reply::NoSpan; 3];
+    let mut other_replies = [Reply::NoSpan; 3];
+    run_bit_commands(
+        &[low],
+        &mut here,
+        &requests,
+        &mut replies,
+        &[high],
+        &mut there,
+        &other_requests,
+        &mut other_replies,
+    );
+    Some((replies, here, other_replies, there))
+}
+
+#[test]
+fn bit_commands_under_two_orders(rt: HostRuntime) {
+    let replies = [Reply::Bit(true), Reply::Done, Reply::Bit(true)];
+    let other_replies = [Reply::Bit(true), Reply::Done, Reply::Bit(true)];
+    let want = (replies, [0x06], other_replies, [0x0180]);
+    assert_eq!(rt; bit_commands_in_two_memories(), Some(want));
+}
+
+// The replies to stores of 0x0D under `Lsb0` and of 0xB0 under `Msb0` in a byte of zeros, and to the
+// loads after them.
+fn turned_in_two_memories() -> Option<([Reply<u8>; 2], [u8; 1], [Reply<u8>; 2], [u8; 1])> {
+    let span: BitSpan<u8, Lsb0> = BitSpan::new(0, BitIdx::new_unchecked(0), 8).ok()?;
+    let other: BitSpan<u8, Msb0> = BitSpan::new(0, BitIdx::new_unchecked(0), 8).ok()?;
+    let mut here = [0];
+    let mut there = [0];
+    if !can_run(&[span], 1) || !can_run(&[other], 1) {
+        return None;
+    }
+    let requests = [
+        Request {
+            span: 0,
+            command: Command::Store(0, 0x0D),
+        },
+        Request {
+            span: 0,
+            command: Command::Load(0),
+        },
+    ];
+    let other_requests = [
+        Request {
+            span: 0,
+            command: Command::Store(0, 0xB0),
+        },
+        Request {
+            span: 0,
+            command: Command::Load(0),
+        },
+    ];
+    let mut replies = [Reply::NoSpan; 2];
+    let mut other_replies = [Reply::NoSpan; 2];
+    run_turned(
+        &[span],
+        &mut here,
+        &requests,
+        &mut replies,
+        &[other],
+        &mut there,
+        &other_requests,
+        &mut other_replies,
+    );
+    Some((replies, here, other_replies, there))
+}
+
+#[test]
+fn a_byte_turned(rt: HostRuntime) {
+    let replies = [Reply::Word(0), Reply::Word(0x0D)];
+    let other_replies = [Reply::Word(0), Reply::Word(0xB0)];
+    let want = (replies, [0x0D], other_replies, [0xB0]);
+    assert_eq!(rt; turned_in_two_memories(), Some(want));
+}
