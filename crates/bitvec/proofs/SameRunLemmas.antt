@@ -3,6 +3,7 @@ use Rattle.std.proofs.Common.{◌≡◌, ◌≢◌, ◌⊎◌, ℕ, ◌+◌, ◌
 use Rattle.std.specs.Prelude.{ℤ, pos, negsuc, nat_abs, ◌+ℤ◌, ◌*ℤ◌, ◌≤ℤ◌, ◌<ℤ◌, slice_get, slice_index, All}
 use Rattle.std.proofs.lemmas.Int.{ints}
 use Rattle.std.proofs.lemmas.List.{same_lists, get_or_default}
+use Rattle.std.proofs.lemmas.List.Elements.{All-head, All-tail}
 use Rattle.std.proofs.lemmas.Option.{slice_get_cases, slice_get_within, get_or_from_slice_get}
 use Rattle.bitvec_order.specs.Order.{IsOneToOne}
 use Rattle.bitvec_order.proofs.IndexLemmas.{same_from_indices}
@@ -90,9 +91,10 @@ pub same_words : {W : Type 0} (number : W → ℕ) (limit : ℕ) → ((a b : W) 
 same_words number limit one [] [] below other_below e = refl
 same_words number limit one [] (b ∷ there) below other_below e = cc
 same_words number limit one (a ∷ here) [] below other_below e = cc
-same_words number limit one (a ∷ here) (b ∷ there) below other_below e =
+same_words {W} number limit one (a ∷ here) (b ∷ there) below other_below e =
     let first : number a ≡ number b = cc in
     let rest : map number here ≡ map number there = cc in
-    let same = one a b below.0 other_below.0 first in
-    let others = same_words number limit one here there below.1 other_below.1 rest in
+    let Below : W → Type 0 = λ word. number word < limit in
+    let same = one a b (All-head Below a here below) (All-head Below b there other_below) first in
+    let others = same_words number limit one here there (All-tail Below a here below) (All-tail Below b there other_below) rest in
     rw (same, others) refl
