@@ -76,14 +76,12 @@ fn joined<const RISING: bool>(first: u64, second: u64, down: u32, up: u32) -> u6
     if RISING { first >> down | second << up } else { second >> down | first << up }
 }
 
-/// Eight words made of nine neighbours, all read before any is written.
+/// Four words made of five neighbours, all read before any is written.
 #[inline(always)]
-fn joined_block<const RISING: bool>(read: &[u64], down: u32, up: u32) -> [u64; 8] {
-    let mut block = [0; 8];
-    for j in 0..8 {
-        block[j] = joined::<RISING>(read[j], read[j + 1], down, up);
-    }
-    block
+fn joined_block<const RISING: bool>(read: &[u64], down: u32, up: u32) -> [u64; 4] {
+    let first: [u64; 4] = read[..4].try_into().unwrap();
+    let second: [u64; 4] = read[1..5].try_into().unwrap();
+    std::array::from_fn(|j| joined::<RISING>(first[j], second[j], down, up))
 }
 
 #[inline(always)]
@@ -123,7 +121,7 @@ fn copy_shifted<const RISING: bool>(source: &[u64], from: usize, target: &mut [u
     copy_plain::<RISING>(source, from + done, target, to + done, count - done);
 }
 
-/// Inside one memory to a lower place: blocks of eight words from the front, each read before it is
+/// Inside one memory to a lower place: blocks of four words from the front, each read before it is
 /// written, so that they vectorise whatever the distance.
 #[inline(never)]
 fn copy_down<const RISING: bool>(memory: &mut [u64], from: usize, to: usize, count: usize) {
@@ -137,10 +135,10 @@ fn copy_down<const RISING: bool>(memory: &mut [u64], from: usize, to: usize, cou
     let whole = (count - head) / 64;
     let (down, up) = shifts::<RISING>(shift);
     let mut k = 0;
-    while k + 8 <= whole {
-        let block = joined_block::<RISING>(&memory[first + k..first + k + 9], down, up);
-        memory[start + k..start + k + 8].copy_from_slice(&block);
-        k += 8;
+    while k + 4 <= whole {
+        let block = joined_block::<RISING>(&memory[first + k..first + k + 5], down, up);
+        memory[start + k..start + k + 4].copy_from_slice(&block);
+        k += 4;
     }
     while k < whole {
         memory[start + k] = joined::<RISING>(memory[first + k], memory[first + k + 1], down, up);
@@ -167,10 +165,10 @@ fn copy_up<const RISING: bool>(memory: &mut [u64], from: usize, to: usize, count
     }
     let (down, up) = shifts::<RISING>(shift);
     let mut k = whole;
-    while k >= 8 {
-        k -= 8;
-        let block = joined_block::<RISING>(&memory[first + k..first + k + 9], down, up);
-        memory[start + k..start + k + 8].copy_from_slice(&block);
+    while k >= 4 {
+        k -= 4;
+        let block = joined_block::<RISING>(&memory[first + k..first + k + 5], down, up);
+        memory[start + k..start + k + 4].copy_from_slice(&block);
     }
     while k > 0 {
         k -= 1;

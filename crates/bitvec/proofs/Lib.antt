@@ -1,17 +1,11 @@
 pub mod BitCommandLemmas
 pub mod CommandLemmas
-pub mod DisjointMasks
-pub mod ElementLemmas
-pub mod EndLemmas
 pub mod LaterLemmas
 pub mod LawLemmas
 pub mod MoveLemmas
-pub mod PointerLaws
 pub mod RequestLemmas
 pub mod RisingLemmas
 pub mod RunLemmas
-pub mod SameRunLemmas
-pub mod ScanCounts
 pub mod SpanLemmas
 pub mod TurnLemmas
 pub mod WordLemmas

@@ -1,8 +1,6 @@
 pub mod Commands
-pub mod Elements
 pub mod Laws
 pub mod Run
-pub mod SameRuns
 pub use Rattle.bitvec_mem.specs.Digit
 pub use Rattle.bitvec_mem.specs.Numeral
 pub use Rattle.bitvec_mem.specs.SameDigits

@@ -12,5 +12,3 @@ pub mod laws;
 pub mod order;
 pub mod prelude;
 pub mod run;
-#[cfg(test)]
-mod tests;

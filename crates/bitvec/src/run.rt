@@ -18,8 +18,6 @@ use crate::run::step::step;
 mod bit;
 mod command;
 mod step;
-#[cfg(test)]
-mod tests;
 mod word;
 
 pub use self::command::{Command, Reply, Request};

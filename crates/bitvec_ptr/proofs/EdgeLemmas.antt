@@ -1,16 +1,19 @@
 -- Some bits of a word, put in place by a mask.
-use Rattle.std.proofs.Common.{◌≡◌, ◌≢◌, ◌⊎◌, ⊎_elim, ℕ, ◌+◌, ◌*◌, ◌-◌, ◌/◌, ◌%◌, ◌<◌, ◌≤◌, Bool, true, false, not, ◌&&◌, ◌||◌, List, length, refl, sym, ◌∙◌, ap, arith, inl, inr}
+use Rattle.std.proofs.Common.{◌≡◌, ◌≢◌, ◌⊎◌, ⊎_elim, ℕ, ◌+◌, ◌*◌, ◌-◌, ◌/◌, ◌%◌, ◌^◌, ◌<◌, ◌≤◌, Bool, true, false, not, ◌&&◌, ◌||◌, min, List, length, refl, sym, ◌∙◌, ap, arith, inl, inr}
 use Rattle.std.specs.Prelude.{slice_index, slice_set}
+use Rattle.std.proofs.Math.Bool.{and-true}
 use Rattle.std.proofs.Math.ListN.{length-set}
-use Rattle.std.proofs.Math.Nat.{mul-le-mul_right}
+use Rattle.std.proofs.Math.Nat.{mul-le-mul_right, mod-le}
 use Rattle.std.proofs.lemmas.Bool.{cases_lt, cases_eq, le-leb, lt-leb, lt-ltb, le-ltb}
 use Rattle.std.proofs.lemmas.List.{get_or-set_same, get_or-set_other}
-use Rattle.std.proofs.lemmas.Nat.{div-add-mod', mod_below}
+use Rattle.std.proofs.lemmas.Nat.{div-add-mod', mod_below, pow_pos}
 use Rattle.bitvec_mem.specs.Digit.{digit}
+use Rattle.bitvec_mem.specs.SameDigits.{same_from_digits}
+use Rattle.bitvec_mem.proofs.DigitLemmas.{digit-mod, digit_above, digit_all}
 use Rattle.bitvec_order.specs.Order.{IsOneToOne, IsMaskOf}
 use Rattle.bitvec_order.proofs.IndexLemmas.{digit-mask_at}
 use Rattle.bitvec_ptr.specs.declared.ptr.shift.Way.{Way}
-use Rattle.bitvec_ptr.specs.Shifts.{Allows}
+use Rattle.bitvec_ptr.specs.Shifts.{IsFalling, Allows}
 use Rattle.bitvec_ptr.specs.Memory.{bit_of, memory_bits, copied}
 use Rattle.bitvec_ptr.proofs.BitLemmas.{length-memory_bits, get_or-memory_bits, bit_of-word}
 use Rattle.bitvec_ptr.proofs.CopyLemmas.{copied_from_points}
@@ -117,14 +120,81 @@ pair_bits bits at at2 src k s bit count v low high most end first second this ne
           ∙ sym (ap (bit_of bits at src) place ∙ bit_of-word bits at src (k + 1) (s + j - bits) index))
     ]
 
-whole_not : Way.Whole ≡ Way.Singly → ⊥
-whole_not e = cc
-
 -- what a way asks of other indices of the two sides
 pub allows_on : (way : Way) (bits : ℕ) (at : ℕ → ℕ) (bits2 : ℕ) (at2 : ℕ → ℕ) (from to from2 to2 : ℕ) → Allows way bits at bits2 at2 from to → (bits ≡ bits2 → from ≡ to → from2 ≡ to2) → Allows way bits at bits2 at2 from2 to2
 allows_on way bits at bits2 at2 from to from2 to2 a same = record {
   width = a.width;
-  whole = λ e. let other : way ≢ Way.Singly = λ f. absurd (whole_not (sym e ∙ f)) in (same (a.width other) (a.whole e).0, (a.whole e).1);
+  whole = λ e. (same (a.width e) (a.whole e).0, (a.whole e).1);
   rising = a.rising;
   falling = a.falling;
 }
+
+-- The next piece of a word that is gathered, from one word that is read.
+pub inside_on : (bits : ℕ) (at at2 : ℕ → ℕ) (src : List ℕ) (word index s bit done part bits2 before after read : ℕ)
+    → bit + done + part ≤ bits2 → index + part ≤ bits → word * bits + index ≡ s + done → read ≡ slice_index src word
+    → ((j : ℕ) → j < part → digit after (at2 (bit + done + j)) ≡ digit read (at (index + j)))
+    → ((j : ℕ) → j < bits2 → (j < bit + done) ⊎ (bit + done + part ≤ j) → digit after (at2 j) ≡ digit before (at2 j))
+    → ((j : ℕ) → j < done → digit before (at2 (bit + j)) ≡ bit_of bits at src (s + j))
+    → (j : ℕ) → j < done + part → digit after (at2 (bit + j)) ≡ bit_of bits at src (s + j)
+inside_on bits at at2 src word index s bit done part bits2 before after read room fits place this inside outside begun j h =
+    elim (cases_lt j done) [
+      | inl l ↦ outside (bit + j) (omega arith) (inl (omega arith)) ∙ begun j l
+      | inr r ↦ (
+          let k : ℕ = j - done in
+          let back : bit + done + (j - done) ≡ bit + j = omega arith in
+          let small : index + (j - done) < bits = omega arith in
+          let there : word * bits + (index + (j - done)) ≡ s + j = omega arith in
+          ap (λ v. digit after (at2 v)) (sym back) ∙ inside (j - done) (omega arith) ∙ ap (λ v. digit v (at (index + (j - done)))) this
+          ∙ sym (bit_of-word bits at src word (index + (j - done)) small) ∙ ap (bit_of bits at src) there)
+    ]
+
+pub outside_on : (at2 : ℕ → ℕ) (bit done part bits2 begin before after : ℕ)
+    → ((j : ℕ) → j < bits2 → (j < bit + done) ⊎ (bit + done + part ≤ j) → digit after (at2 j) ≡ digit before (at2 j))
+    → ((j : ℕ) → j < bits2 → (j < bit) ⊎ (bit + done ≤ j) → digit before (at2 j) ≡ digit begin (at2 j))
+    → (j : ℕ) → j < bits2 → (j < bit) ⊎ (bit + (done + part) ≤ j) → digit after (at2 j) ≡ digit begin (at2 j)
+outside_on at2 bit done part bits2 begin before after next begun j h u =
+    elim u [
+      | inl l ↦ next j h (inl (omega arith)) ∙ begun j h (inl l)
+      | inr r ↦ next j h (inr (omega arith)) ∙ begun j h (inr (omega arith))
+    ]
+
+-- a number whose digits from `count` on are not set is below 2 ^ count
+pub below_digits : (bits count n : ℕ) → n < 2 ^ bits → count ≤ bits → ((p : ℕ) → p < bits → count ≤ p → digit n p ≡ false) → n < 2 ^ count
+below_digits bits count n h le none =
+    let low : n % 2 ^ count < 2 ^ count = mod_below n (2 ^ count) (pow_pos count) in
+    let same : n ≡ n % 2 ^ count =
+    same_from_digits bits n (n % 2 ^ count) h (omega (arith, mod-le n (2 ^ count), h))
+    (λ p r. elim (cases_lt p count) [
+      | inl l ↦ sym (digit-mod n count p l)
+      | inr g ↦ none p r g ∙ sym (digit_above (n % 2 ^ count) count p low g)
+    ]) in
+    omega (arith, same, low)
+
+-- Some digits of a word, shifted down and masked.
+pub carried_digit : (bits width from count n low all mask p : ℕ) → width ≡ bits → all ≡ 2 ^ bits - 1 → p < count → from + count ≤ bits
+    → ((q : ℕ) → from + q < bits → digit low q ≡ digit n (from + q)) → ((q : ℕ) → width - count + q < bits → digit mask q ≡ digit all (width - count + q))
+    → (digit low p && digit mask p) ≡ digit n (from + p)
+carried_digit bits width from count n low all mask p e ones h fits down masks =
+    let there : width - count + p < bits = omega arith in
+    ap (λ b. digit low p && b) (masks p there ∙ ap (λ v. digit v (width - count + p)) ones ∙ digit_all bits (width - count + p) there)
+    ∙ and-true (digit low p) ∙ down p (omega arith)
+
+-- The place where a piece ends is the first of the next word, where there is more to read.
+pub piece_end : (bits word index s done part count next place : ℕ) → index < bits → word * bits + index ≡ s + done → done < count → part ≡ min (bits - index) (count - done)
+    → next ≡ word + 1 → place ≡ 0 → done + part < count → next * bits + place ≡ s + (done + part)
+piece_end bits word index s done part count next place low reads more e f g h =
+    let row : next * bits ≡ word * bits + bits = ap (λ v. v * bits) f ∙ omega arith in
+    let all : part ≡ bits - index = omega arith in
+    omega (arith, row, all)
+
+-- the bits of a piece under orders that fall, from digits that were shifted
+pub falling_piece : (bits bits2 : ℕ) (at at2 : ℕ → ℕ) (from bit count lowest position read with after : ℕ) → IsFalling bits at → IsFalling bits2 at2
+    → from + count ≤ bits → bit + count ≤ bits2 → lowest ≡ bits - from - count → position ≡ bits2 - bit - count
+    → ((p : ℕ) → p < count → digit with (position + p) ≡ digit read (lowest + p))
+    → ((j : ℕ) → j < count → digit after (at2 (bit + j)) ≡ digit with (at2 (bit + j)))
+    → (j : ℕ) → j < count → digit after (at2 (bit + j)) ≡ digit read (at (from + j))
+falling_piece bits bits2 at at2 from bit count lowest position read with after falls falls2 fits room e e' moved put j h =
+    let here : bits2 - 1 - (bit + j) ≡ position + (count - 1 - j) = omega arith in
+    let there : lowest + (count - 1 - j) ≡ bits - 1 - (from + j) = omega arith in
+    put j h ∙ ap (digit with) (falls2 (bit + j) (omega arith) ∙ here) ∙ moved (count - 1 - j) (omega arith)
+    ∙ ap (digit read) (there ∙ sym (falls (from + j) (omega arith)))

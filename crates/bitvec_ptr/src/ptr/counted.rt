@@ -11,15 +11,15 @@ ghost use Rattle.bitvec_ptr.specs.Shifts.{Allows};
 ghost use Rattle.bitvec_ptr.specs.WriterView.{writer_memory, writer_of};
 
 use crate::ptr::cursor::Cursor;
-use crate::ptr::shift::{Way, gathered, way_of};
-use crate::ptr::single::with_bit;
+use crate::ptr::shift::{Way, gathered, piece, way_of};
 use crate::ptr::writer::WordWriter;
 use bitvec_mem::mem::BitRegister;
-use bitvec_order::index::BitIdx;
 use bitvec_order::order::BitOrder;
 
-// The word with `count` of its bits, from index `bit` on, read one by one from a memory.
+// The word with `count` of its bits, from index `bit` on, as a memory of words of another width has
+// them from a place on: in pieces, one from each word that is read.
 fn gathered_far<R: BitRegister, O: BitOrder<R>, R2: BitRegister, O2: BitOrder<R2>>(
+    way: Way,
     source: &[R],
     from: Cursor<R>,
     word: R2,
@@ -27,6 +27,7 @@ fn gathered_far<R: BitRegister, O: BitOrder<R>, R2: BitRegister, O2: BitOrder<R2
     count: u8,
 ) -> R2
     requires bit_in { bit + count ≤ R2.BITS }
+    requires way { Allows way R.BITS O.at_of R2.BITS O2.at_of from.bit bit }
     requires from_in { from.word * R.BITS + from.bit + count ≤ length source.now * R.BITS }
     ensures inside { (j : ℕ) → j < count → digit (R2.number result) (O2.at_of (bit + j))
         ≡ bit_of R.BITS O.at_of (map R.number source.now) (from.word * R.BITS + from.bit + j) }
@@ -35,10 +36,13 @@ fn gathered_far<R: BitRegister, O: BitOrder<R>, R2: BitRegister, O2: BitOrder<R2
 {
     let mut gathered = word;
     let mut read = from;
-    for done in 0..count {
-        let taken = read.read::<O>(source);
-        gathered = with_bit::<R2, O2>(gathered, BitIdx::new_unchecked(bit + done), taken);
-        read = read.next();
+    let mut done = 0;
+    while done < count {
+        let part = (R::BITS - read.bit).min(count - done);
+        let here = source[read.word];
+        gathered = piece::<R, O, R2, O2>(way, here, read.bit, gathered, bit + done, part);
+        read = Cursor::new(read.word + 1, 0);
+        done += part;
     }
     gathered
 }
@@ -96,7 +100,7 @@ fn gathered_from<R: BitRegister, O: BitOrder<R>, R2: BitRegister, O2: BitOrder<R
         → digit (R2.number result) (O2.at_of j) ≡ digit (R2.number word) (O2.at_of j) }
 {
     if R::BITS != R2::BITS {
-        return gathered_far::<R, O, R2, O2>(source, from, word, bit, count);
+        return gathered_far::<R, O, R2, O2>(way, source, from, word, bit, count);
     }
     let (low, high) = pair_from(source, from, count);
     gathered::<R, O, R2, O2>(way, low, high, from.bit, word, bit, count)

@@ -1,5 +1,5 @@
-//! How the bits of one word of a copy are gathered: from the word at the same index, from two
-//! neighbouring words, or bit by bit.
+//! How the bits of one word of a copy are gathered: from the word at the same index, from
+//! neighbouring words by shifts, or bit by bit.
 
 ghost use Rattle.std.specs.Prelude.{◌≡◌, ◌↔◌, ℕ, ◌+◌, ◌-◌, ◌*◌, ◌^◌, ◌<◌, ◌≤◌, ◌⊎◌, IsTrue, true, false, length, map};
 ghost use Rattle.bitvec_mem.specs.Digit.{digit};
@@ -18,9 +18,9 @@ use bitvec_order::order::{BitAt, BitOrder};
 pub enum Way {
     /// From one word, each bit from its own position.
     Whole,
-    /// From two neighbouring words, shifted and merged: positions rise with the index.
+    /// From neighbouring words, shifted and merged: positions rise with the index.
     Rising,
-    /// From two neighbouring words, shifted and merged: positions fall as the index rises.
+    /// From neighbouring words, shifted and merged: positions fall as the index rises.
     Falling,
     /// Bit by bit.
     Singly,
@@ -79,9 +79,6 @@ pub(super) fn way_of<R: BitRegister, O: BitAt<R>, R2: BitRegister, O2: BitAt<R2>
 ) -> Way
     ensures { Allows result R.BITS O.at_of R2.BITS O2.at_of from to }
 {
-    if R::BITS != R2::BITS {
-        return Way::Singly;
-    }
     if from == to && are_same::<R, O, R2, O2>() {
         return Way::Whole;
     }
@@ -105,12 +102,20 @@ fn merged<R: BitRegister>(low: R, high: R, shift: u8) -> R
     low.shr(shift).or(high.shl(R::BITS - shift))
 }
 
+// The word that is a number.
+fn word_of<R: BitRegister>(number: u128) -> R
+    requires { number < 2 ^ R.BITS }
+    ensures { R.number result ≡ number }
+{
+    R::from_u128(number).unwrap_or(R::ZERO)
+}
+
 // The word of another register of the same width that is the same number.
 fn same_word<R: BitRegister, R2: BitRegister>(word: R) -> R2
     requires { R.BITS ≡ R2.BITS }
     ensures { R2.number result ≡ R.number word }
 {
-    R2::from_u128(word.to_u128()).unwrap_or(R2::ZERO)
+    word_of(word.to_u128())
 }
 
 // The word whose bits are those of two neighbouring words, from index `shift` of the first on.
@@ -192,21 +197,32 @@ fn put_part<R: BitRegister, O: BitOrder<R>>(word: R, with: R, bit: u8, count: u8
     word.and(mask.not()).or(with.and(mask))
 }
 
-// The bit at an index of two neighbouring words, counted from the first index of the first.
-fn bit_of_two<R: BitRegister, O: BitOrder<R>>(low: R, high: R, index: u8) -> bool
-    requires { index < 2 * R.BITS }
-    ensures low { index < R.BITS → result ≡ digit (R.number low) (O.at_of index) }
-    ensures high { R.BITS ≤ index → result ≡ digit (R.number high) (O.at_of (index - R.BITS)) }
+// The word with `count` of its bits, from index `bit` on, read one by one from those of another word
+// from index `from` on.
+fn singly<R: BitRegister, O: BitOrder<R>, R2: BitRegister, O2: BitOrder<R2>>(
+    read: R,
+    from: u8,
+    word: R2,
+    bit: u8,
+    count: u8,
+) -> R2
+    requires from_in { from + count ≤ R.BITS }
+    requires bit_in { bit + count ≤ R2.BITS }
+    ensures inside { (j : ℕ) → j < count
+        → digit (R2.number result) (O2.at_of (bit + j)) ≡ digit (R.number read) (O.at_of (from + j)) }
+    ensures outside { (j : ℕ) → j < R2.BITS → (j < bit) ⊎ (bit + count ≤ j)
+        → digit (R2.number result) (O2.at_of j) ≡ digit (R2.number word) (O2.at_of j) }
 {
-    if index < R::BITS {
-        return bit_at::<R, O>(low, BitIdx::new_unchecked(index));
+    let mut gathered = word;
+    for done in 0..count {
+        let taken = bit_at::<R, O>(read, BitIdx::new_unchecked(from + done));
+        gathered = with_bit::<R2, O2>(gathered, BitIdx::new_unchecked(bit + done), taken);
     }
-    bit_at::<R, O>(high, BitIdx::new_unchecked(index - R::BITS))
+    gathered
 }
 
-// The word with `count` of its bits, from index `bit` on, read one by one from two neighbouring words
-// from index `shift` on.
-fn singly<R: BitRegister, O: BitOrder<R>, R2: BitRegister, O2: BitOrder<R2>>(
+// The same from two neighbouring words, from index `shift` of the first on.
+fn singly_of_two<R: BitRegister, O: BitOrder<R>, R2: BitRegister, O2: BitOrder<R2>>(
     low: R,
     high: R,
     shift: u8,
@@ -224,12 +240,62 @@ fn singly<R: BitRegister, O: BitOrder<R>, R2: BitRegister, O2: BitOrder<R2>>(
     ensures outside { (j : ℕ) → j < R2.BITS → (j < bit) ⊎ (bit + count ≤ j)
         → digit (R2.number result) (O2.at_of j) ≡ digit (R2.number word) (O2.at_of j) }
 {
-    let mut gathered = word;
-    for done in 0..count {
-        let taken = bit_of_two::<R, O>(low, high, shift + done);
-        gathered = with_bit::<R2, O2>(gathered, BitIdx::new_unchecked(bit + done), taken);
+    let first = R::BITS - shift;
+    if count <= first {
+        return singly::<R, O, R2, O2>(low, shift, word, bit, count);
     }
-    gathered
+    let begun = singly::<R, O, R2, O2>(low, shift, word, bit, first);
+    singly::<R, O, R2, O2>(high, 0, begun, bit + first, count - first)
+}
+
+// The word whose digits from position `to` on are `count` digits of a word of any register, from
+// position `from` on.
+fn carried<R: BitRegister, R2: BitRegister>(word: R, from: u8, to: u8, count: u8) -> R2
+    requires some { 0 < count }
+    requires from_in { from + count ≤ R.BITS }
+    requires to_in { to + count ≤ R2.BITS }
+    ensures { (p : ℕ) → p < count → digit (R2.number result) (to + p) ≡ digit (R.number word) (from + p) }
+{
+    let lowest = R::ALL.shr(R::BITS - count);
+    let digits = word.shr(from).and(lowest);
+    let here: R2 = word_of(digits.to_u128());
+    here.shl(to)
+}
+
+// The word with `count` of its bits, from index `bit` on, as one word of any register has them from
+// index `from` on.
+pub(super) fn piece<R: BitRegister, O: BitOrder<R>, R2: BitRegister, O2: BitOrder<R2>>(
+    way: Way,
+    read: R,
+    from: u8,
+    word: R2,
+    bit: u8,
+    count: u8,
+) -> R2
+    requires some { 0 < count }
+    requires from_in { from + count ≤ R.BITS }
+    requires bit_in { bit + count ≤ R2.BITS }
+    requires rising { way ≡ Way.Rising → IsRising R.BITS O.at_of × IsRising R2.BITS O2.at_of }
+    requires falling { way ≡ Way.Falling → IsFalling R.BITS O.at_of × IsFalling R2.BITS O2.at_of }
+    ensures inside { (j : ℕ) → j < count
+        → digit (R2.number result) (O2.at_of (bit + j)) ≡ digit (R.number read) (O.at_of (from + j)) }
+    ensures outside { (j : ℕ) → j < R2.BITS → (j < bit) ⊎ (bit + count ≤ j)
+        → digit (R2.number result) (O2.at_of j) ≡ digit (R2.number word) (O2.at_of j) }
+{
+    match way {
+        Way::Rising => {
+            let with = carried::<R, R2>(read, from, bit, count);
+            return put_part::<R2, O2>(word, with, bit, count);
+        }
+        Way::Falling => {
+            let lowest = R::BITS - from - count;
+            let position = R2::BITS - bit - count;
+            let with = carried::<R, R2>(read, lowest, position, count);
+            return put_part::<R2, O2>(word, with, bit, count);
+        }
+        Way::Whole | Way::Singly => {}
+    }
+    singly::<R, O, R2, O2>(read, from, word, bit, count)
 }
 
 // The word with `count` of its bits, from index `bit` on, as two neighbouring words have them from
@@ -270,5 +336,5 @@ pub(super) fn gathered<R: BitRegister, O: BitOrder<R>, R2: BitRegister, O2: BitO
         }
         Way::Singly => {}
     }
-    singly::<R, O, R2, O2>(low, high, shift, word, bit, count)
+    singly_of_two::<R, O, R2, O2>(low, high, shift, word, bit, count)
 }

@@ -1,4 +1,4 @@
-use Rattle.std.proofs.Common.{◌≡◌, ◌⊎◌, ℕ, ◌+◌, ◌-◌, ◌<◌, ◌≤◌}
+use Rattle.std.proofs.Common.{◌≡◌, ◌⊎◌, ℕ, ◌+◌, ◌<◌, ◌≤◌}
 use Rattle.bitvec_mem.specs.Digit.{digit}
 use Rattle.bitvec_ptr.proofs.ptr.shift.singly.Given as goal
 
@@ -9,7 +9,6 @@ invariant-loop-done g l =
     let at = g.O.BitAt.at_of in
     let at2 = g.O2.BitAt.at_of in
     record {
-      low : (j : ℕ) → j < l.done → l.shift + j < R.BITS → digit (R2.number l.gathered) (at2 (l.bit + j)) ≡ digit (R.number l.low) (at (l.shift + j));
-      high : (j : ℕ) → j < l.done → R.BITS ≤ l.shift + j → digit (R2.number l.gathered) (at2 (l.bit + j)) ≡ digit (R.number l.high) (at (l.shift + j - R.BITS));
+      inside : (j : ℕ) → j < l.done → digit (R2.number l.gathered) (at2 (l.bit + j)) ≡ digit (R.number l.read) (at (l.from + j));
       outside : (j : ℕ) → j < R2.BITS → (j < l.bit) ⊎ (l.bit + l.done ≤ j) → digit (R2.number l.gathered) (at2 j) ≡ digit (R2.number l.fn.word) (at2 j);
     }

@@ -1,0 +1,10 @@
+use Rattle.std.proofs.Common.{ap, ◌∙◌}
+use Rattle.bitvec.specs.PtrRange.{count_of}
+use Rattle.tests_pointers.proofs.EndLemmas.{greatest-range}
+use Rattle.tests_pointers.proofs.ends.greatest_range.Goals as goal
+
+pub from_range-requires : goal.from_range-requires
+from_range-requires c = (greatest-range _ _ c.requires.start c.requires.end).0
+
+pub returns : goal.returns
+returns c = ap (count_of 8) c.from_range.ensures ∙ (greatest-range _ _ c.requires.start c.requires.end).1

@@ -1,0 +1,191 @@
+//! Copies by their words: what is put, how often, and where the mark ends.
+
+ghost use Rattle.std.specs.Prelude.{◌≡◌, ◌<◌, pos};
+ghost use Rattle.bitvec.specs.BitPtr.{ptr_of};
+
+use bitvec::index::BitIdx;
+use bitvec::mem::BitRegister;
+use bitvec::order::{BitOrder, Lsb0, Msb0};
+use bitvec::ptr::single::BitPtr;
+use bitvec::ptr::writer::WordWriter;
+use std::test::Fail;
+
+// The pointer at a place from 0 on.
+fn at<R: BitRegister, O>(place: u16) -> BitPtr<R, O> {
+    let width = u16::from(R::BITS);
+    let bit = BitIdx::new_unchecked((place % width) as u8);
+    BitPtr::new((place / width) as isize, bit)
+}
+
+// The number of words put and the mark.
+fn progress<R: Copy>(writer: &WordWriter<R>) -> (usize, usize) {
+    (writer.writes(), writer.mark())
+}
+
+#[test]
+fn counts_a_copy_between_registers_and_orders(rt: HostRuntime) -> Result<(), Fail> {
+    let source = [0x8001u16];
+    let mut target = [0u8; 2];
+    let (from, dest) = (at::<u16, Msb0>(0), at::<u8, Lsb0>(0));
+    assert!(rt; from.run_in(source.len(), 16) && dest.run_in(target.len(), 16));
+    let mut writer = WordWriter::rising(&mut target);
+    from.copy_through(&source, dest, &mut writer, 16);
+    assert_eq!(rt; progress(&writer), (2, 2));
+    assert_eq!(rt; target, [0x01, 0x80]);
+    let mut writer = WordWriter::falling(&mut target);
+    from.copy_through(&source, dest, &mut writer, 16);
+    assert_eq!(rt; progress(&writer), (2, 0));
+    assert_eq!(rt; target, [0x01, 0x80]);
+    Ok(())
+}
+
+#[test]
+fn copies_no_bit_behind_the_last_word(rt: HostRuntime) -> Result<(), Fail> {
+    let source = [1u8, 2, 3];
+    let mut memory = [4u8, 5, 6];
+    let end = at::<u8, Lsb0>(24);
+    assert!(rt; end.run_in(source.len(), 0) && end.run_in(memory.len(), 0));
+    end.copy_to(&source, end, &mut memory, 0);
+    end.copy_to_nonoverlapping(&source, end, &mut memory, 0);
+    end.copy_from(&mut memory, end, &source, 0);
+    end.copy_from_nonoverlapping(&mut memory, end, &source, 0);
+    end.copy_within(&mut memory, end, 0);
+    end.copy_from_within(&mut memory, end, 0);
+    end.copy_within_nonoverlapping(&mut memory, end, 0);
+    let mut writer = WordWriter::falling(&mut memory);
+    writer.skip_to(1);
+    end.copy_through(&source, end, &mut writer, 0);
+    end.copy_within_through(end, &mut writer, 0);
+    assert!(rt; !writer.is_rising());
+    assert_eq!(rt; progress(&writer), (0, 1));
+    assert_eq!(rt; memory, [4, 5, 6]);
+    Ok(())
+}
+
+// Sixteen bits copied from place `from` of two words to place `to` of two words.
+fn words_copied<O: BitOrder<u16>, O2: BitOrder<u16>>(
+    source: [u16; 2],
+    from: u16,
+    to: u16,
+) -> [u16; 2] {
+    let mut target = [0u16; 2];
+    let (from, to) = (at::<u16, O>(from), at::<u16, O2>(to));
+    if from.run_in(source.len(), 16) && to.run_in(target.len(), 16) {
+        from.copy_to(&source, to, &mut target, 16);
+    }
+    target
+}
+
+// 0x1234 and 0xABCD are copied from place 4 on to place 4 and to place 8, and from there to place 4.
+#[test]
+fn copies_words_in_each_way(rt: HostRuntime) -> Result<(), Fail> {
+    let source = [0x1234u16, 0xABCD];
+    assert_eq!(rt; words_copied::<Lsb0, Lsb0>(source, 4, 4), [0x1230, 0x000D]);
+    assert_eq!(rt; words_copied::<Lsb0, Lsb0>(source, 4, 8), [0x2300, 0x00D1]);
+    assert_eq!(rt; words_copied::<Lsb0, Lsb0>(source, 8, 4), [0xD120, 0x000C]);
+    assert_eq!(rt; words_copied::<Msb0, Msb0>(source, 4, 4), [0x0234, 0xA000]);
+    assert_eq!(rt; words_copied::<Msb0, Msb0>(source, 4, 8), [0x0023, 0x4A00]);
+    assert_eq!(rt; words_copied::<Msb0, Msb0>(source, 8, 4), [0x034A, 0xB000]);
+    assert_eq!(rt; words_copied::<Lsb0, Msb0>(source, 4, 4), [0x0C48, 0xB000]);
+    assert_eq!(rt; words_copied::<Lsb0, Msb0>(source, 4, 8), [0x00C4, 0x8B00]);
+    assert_eq!(rt; words_copied::<Lsb0, Msb0>(source, 8, 4), [0x048B, 0x3000]);
+    assert_eq!(rt; words_copied::<Msb0, Lsb0>(source, 4, 4), [0x2C40, 0x0005]);
+    assert_eq!(rt; words_copied::<Msb0, Lsb0>(source, 4, 8), [0xC400, 0x0052]);
+    assert_eq!(rt; words_copied::<Msb0, Lsb0>(source, 8, 4), [0x52C0, 0x000D]);
+    Ok(())
+}
+
+// The pointer to a bit of the first word.
+fn in_first<O>(bit: u8) -> BitPtr<u8, O>
+    requires { bit < 8 }
+    ensures word { (ptr_of result).word ≡ pos 0 }
+    ensures bit { (ptr_of result).bit ≡ bit }
+{
+    BitPtr::new(0, BitIdx::new_unchecked(bit))
+}
+
+#[test]
+fn counts_a_copy_up_in_one_word(rt: HostRuntime) -> Result<(), Fail> {
+    let mut memory = [0x0Du8];
+    let mut writer = WordWriter::falling(&mut memory);
+    in_first::<Lsb0>(0).copy_within_through(in_first(2), &mut writer, 6);
+    assert_eq!(rt; progress(&writer), (1, 0));
+    assert_eq!(rt; memory, [0x35]);
+    Ok(())
+}
+
+#[test]
+fn counts_a_copy_of_nibbles_down(rt: HostRuntime) -> Result<(), Fail> {
+    let mut memory = [0x12u8, 0x34, 0x56];
+    let mut writer = WordWriter::rising(&mut memory);
+    in_first::<Msb0>(4).copy_within_through(in_first(0), &mut writer, 16);
+    assert_eq!(rt; progress(&writer), (2, 2));
+    assert_eq!(rt; memory, [0x23, 0x45, 0x56]);
+    Ok(())
+}
+
+#[test]
+fn counts_a_copy_up_over_three_words(rt: HostRuntime) -> Result<(), Fail> {
+    let mut memory = [0x12u8, 0x34, 0x56];
+    let mut writer = WordWriter::falling(&mut memory);
+    in_first::<Lsb0>(0).copy_within_through(in_first(4), &mut writer, 16);
+    assert_eq!(rt; progress(&writer), (3, 0));
+    assert_eq!(rt; memory, [0x22, 0x41, 0x53]);
+    Ok(())
+}
+
+#[test]
+fn counts_two_copies_through_one_writer(rt: HostRuntime) -> Result<(), Fail> {
+    let source = [0xFFu8, 0xFF];
+    let mut memory = [0u8; 3];
+    let from = in_first::<Lsb0>(0);
+    let mut writer = WordWriter::rising(&mut memory);
+    from.copy_through(&source, in_first::<Lsb0>(4), &mut writer, 8);
+    assert_eq!(rt; progress(&writer), (2, 2));
+    let third: BitPtr<u8, Lsb0> = BitPtr::new(2, BitIdx::new_unchecked(0));
+    assert!(rt; writer.mark() == 2);
+    from.copy_through(&source, third, &mut writer, 8);
+    assert_eq!(rt; progress(&writer), (3, 3));
+    assert_eq!(rt; memory, [0xF0, 0x0F, 0xFF]);
+    Ok(())
+}
+
+// The bits of three words in a list, each at its index, or with the indices of a word turned round.
+fn list_of(words: [u64; 3], turned: bool) -> [bool; 192] {
+    let turn = if turned { 63 } else { 0 };
+    let mut list = [false; 192];
+    for place in 0..192 {
+        list[place] = words[place / 64] >> (place % 64 ^ turn) & 1 == 1;
+    }
+    list
+}
+
+// Whether 62 bits of three words that are moved are so many truth values moved in their list.
+fn moves_as_in_a_list<O: BitOrder<u64>>(turned: bool, from: u16, to: u16) -> bool {
+    let words = [
+        0x0123_4567_89AB_CDEFu64,
+        0xFEDC_BA98_7654_3210,
+        0x0F1E_2D3C_4B5A_6978,
+    ];
+    let mut memory = words;
+    let (start, end) = (at::<u64, O>(from), at::<u64, O>(to));
+    if from > 130 || to > 130 || !(start.run_in(3, 62) && end.run_in(3, 62)) {
+        return false;
+    }
+    start.copy_within(&mut memory, end, 62);
+    let mut list = list_of(words, turned);
+    let first = usize::from(from);
+    list.copy_within(first..first + 62, usize::from(to));
+    list_of(memory, turned) == list
+}
+
+#[test]
+fn moves_bits_every_distance(rt: HostRuntime) -> Result<(), Fail> {
+    for distance in 0..131 {
+        assert!(rt; moves_as_in_a_list::<Lsb0>(false, 0, distance));
+        assert!(rt; moves_as_in_a_list::<Lsb0>(false, distance, 0));
+        assert!(rt; moves_as_in_a_list::<Msb0>(true, 0, distance));
+        assert!(rt; moves_as_in_a_list::<Msb0>(true, distance, 0));
+    }
+    Ok(())
+}

@@ -1,0 +1,147 @@
+//! Runs of worked examples.
+
+use bitvec::index::BitIdx;
+use bitvec::order::Lsb0;
+use bitvec::ptr::span::BitSpan;
+use bitvec::run::{Command, Reply, Request, can_run, run};
+
+// The span of `len` bits from a place of a memory of `u8` on.
+fn span_at(start: u8, len: usize) -> BitSpan<u8, Lsb0> {
+    let head = BitIdx::new_unchecked(start % 8);
+    BitSpan::new(isize::from(start / 8), head, len).unwrap_or_default()
+}
+
+// A request to the span of a number.
+fn to(span: usize, command: Command<u8>) -> Request<u8> {
+    Request { span, command }
+}
+
+// The replies to requests and the memory after them, or `None` where they cannot run.
+fn ran<const S: usize, const N: usize>(
+    spans: [BitSpan<u8, Lsb0>; S],
+    requests: [Request<u8>; N],
+) -> Option<([Reply<u8>; N], [u8; 2])> {
+    let mut memory = [0u8, 0];
+    let mut replies = [Reply::NoSpan; N];
+    if !can_run(&spans, memory.len()) {
+        return None;
+    }
+    run(&spans, &mut memory, &requests, &mut replies);
+    Some((replies, memory))
+}
+
+#[test]
+fn two_spans_of_one_word_go_their_own_ways(rt: HostRuntime) {
+    let spans = [span_at(2, 4), span_at(6, 4)];
+    let requests = [
+        to(1, Command::Store(0, 0xFF)),
+        to(0, Command::Invert(0)),
+        to(1, Command::Store(1, 0x55)),
+        to(0, Command::Load(0)),
+        to(1, Command::Swap(0, 3)),
+        to(0, Command::Load(1)),
+        to(1, Command::Read(4)),
+        to(
+            1,
+            Command::Copy {
+                from: usize::MAX,
+                to: 0,
+                count: 2,
+            },
+        ),
+        to(2, Command::Load(0)),
+    ];
+    let want = [
+        Reply::Word(0),
+        Reply::Word(0),
+        Reply::Word(0),
+        Reply::Word(0x3C),
+        Reply::Done,
+        Reply::PastEnd,
+        Reply::PastEnd,
+        Reply::PastEnd,
+        Reply::NoSpan,
+    ];
+    assert_eq!(rt; ran(spans, requests), Some((want, [0xBC, 0x03])));
+}
+
+#[test]
+fn bits_of_four_spans_are_replaced(rt: HostRuntime) {
+    let spans = [span_at(0, 4), span_at(4, 4), span_at(8, 4), span_at(12, 4)];
+    let requests = [
+        to(0, Command::Replace(0, true)),
+        to(1, Command::Replace(1, true)),
+        to(2, Command::Replace(2, true)),
+        to(3, Command::Replace(3, true)),
+    ];
+    let want = [Reply::Bit(false); 4];
+    assert_eq!(rt; ran(spans, requests), Some((want, [0x21, 0x84])));
+}
+
+#[test]
+fn bits_are_set_copied_and_cleared(rt: HostRuntime) {
+    let requests = [
+        to(0, Command::Set(0)),
+        to(0, Command::Replace(1, false)),
+        to(
+            0,
+            Command::Copy {
+                from: 0,
+                to: 1,
+                count: 3,
+            },
+        ),
+        to(0, Command::Load(0)),
+        to(0, Command::Clear(0)),
+        to(0, Command::Read(0)),
+    ];
+    let want = [
+        Reply::Word(0),
+        Reply::Bit(true),
+        Reply::Done,
+        Reply::Word(0x2C),
+        Reply::Word(0x2C),
+        Reply::Bit(false),
+    ];
+    assert_eq!(rt; ran([span_at(2, 4)], requests), Some((want, [0, 0])));
+}
+
+#[test]
+fn no_bits_are_copied_up_to_the_end(rt: HostRuntime) {
+    let requests = [
+        to(
+            0,
+            Command::Copy {
+                from: 4,
+                to: 0,
+                count: 0,
+            },
+        ),
+        to(
+            0,
+            Command::Copy {
+                from: 5,
+                to: 0,
+                count: 0,
+            },
+        ),
+    ];
+    let want = [Reply::Done, Reply::PastEnd];
+    assert_eq!(rt; ran([span_at(0, 4)], requests), Some((want, [0, 0])));
+}
+
+#[test]
+fn an_empty_span_meets_no_word(rt: HostRuntime) {
+    let requests = [to(0, Command::Load(0))];
+    assert_eq!(rt;
+        ran([span_at(3, 0)], requests),
+        Some(([Reply::PastEnd], [0, 0]))
+    );
+}
+
+#[test]
+fn only_empty_spans_may_meet_themselves(rt: HostRuntime) {
+    assert!(rt; can_run(&[span_at(3, 0), span_at(3, 0)], 2));
+    assert!(rt; !can_run(&[span_at(3, 1), span_at(3, 1)], 2));
+    assert!(rt; !can_run(&[span_at(14, 4)], 2));
+}

@@ -1,0 +1,2 @@
+pub mod DisjointMasks
+pub mod ScanCounts

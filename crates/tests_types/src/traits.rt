@@ -1,0 +1,631 @@
+//! What equality, order, hash, copy and default of each type are, and what each name stands for.
+//!
+//! Each function does what its name says, and its contract is the promise: so a body of an impl that
+//! breaks it is refused, though no contract of the layer names it. That equal values have equal hashes
+//! is a law of `Hash` itself, which each impl shows.
+
+ghost use Rattle.std.specs.Prelude.{◌≡◌, ◌↔◌, ◌-◌, pos, IsTrue, Ok, codes};
+ghost use Rattle.std.specs.Ordering.{nat_cmp, int_cmp};
+ghost use Rattle.std.specs.declared.cmp.Ordering.TheVariants.{Less, Equal};
+ghost use Rattle.bitvec.specs.BitPtr.{ptr_of};
+ghost use Rattle.bitvec.specs.BitPtrRange.{range_of};
+ghost use Rattle.bitvec.specs.BitSpan.{span_of};
+
+use bitvec::domain::{BitDomain, BitDomainMut, Domain, DomainMut};
+use bitvec::index::{BitEnd, BitIdx, BitIdxError, BitMask, BitPos, BitSel};
+use bitvec::mem::{BitElement, BitRegister};
+use bitvec::order::{BitAt, LocalBits, Lsb0, Msb0, OrderFault, VerifyFault};
+use bitvec::ptr::range::BitPtrRange;
+use bitvec::ptr::single::BitPtr;
+use bitvec::ptr::span::{BitSpan, BitSpanError};
+use bitvec::run::{Command, Reply, Request};
+use std::alloc::AllocError;
+use std::cmp::Ordering;
+use std::hash::{Hash, Hasher};
+use std::marker::PhantomData;
+
+// A memory of one word is compared, hashed, copied and made by default as the word is.
+
+fn equal_elements<R: BitRegister>(here: BitElement<R>, there: BitElement<R>) -> bool
+    ensures { result ≡ R.eq here.elem there.elem }
+{
+    here == there
+}
+
+fn order_of_elements<R: BitRegister>(here: BitElement<R>, there: BitElement<R>) -> Ordering
+    ensures { result ≡ R.cmp here.elem there.elem }
+{
+    here.cmp(&there)
+}
+
+fn hash_of_an_element<R: BitRegister, H: Hasher>(
+    element: BitElement<R>,
+    here: &mut H,
+    there: &mut H,
+)
+    requires { here.old ≡ there.old }
+    ensures { here.new ≡ there.new }
+{
+    element.hash(here);
+    element.elem.hash(there);
+}
+
+fn copied_element<R: BitRegister>(element: &BitElement<R>) -> Result<BitElement<R>, AllocError>
+    ensures { result ≡ Ok element.now }
+{
+    element.clone()
+}
+
+fn default_element<R: BitRegister>() -> BitElement<R>
+    ensures { result.elem ≡ R.ZERO }
+{
+    BitElement::default()
+}
+
+// An index, an end, a position, a selector, a mask and an index that was refused are compared, hashed
+// and copied as their numbers are, and a default is 0.
+
+fn equal_indices<R: BitRegister>(here: BitIdx<R>, there: BitIdx<R>) -> bool
+    ensures { IsTrue result ↔ (here ≡ there) }
+{
+    here == there
+}
+
+fn order_of_indices<R: BitRegister>(here: BitIdx<R>, there: BitIdx<R>) -> Ordering
+    ensures { result ≡ nat_cmp here there }
+{
+    here.cmp(&there)
+}
+
+fn hash_of_an_index<R: BitRegister, H: Hasher>(index: BitIdx<R>, here: &mut H, there: &mut H)
+    requires { here.old ≡ there.old }
+    ensures { here.new ≡ there.new }
+{
+    index.hash(here);
+    index.into_inner().hash(there);
+}
+
+fn copied_index<R: BitRegister>(index: &BitIdx<R>) -> Result<BitIdx<R>, AllocError>
+    ensures { result ≡ Ok index.now }
+{
+    index.clone()
+}
+
+fn default_index<R: BitRegister>() -> BitIdx<R>
+    ensures { result ≡ 0 }
+{
+    BitIdx::default()
+}
+
+fn equal_errors<R: BitRegister>(here: BitIdxError<R>, there: BitIdxError<R>) -> bool
+    ensures { IsTrue result ↔ (here ≡ there) }
+{
+    here == there
+}
+
+fn order_of_errors<R: BitRegister>(here: BitIdxError<R>, there: BitIdxError<R>) -> Ordering
+    ensures { result ≡ nat_cmp here there }
+{
+    here.cmp(&there)
+}
+
+fn hash_of_an_error<R: BitRegister, H: Hasher>(error: BitIdxError<R>, here: &mut H, there: &mut H)
+    requires { here.old ≡ there.old }
+    ensures { here.new ≡ there.new }
+{
+    error.hash(here);
+    error.into_inner().hash(there);
+}
+
+fn copied_error<R: BitRegister>(error: &BitIdxError<R>) -> Result<BitIdxError<R>, AllocError>
+    ensures { result ≡ Ok error.now }
+{
+    error.clone()
+}
+
+fn equal_ends<R: BitRegister>(here: BitEnd<R>, there: BitEnd<R>) -> bool
+    ensures { IsTrue result ↔ (here ≡ there) }
+{
+    here == there
+}
+
+fn order_of_ends<R: BitRegister>(here: BitEnd<R>, there: BitEnd<R>) -> Ordering
+    ensures { result ≡ nat_cmp here there }
+{
+    here.cmp(&there)
+}
+
+fn hash_of_an_end<R: BitRegister, H: Hasher>(end: BitEnd<R>, here: &mut H, there: &mut H)
+    requires { here.old ≡ there.old }
+    ensures { here.new ≡ there.new }
+{
+    end.hash(here);
+    end.into_inner().hash(there);
+}
+
+fn copied_end<R: BitRegister>(end: &BitEnd<R>) -> Result<BitEnd<R>, AllocError>
+    ensures { result ≡ Ok end.now }
+{
+    end.clone()
+}
+
+fn default_end<R: BitRegister>() -> BitEnd<R>
+    ensures { result ≡ 0 }
+{
+    BitEnd::default()
+}
+
+fn equal_positions<R: BitRegister>(here: BitPos<R>, there: BitPos<R>) -> bool
+    ensures { IsTrue result ↔ (here ≡ there) }
+{
+    here == there
+}
+
+fn order_of_positions<R: BitRegister>(here: BitPos<R>, there: BitPos<R>) -> Ordering
+    ensures { result ≡ nat_cmp here there }
+{
+    here.cmp(&there)
+}
+
+fn hash_of_a_position<R: BitRegister, H: Hasher>(position: BitPos<R>, here: &mut H, there: &mut H)
+    requires { here.old ≡ there.old }
+    ensures { here.new ≡ there.new }
+{
+    position.hash(here);
+    position.into_inner().hash(there);
+}
+
+fn copied_position<R: BitRegister>(position: &BitPos<R>) -> Result<BitPos<R>, AllocError>
+    ensures { result ≡ Ok position.now }
+{
+    position.clone()
+}
+
+fn default_position<R: BitRegister>() -> BitPos<R>
+    ensures { result ≡ 0 }
+{
+    BitPos::default()
+}
+
+fn equal_selectors<R: BitRegister>(here: BitSel<R>, there: BitSel<R>) -> bool
+    ensures { IsTrue result ↔ (here ≡ there) }
+{
+    // The calls say that the numbers are the register's.
+    let _words = (here.into_inner(), there.into_inner());
+    here == there
+}
+
+fn order_of_selectors<R: BitRegister>(here: BitSel<R>, there: BitSel<R>) -> Ordering
+    ensures { result ≡ nat_cmp here there }
+{
+    // The calls say that the numbers are the register's.
+    let _words = (here.into_inner(), there.into_inner());
+    here.cmp(&there)
+}
+
+fn hash_of_a_selector<R: BitRegister, H: Hasher>(selector: BitSel<R>, here: &mut H, there: &mut H)
+    requires { here.old ≡ there.old }
+    ensures { here.new ≡ there.new }
+{
+    selector.hash(here);
+    selector.into_inner().hash(there);
+}
+
+fn copied_selector<R: BitRegister>(selector: &BitSel<R>) -> Result<BitSel<R>, AllocError>
+    ensures { result ≡ Ok selector.now }
+{
+    selector.clone()
+}
+
+fn equal_masks<R: BitRegister>(here: BitMask<R>, there: BitMask<R>) -> bool
+    ensures { IsTrue result ↔ (here ≡ there) }
+{
+    // The calls say that the numbers are the register's.
+    let _words = (here.into_inner(), there.into_inner());
+    here == there
+}
+
+fn order_of_masks<R: BitRegister>(here: BitMask<R>, there: BitMask<R>) -> Ordering
+    ensures { result ≡ nat_cmp here there }
+{
+    // The calls say that the numbers are the register's.
+    let _words = (here.into_inner(), there.into_inner());
+    here.cmp(&there)
+}
+
+fn hash_of_a_mask<R: BitRegister, H: Hasher>(mask: BitMask<R>, here: &mut H, there: &mut H)
+    requires { here.old ≡ there.old }
+    ensures { here.new ≡ there.new }
+{
+    mask.hash(here);
+    mask.into_inner().hash(there);
+}
+
+fn copied_mask<R: BitRegister>(mask: &BitMask<R>) -> Result<BitMask<R>, AllocError>
+    ensures { result ≡ Ok mask.now }
+{
+    mask.clone()
+}
+
+fn default_mask<R: BitRegister>() -> BitMask<R>
+    ensures { result ≡ 0 }
+{
+    BitMask::default()
+}
+
+// A fault is its parts.
+
+fn equal_faults<R: BitRegister>(here: OrderFault<R>, there: OrderFault<R>) -> bool
+    ensures { ((a b : R) → IsTrue (R.eq a b) ↔ (a ≡ b)) → (IsTrue result ↔ (here ≡ there)) }
+{
+    here == there
+}
+
+fn equal_faults_at_u8(fault: OrderFault<u8>, there: VerifyFault) -> bool
+    ensures { IsTrue result ↔ (VerifyFault.U8 fault ≡ there) }
+{
+    VerifyFault::U8(fault) == there
+}
+
+fn equal_faults_at_u16(fault: OrderFault<u16>, there: VerifyFault) -> bool
+    ensures { IsTrue result ↔ (VerifyFault.U16 fault ≡ there) }
+{
+    VerifyFault::U16(fault) == there
+}
+
+fn equal_faults_at_u32(fault: OrderFault<u32>, there: VerifyFault) -> bool
+    ensures { IsTrue result ↔ (VerifyFault.U32 fault ≡ there) }
+{
+    VerifyFault::U32(fault) == there
+}
+
+fn equal_faults_at_usize(fault: OrderFault<usize>, there: VerifyFault) -> bool
+    ensures { IsTrue result ↔ (VerifyFault.Usize fault ≡ there) }
+{
+    VerifyFault::Usize(fault) == there
+}
+
+fn equal_faults_at_u64(fault: OrderFault<u64>, there: VerifyFault) -> bool
+    ensures { IsTrue result ↔ (VerifyFault.U64 fault ≡ there) }
+{
+    VerifyFault::U64(fault) == there
+}
+
+fn copied_fault<R: BitRegister>(fault: &OrderFault<R>) -> Result<OrderFault<R>, AllocError>
+    ensures { result ≡ Ok fault.now }
+{
+    fault.clone()
+}
+
+fn copied_fault_of_a_register(fault: &VerifyFault) -> Result<VerifyFault, AllocError>
+    ensures { result ≡ Ok fault.now }
+{
+    fault.clone()
+}
+
+// A pointer is its word and its bit, a range its two ends, a span its word, its head and its length.
+
+fn equal_pointers<R: BitRegister, O>(here: BitPtr<R, O>, there: BitPtr<R, O>) -> bool
+    ensures { IsTrue result ↔ (ptr_of here ≡ ptr_of there) }
+{
+    here == there
+}
+
+fn hash_of_a_pointer<R: BitRegister, O, H: Hasher>(
+    pointer: BitPtr<R, O>,
+    here: &mut H,
+    there: &mut H,
+)
+    requires { here.old ≡ there.old }
+    ensures { here.new ≡ there.new }
+{
+    pointer.hash(here);
+    pointer.address().hash(there);
+    pointer.bit().hash(there);
+}
+
+fn copied_pointer<R: BitRegister, O>(pointer: &BitPtr<R, O>) -> Result<BitPtr<R, O>, AllocError>
+    ensures { result ≡ Ok pointer.now }
+{
+    pointer.clone()
+}
+
+fn equal_ranges<R: BitRegister, O>(here: &BitPtrRange<R, O>, there: &BitPtrRange<R, O>) -> bool
+    ensures { IsTrue result ↔ (range_of here.now ≡ range_of there.now) }
+{
+    *here == *there
+}
+
+fn hash_of_a_range<R: BitRegister, O, H: Hasher>(
+    range: &BitPtrRange<R, O>,
+    here: &mut H,
+    there: &mut H,
+)
+    requires { here.old ≡ there.old }
+    ensures { here.new ≡ there.new }
+{
+    range.hash(here);
+    range.start().hash(there);
+    range.end().hash(there);
+}
+
+fn copied_range<R: BitRegister, O>(
+    range: &BitPtrRange<R, O>,
+) -> Result<BitPtrRange<R, O>, AllocError>
+    ensures { result ≡ Ok range.now }
+{
+    range.clone()
+}
+
+fn default_range<R: BitRegister, O>() -> BitPtrRange<R, O>
+    ensures { range_of result ≡ record {
+      start = record { word = pos 0; bit = 0 };
+      end = record { word = pos 0; bit = 0 };
+    } }
+{
+    BitPtrRange::default()
+}
+
+fn equal_spans<R: BitRegister, O>(here: BitSpan<R, O>, there: BitSpan<R, O>) -> bool
+    ensures { IsTrue result ↔ (span_of here ≡ span_of there) }
+{
+    here == there
+}
+
+fn copied_span<R: BitRegister, O>(span: &BitSpan<R, O>) -> Result<BitSpan<R, O>, AllocError>
+    ensures { result ≡ Ok span.now }
+{
+    span.clone()
+}
+
+fn default_span<R: BitRegister, O>() -> BitSpan<R, O>
+    ensures { span_of result ≡ record { word = pos 0; head = 0; len = 0 } }
+{
+    BitSpan::default()
+}
+
+// A refused span: `TooLong` comes before `TooHigh`, and the same case goes by its number.
+
+fn equal_refusals<R>(here: BitSpanError<R>, there: BitSpanError<R>) -> bool
+    ensures { IsTrue result ↔ (here ≡ there) }
+{
+    here == there
+}
+
+fn too_long_before_too_high<R>(bits: usize, word: isize) -> Ordering
+    ensures { result ≡ Less }
+{
+    let long: BitSpanError<R> = BitSpanError::TooLong(bits);
+    long.cmp(&BitSpanError::TooHigh(word, PhantomData))
+}
+
+fn order_of_too_long<R>(here: usize, there: usize) -> Ordering
+    ensures { result ≡ nat_cmp here there }
+{
+    let long: BitSpanError<R> = BitSpanError::TooLong(here);
+    long.cmp(&BitSpanError::TooLong(there))
+}
+
+fn order_of_too_high<R>(here: isize, there: isize) -> Ordering
+    ensures { result ≡ int_cmp here there }
+{
+    let high: BitSpanError<R> = BitSpanError::TooHigh(here, PhantomData);
+    high.cmp(&BitSpanError::TooHigh(there, PhantomData))
+}
+
+fn hash_of_too_long<R, H: Hasher>(bits: usize, here: &mut H, there: &mut H)
+    requires { here.old ≡ there.old }
+    ensures { here.new ≡ there.new }
+{
+    let long: BitSpanError<R> = BitSpanError::TooLong(bits);
+    long.hash(here);
+    0isize.hash(there);
+    bits.hash(there);
+}
+
+fn hash_of_too_high<R, H: Hasher>(word: isize, here: &mut H, there: &mut H)
+    requires { here.old ≡ there.old }
+    ensures { here.new ≡ there.new }
+{
+    let high: BitSpanError<R> = BitSpanError::TooHigh(word, PhantomData);
+    high.hash(here);
+    1isize.hash(there);
+    word.hash(there);
+}
+
+fn copied_refusal<R>(refusal: &BitSpanError<R>) -> Result<BitSpanError<R>, AllocError>
+    ensures { result ≡ Ok refusal.now }
+{
+    refusal.clone()
+}
+
+// Commands, requests and replies are their parts, where `==` of the register says which words are the
+// same.
+
+fn equal_commands<R: Eq>(here: &Command<R>, there: &Command<R>) -> bool
+    ensures { ((a b : R) → IsTrue (R.eq a b) ↔ (a ≡ b)) → (IsTrue result ↔ (here.now ≡ there.now)) }
+{
+    *here == *there
+}
+
+fn equal_requests<R: Eq>(here: &Request<R>, there: &Request<R>) -> bool
+    ensures { ((a b : R) → IsTrue (R.eq a b) ↔ (a ≡ b)) → (IsTrue result ↔ (here.now ≡ there.now)) }
+{
+    *here == *there
+}
+
+fn equal_replies<R: Eq>(here: &Reply<R>, there: &Reply<R>) -> bool
+    ensures { ((a b : R) → IsTrue (R.eq a b) ↔ (a ≡ b)) → (IsTrue result ↔ (here.now ≡ there.now)) }
+{
+    *here == *there
+}
+
+// Each of the two orders has one value.
+
+fn equal_lsb0(here: Lsb0, there: Lsb0) -> bool
+    ensures { IsTrue result }
+{
+    here == there
+}
+
+fn order_of_lsb0(here: Lsb0, there: Lsb0) -> Ordering
+    ensures { result ≡ Equal }
+{
+    here.cmp(&there)
+}
+
+fn hash_of_lsb0<H: Hasher>(order: Lsb0, state: &mut H)
+    ensures { state.new ≡ state.old }
+{
+    order.hash(state);
+}
+
+fn equal_msb0(here: Msb0, there: Msb0) -> bool
+    ensures { IsTrue result }
+{
+    here == there
+}
+
+fn order_of_msb0(here: Msb0, there: Msb0) -> Ordering
+    ensures { result ≡ Equal }
+{
+    here.cmp(&there)
+}
+
+fn hash_of_msb0<H: Hasher>(order: Msb0, state: &mut H)
+    ensures { state.new ≡ state.old }
+{
+    order.hash(state);
+}
+
+// Which order each name stands for: by the position of an index.
+
+fn position_in_lsb0<R: BitRegister>(index: BitIdx<R>) -> BitPos<R>
+    ensures { result ≡ index }
+{
+    <Lsb0 as BitAt<R>>::at(index)
+}
+
+fn position_in_msb0<R: BitRegister>(index: BitIdx<R>) -> BitPos<R>
+    ensures { result ≡ R.MASK - index }
+{
+    <Msb0 as BitAt<R>>::at(index)
+}
+
+fn position_in_local_bits<R: BitRegister>(index: BitIdx<R>) -> BitPos<R>
+    ensures { result ≡ index }
+{
+    <LocalBits as BitAt<R>>::at(index)
+}
+
+// The name of each register.
+
+fn name_of_u8() -> &'static str
+    ensures { result.now ≡ codes "u8" }
+{
+    <u8 as BitRegister>::NAME
+}
+
+fn name_of_u16() -> &'static str
+    ensures { result.now ≡ codes "u16" }
+{
+    <u16 as BitRegister>::NAME
+}
+
+fn name_of_u32() -> &'static str
+    ensures { result.now ≡ codes "u32" }
+{
+    <u32 as BitRegister>::NAME
+}
+
+fn name_of_u64() -> &'static str
+    ensures { result.now ≡ codes "u64" }
+{
+    <u64 as BitRegister>::NAME
+}
+
+fn name_of_usize() -> &'static str
+    ensures { result.now ≡ codes "usize" }
+{
+    <usize as BitRegister>::NAME
+}
+
+// Without parameters each type is that of `usize`, and of `Lsb0` where it has an order.
+
+fn plain_element(element: BitElement) -> BitElement<usize>
+    ensures { result ≡ element }
+{
+    element
+}
+
+fn plain_index(index: BitIdx) -> BitIdx<usize>
+    ensures { result ≡ index }
+{
+    index
+}
+
+fn plain_error(error: BitIdxError) -> BitIdxError<usize>
+    ensures { result ≡ error }
+{
+    error
+}
+
+fn plain_end(end: BitEnd) -> BitEnd<usize>
+    ensures { result ≡ end }
+{
+    end
+}
+
+fn plain_position(position: BitPos) -> BitPos<usize>
+    ensures { result ≡ position }
+{
+    position
+}
+
+fn plain_selector(selector: BitSel) -> BitSel<usize>
+    ensures { result ≡ selector }
+{
+    selector
+}
+
+fn plain_mask(mask: BitMask) -> BitMask<usize>
+    ensures { result ≡ mask }
+{
+    mask
+}
+
+fn plain_pointer(pointer: BitPtr) -> BitPtr<usize, Lsb0>
+    ensures { result ≡ pointer }
+{
+    pointer
+}
+
+fn plain_range(range: BitPtrRange) -> BitPtrRange<usize, Lsb0>
+    ensures { result ≡ range }
+{
+    range
+}
+
+fn plain_span(span: BitSpan) -> BitSpan<usize, Lsb0>
+    ensures { result ≡ span }
+{
+    span
+}
+
+fn plain_domain<'a>(of: PhantomData<Domain<'a>>) -> PhantomData<Domain<'a, usize, Lsb0>> {
+    of
+}
+
+fn plain_domain_mut<'a>(of: PhantomData<DomainMut<'a>>) -> PhantomData<DomainMut<'a, usize, Lsb0>> {
+    of
+}
+
+fn plain_bit_domain<'a>(of: PhantomData<BitDomain<'a>>) -> PhantomData<BitDomain<'a, usize, Lsb0>> {
+    of
+}
+
+fn plain_bit_domain_mut<'a>(
+    of: PhantomData<BitDomainMut<'a>>,
+) -> PhantomData<BitDomainMut<'a, usize, Lsb0>> {
+    of
+}
