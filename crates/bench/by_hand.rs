@@ -241,6 +241,54 @@ fn time_other_copies(source: &[u64], target: &mut [u64]) {
     time("copy-u8-u64", few / 64, || copy_bytes(black_box(&bytes), 8 + 3, black_box(target), 64 + 14, few));
     time("copy-lsb0-msb0", words, || copy_turned(black_box(source), 64 + 3, black_box(target), 64 + 14, COPIED));
     time("copy-hilo-shifted", words, || copy_hilo(black_box(source), 64 + 3, black_box(target), 64 + 14, COPIED));
+    time_wide_copies(source, target);
+}
+
+/// Words of 128 bits, shifted and merged.
+#[inline(never)]
+fn copy_wide(source: &[u128], from: usize, target: &mut [u128], to: usize, count: usize) {
+    let mut done = 0;
+    while done < count {
+        let bit = (to + done) % 128;
+        let part = (128 - bit).min(count - done);
+        let (k, shift) = ((from + done) / 128, (from + done) % 128);
+        let low = source[k] >> shift;
+        let word = if shift + part > 128 { low | source[k + 1] << (128 - shift) } else { low };
+        let ones = if part == 128 { !0 } else { !(!0u128 << part) };
+        let place = &mut target[(to + done) / 128];
+        *place = *place & !(ones << bit) | (word & ones) << bit;
+        done += part;
+    }
+}
+
+/// From words of 128 bits and to them, bit by bit.
+#[inline(never)]
+fn copy_from_wide(source: &[u128], from: usize, target: &mut [u64], to: usize, count: usize) {
+    for i in 0..count {
+        let (place, end) = (from + i, to + i);
+        let bit = (source[place / 128] >> (place % 128) & 1) as u64;
+        let word = &mut target[end / 64];
+        *word = *word & !(1 << (end % 64)) | bit << (end % 64);
+    }
+}
+
+#[inline(never)]
+fn copy_to_wide(source: &[u64], from: usize, target: &mut [u128], to: usize, count: usize) {
+    for i in 0..count {
+        let (place, end) = (from + i, to + i);
+        let bit = (source[place / 64] >> (place % 64) & 1) as u128;
+        let word = &mut target[end / 128];
+        *word = *word & !(1 << (end % 128)) | bit << (end % 128);
+    }
+}
+
+fn time_wide_copies(source: &[u64], target: &mut [u64]) {
+    let words = COPIED / 64;
+    let wide: Vec<u128> = source.iter().map(|word| (*word as u128) << 64 | !*word as u128).collect();
+    let mut made = wide.clone();
+    time("copy-u128-shifted", words, || copy_wide(black_box(&wide), 128 + 3, black_box(&mut made), 128 + 14, COPIED));
+    time("copy-u128-u64", words, || copy_from_wide(black_box(&wide), 128 + 3, black_box(target), 64 + 14, COPIED));
+    time("copy-u64-u128", words, || copy_to_wide(black_box(source), 64 + 3, black_box(&mut made), 128 + 14, COPIED));
 }
 
 // ---- runs

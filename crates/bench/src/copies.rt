@@ -5,7 +5,7 @@ ghost use Rattle.bitvec.specs.BitPtr.{ptr_of};
 ghost use Rattle.bitvec.specs.Steps.{RunsIn};
 
 use crate::timer::{Job, Mode, Name, tell, time};
-use crate::words::{Formula, bytes, is_copied, words};
+use crate::words::{Formula, bytes, is_copied, words, words_of};
 use bitvec::index::{BitIdx, Limits};
 use bitvec::mem::BitRegister;
 use bitvec::order::{BitOrder, Lsb0, Msb0};
@@ -15,16 +15,18 @@ use std::io;
 
 // A copy from one memory to another.
 #[derive(Drop)]
-struct Across<'a, R: BitRegister, O: BitOrder<R>, O2: BitOrder<u64>> {
+struct Across<'a, R: BitRegister, O: BitOrder<R>, R2: BitRegister, O2: BitOrder<R2>> {
     source: &'a [R],
     from: BitPtr<R, O>,
-    target: &'a mut [u64],
-    to: BitPtr<u64, O2>,
+    target: &'a mut [R2],
+    to: BitPtr<R2, O2>,
     count: usize,
 }
 
-impl<R: BitRegister, O: BitOrder<R>, O2: BitOrder<u64>> Job for Across<'_, R, O, O2> {
-    ghost ready = { λ s. RunsIn R.BITS (ptr_of s.from) (length s.source.now) s.count × RunsIn 64 (ptr_of s.to) (length s.target.now) s.count };
+impl<R: BitRegister, O: BitOrder<R>, R2: BitRegister, O2: BitOrder<R2>> Job
+    for Across<'_, R, O, R2, O2> {
+    ghost ready = { λ s. RunsIn R.BITS (ptr_of s.from) (length s.source.now) s.count
+        × RunsIn R2.BITS (ptr_of s.to) (length s.target.now) s.count };
 
     #[inline(never)]
     fn go(&mut self) {
@@ -86,25 +88,23 @@ fn units(count: usize) -> u32
     u32::try_from(count / 64).unwrap_or(1).max(1)
 }
 
-fn copy_across<R: BitRegister, O: BitOrder<R> + Formula, O2: BitOrder<u64> + Formula>(
-    rt: HostRuntime,
-    mode: Mode,
-    name: Name,
-    source: &[R],
-    ends: Ends,
-    units: u32,
-) -> io::Result<()>
+fn copy_across<
+    R: BitRegister,
+    O: BitOrder<R> + Formula,
+    R2: BitRegister,
+    O2: BitOrder<R2> + Formula,
+>(rt: HostRuntime, mode: Mode, name: Name, source: &[R], ends: Ends, units: u32) -> io::Result<()>
     requires { 0 < units }
 {
     let from: BitPtr<R, O> = ends.from.pointer();
-    let to: BitPtr<u64, O2> = ends.to.pointer();
+    let to: BitPtr<R2, O2> = ends.to.pointer();
     let count = ends.count;
-    let before = words(rt, mode.words())?;
-    let mut target = words(rt, mode.words())?;
+    let before: Vec<R2> = words_of(rt, mode.words())?;
+    let mut target: Vec<R2> = words_of(rt, mode.words())?;
     if !from.run_in(source.len(), count) || !to.run_in(target.len(), count) {
         return Ok(());
     }
-    let mut job: Across<R, O, O2> = Across {
+    let mut job: Across<R, O, R2, O2> = Across {
         source,
         from,
         target: &mut target,
@@ -115,8 +115,8 @@ fn copy_across<R: BitRegister, O: BitOrder<R> + Formula, O2: BitOrder<u64> + For
         return time(rt, name, units, &mut job);
     }
     job.go();
-    let (start, end) = (ends.from.number(R::BITS), ends.to.number(64));
-    let agrees = is_copied::<R, O, O2>(source, start, &before, &target, end, count);
+    let (start, end) = (ends.from.number(R::BITS), ends.to.number(R2::BITS));
+    let agrees = is_copied::<R, O, R2, O2>(source, start, &before, &target, end, count);
     tell(rt, name, agrees)
 }
 
@@ -145,7 +145,7 @@ fn copy_within<O: BitOrder<u64> + Formula>(
     }
     job.go();
     let (start, end) = (ends.from.number(64), ends.to.number(64));
-    let agrees = is_copied::<u64, O, O>(&before, start, &before, &memory, end, count);
+    let agrees = is_copied::<u64, O, u64, O>(&before, start, &before, &memory, end, count);
     tell(rt, name, agrees)
 }
 
@@ -170,12 +170,12 @@ fn one_order<O: BitOrder<u64> + Formula>(
         group,
         kind: "aligned",
     };
-    copy_across::<u64, O, O>(rt, mode, name, source, ends(FRONT, FRONT), units)?;
+    copy_across::<u64, O, u64, O>(rt, mode, name, source, ends(FRONT, FRONT), units)?;
     let name = Name {
         group,
         kind: "shifted",
     };
-    copy_across::<u64, O, O>(rt, mode, name, source, ends(LOW, NEAR), units)?;
+    copy_across::<u64, O, u64, O>(rt, mode, name, source, ends(LOW, NEAR), units)?;
     let name = Name {
         group,
         kind: "down",
@@ -196,14 +196,14 @@ pub fn copies(rt: HostRuntime, mode: Mode) -> io::Result<()> {
         kind: "shifted-200-bits",
     };
     let count = 200;
-    copy_across::<u64, Lsb0, Lsb0>(rt, mode, name, &source, Ends { from, to, count }, 1)?;
+    copy_across::<u64, Lsb0, u64, Lsb0>(rt, mode, name, &source, Ends { from, to, count }, 1)?;
     let name = Name {
         group: "copy-u8-",
         kind: "u64",
     };
     let count = (mode.words() - 4) * 8;
     let bytes = bytes(rt, mode.words())?;
-    copy_across::<u8, Lsb0, Lsb0>(
+    copy_across::<u8, Lsb0, u64, Lsb0>(
         rt,
         mode,
         name,
@@ -216,7 +216,7 @@ pub fn copies(rt: HostRuntime, mode: Mode) -> io::Result<()> {
         group: "copy-lsb0-",
         kind: "msb0",
     };
-    copy_across::<u64, Lsb0, Msb0>(
+    copy_across::<u64, Lsb0, u64, Msb0>(
         rt,
         mode,
         name,
@@ -228,12 +228,35 @@ pub fn copies(rt: HostRuntime, mode: Mode) -> io::Result<()> {
         group: "copy-hilo-",
         kind: "shifted",
     };
-    copy_across::<u64, HiLo, HiLo>(
+    copy_across::<u64, HiLo, u64, HiLo>(
         rt,
         mode,
         name,
         &source,
         Ends { from, to, count },
         units(count),
-    )
+    )?;
+    wide_copies(rt, mode, &source)
+}
+
+// Copies of words of 128 bits, and from them and to them.
+fn wide_copies(rt: HostRuntime, mode: Mode, source: &[u64]) -> io::Result<()> {
+    let wide: Vec<u128> = words_of(rt, mode.words())?;
+    let count = (mode.words() - 4) * 64;
+    let units = units(count);
+    let (from, to) = (LOW, NEAR);
+    let ends = Ends { from, to, count };
+    let group = "copy-u128-";
+    let name = Name {
+        group,
+        kind: "shifted",
+    };
+    copy_across::<u128, Lsb0, u128, Lsb0>(rt, mode, name, &wide, ends, units)?;
+    let name = Name { group, kind: "u64" };
+    copy_across::<u128, Lsb0, u64, Lsb0>(rt, mode, name, &wide, ends, units)?;
+    let name = Name {
+        group: "copy-u64-",
+        kind: "u128",
+    };
+    copy_across::<u64, Lsb0, u128, Lsb0>(rt, mode, name, source, ends, units)
 }

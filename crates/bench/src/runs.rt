@@ -84,7 +84,7 @@ fn no_replies(rt: HostRuntime, count: usize) -> Result<Vec<Reply<u64>>, AllocErr
     Ok(replies)
 }
 
-// The word that a store into a span answers, and the store itself, bit by bit.
+// The word that a store into a span returns, and the store itself, bit by bit.
 fn store(memory: &mut [u64], place: usize, len: usize, number: u64) -> u64 {
     let mut old = 0;
     if let Some(word) = memory.get_mut(place / 64) {

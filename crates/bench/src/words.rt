@@ -29,6 +29,17 @@ pub fn bytes(rt: HostRuntime, count: usize) -> Result<Vec<u8>, AllocError> {
     Ok(bytes)
 }
 
+/// Words of another register that look random, the same at each call.
+pub fn words_of<R: BitRegister>(rt: HostRuntime, count: usize) -> Result<Vec<R>, AllocError> {
+    let mut made = Vec::new(rt.alloc());
+    let most = R::ALL.to_u128();
+    for word in words(rt, count)? {
+        let number = (u128::from(word) << 64 | u128::from(!word)) & most;
+        made.push(R::from_u128(number).unwrap_or(R::ZERO))?;
+    }
+    Ok(made)
+}
+
 /// The position of an index by a formula, beside the library's.
 pub trait Formula {
     /// The position of an index in a word of so many bits.
@@ -64,23 +75,23 @@ pub fn bit<R: BitRegister, F: Formula>(words: &[R], place: usize) -> bool {
     }
 }
 
-/// Whether a memory of `words` words of 64 bits was made of another by a copy of `count` bits, and no
-/// other bit changed: bit by bit.
-pub fn is_copied<R: BitRegister, F: Formula, F2: Formula>(
+/// Whether a memory was made of another by a copy of `count` bits, and no other bit changed: bit by
+/// bit.
+pub fn is_copied<R: BitRegister, F: Formula, R2: BitRegister, F2: Formula>(
     source: &[R],
     from: usize,
-    before: &[u64],
-    after: &[u64],
+    before: &[R2],
+    after: &[R2],
     to: usize,
     count: usize,
 ) -> bool {
-    for place in 0..4096 * 64 {
+    for place in 0..4096 * usize::from(R2::BITS) {
         let wanted = if place >= to && place - to < count {
             bit::<R, F>(source, from.saturating_add(place - to))
         } else {
-            bit::<u64, F2>(before, place)
+            bit::<R2, F2>(before, place)
         };
-        if bit::<u64, F2>(after, place) != wanted {
+        if bit::<R2, F2>(after, place) != wanted {
             return false;
         }
     }

@@ -1,4 +1,4 @@
-//! What the program answers.
+//! What the program prints, and the status that it ends with.
 
 ghost use Rattle.std.specs.Prelude.{◌≡◌, ◌⊎◌};
 
@@ -59,7 +59,7 @@ pub fn out_of_memory<W: Write>(out: &mut W) -> u8
 
 /// Writes the answer to the arguments, and gives the exit status.
 ///
-/// Status 0 is an answer, 2 a fault of the arguments, 3 want of memory and 4 a write that failed. The
+/// Status 0 is an answer, 2 a fault of the arguments, 3 out of memory and 4 a write that failed. The
 /// whole text is made before any of it is written.
 pub fn answer<A: Allocator, W: Write>(alloc: &A, args: &[String], out: &mut W) -> u8
     ensures { (result ≡ 0) ⊎ (result ≡ 2) ⊎ (result ≡ 3) ⊎ (result ≡ 4) }

@@ -19,7 +19,7 @@ fn main(rt: HostRuntime) -> ExitCode {
     ExitCode::from(status(&rt))
 }
 
-// The exit status. Arguments that cannot be read are answered as want of memory is.
+// The exit status. Arguments that cannot be read end as out of memory does.
 fn status<R: Env + AllocGlobal + Print>(rt: &R) -> u8 {
     let alloc = rt.alloc();
     let mut out = io::writer(rt);

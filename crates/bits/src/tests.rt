@@ -1,4 +1,4 @@
-//! Answers of the program.
+//! What the program prints.
 
 mod mangled;
 mod memory;
@@ -73,6 +73,11 @@ fn answers(rt: HostRuntime) -> Result<(), Fail> {
             0,
             "head 0 1000000000000000\ntotal 1\n",
         ),
+        (
+            "domain msb0 u128 ffffffffffffffffffffffffffffffff 4 120",
+            0,
+            "enclave 0 ffffffffffffffffffffffffffffff0\ntotal 1\n",
+        ),
         ("mask hilo u8 - 3", 0, "01110000\n"),
         ("mask msb0 u8 2 5", 0, "00111000\n"),
         ("mask hilo u8 3 -", 0, "10001111\n"),
@@ -112,6 +117,21 @@ fn answers(rt: HostRuntime) -> Result<(), Fail> {
             "word 0\nword 0\nword f0\nbit 1\nbit 0\nmemory f3\n",
         ),
         ("run lsb0 u8 - - -", 0, "memory -\n"),
+        (
+            "run lsb0 u128 123456789abcdef0123456789abcdef0 0+128 0:load:0,0:invert:0",
+            0,
+            "word 123456789abcdef0123456789abcdef0\nword 123456789abcdef0123456789abcdef0\nmemory edcba9876543210fedcba9876543210f\n",
+        ),
+        (
+            "run lsb0 u128 00ffffffffffffffffffffffffffffffff - -",
+            0,
+            "memory ffffffffffffffffffffffffffffffff\n",
+        ),
+        (
+            "run lsb0 u128 100000000000000000000000000000000 - -",
+            2,
+            USAGE,
+        ),
         ("run lsb0 u8 0 0+4,3+4 -", 2, "fault: spans overlap\n"),
         ("run lsb0 u8 0 0+9 -", 2, "fault: span does not fit\n"),
         (

@@ -27,7 +27,7 @@ is_past_end bits head (Replace i b) xs = nat_le (length xs) i
 is_past_end bits head (Swap i j) xs = not (nat_lt i (length xs) && nat_lt j (length xs))
 is_past_end bits head (Copy from to count) xs = not (nat_le (from + count) (length xs) && nat_le (to + count) (length xs))
 
--- what a command that is not past the end answers
+-- what a command that is not past the end returns
 abbrev pub answer_of : ℕ → (ℕ → ℕ) → ℕ → Command ℕ → List Bool → Reply ℕ
 answer_of bits at head (Load k) xs = Word (word_of bits at head xs k)
 answer_of bits at head (Store k v) xs = Word (word_of bits at head xs k)

@@ -87,7 +87,7 @@ pub fn can_run<R: BitRegister, O>(spans: &[BitSpan<R, O>], words: usize) -> bool
     apart && spans.iter().all(|span| span.fits(words))
 }
 
-// Answers one request.
+// Serves one request.
 fn serve<R: BitRegister, O: BitOrder<R>>(
     spans: &[BitSpan<R, O>],
     memory: &mut [R],
@@ -110,7 +110,7 @@ fn serve<R: BitRegister, O: BitOrder<R>>(
 ///
 /// [`can_run`] of the memory's length is the test of the spans, and there are as many replies as
 /// requests. Each span's replies are those that its own list of bits gives under its own commands
-/// alone; a request that names no span is answered [`Reply::NoSpan`]. In the end each span has the list
+/// alone; a request that names no span gets [`Reply::NoSpan`]. In the end each span has the list
 /// that its commands leave, and every other bit of the memory is as before. A refused command changes
 /// nothing. Our own.
 pub fn run<R: BitRegister, O: BitOrder<R>>(

@@ -185,7 +185,7 @@ impl<'a, R: BitRegister, O: BitOrder<R>> Domain<'a, R, O> {
 
     /// How many items are left: one for each part, and one for each whole word.
     ///
-    /// It asks a body that is no longer than one span's can be, as each from
+    /// Requires a body that is no longer than one span's can be, as each from
     /// [`domain`](BitSpan::domain) is.
     pub fn len(&self) -> usize
         requires { HasShortBody R.BITS (domain_parts R.number self.now) }
@@ -428,5 +428,5 @@ impl<'a, R: BitRegister, O: BitOrder<R>> DoubleEndedIterator for Domain<'a, R, O
     }
 }
 
-/// After `None` the domain answers `None` for good.
+/// After `None` the domain returns `None` for good.
 impl<'a, R: BitRegister, O: BitOrder<R>> FusedIterator for Domain<'a, R, O> {}

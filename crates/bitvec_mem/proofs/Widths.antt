@@ -1,5 +1,6 @@
 -- The digits of what the operators compute, at each width: instances of the lemmas over any width.
 use Rattle.std.proofs.Common.{◌≡◌, ℕ, ◌+◌, ◌-◌, ◌*◌, ◌/◌, ◌%◌, ◌^◌, ◌<◌, ◌≤◌, false, not, ◌∙◌, w8, w16, w32, w64}
+use Rattle.std.specs.Int.{w128}
 use Rattle.std.specs.Int.Count.{ones}
 use Rattle.std.proofs.lemmas.Nat.{or_lt, xor_lt}
 use Rattle.std.specs.Int.Bits.{bit_or, bit_xor}
@@ -97,3 +98,26 @@ pub count_64 : (w : ℕ) → w < 18446744073709551616 → ones w ≡ count_below
 count_64 = ones-count_below 64
 
 pub ruleset digits_64 = (digit_rules, or_below_64, xor_below_64, not_64, shl_low_64, shl_high_64, shr_high_64, count_64)
+
+pub or_below_128 : (a b : ℕ) → a < 340282366920938463463374607431768211456 → b < 340282366920938463463374607431768211456 → bit_or a b < 340282366920938463463374607431768211456
+or_below_128 = or_lt 128
+
+pub xor_below_128 : (a b : ℕ) → a < 340282366920938463463374607431768211456 → b < 340282366920938463463374607431768211456 → bit_xor a b < 340282366920938463463374607431768211456
+xor_below_128 = xor_lt 128
+
+pub not_128 : (a p : ℕ) → a < 340282366920938463463374607431768211456 → p < 128 → digit (340282366920938463463374607431768211455 - a) p ≡ not (digit a p)
+not_128 = digit-not w128
+
+pub shl_low_128 : (w n p : ℕ) → p < n → p < 128 → digit (w * 2 ^ n % 340282366920938463463374607431768211456) p ≡ false
+shl_low_128 = digit-shl_low 128
+
+pub shl_high_128 : (w n p : ℕ) → n + p < 128 → digit (w * 2 ^ n % 340282366920938463463374607431768211456) (n + p) ≡ digit w p
+shl_high_128 = digit-shl_high 128
+
+pub shr_high_128 : (w n p : ℕ) → w < 340282366920938463463374607431768211456 → 128 ≤ n + p → digit (w / 2 ^ n) p ≡ false
+shr_high_128 w n p small high = digit-shr w n p ∙ digit_above w 128 (n + p) small high
+
+pub count_128 : (w : ℕ) → w < 340282366920938463463374607431768211456 → ones w ≡ count_below (digit w) 128
+count_128 = ones-count_below 128
+
+pub ruleset digits_128 = (digit_rules, or_below_128, xor_below_128, not_128, shl_low_128, shl_high_128, shr_high_128, count_128)

@@ -4,9 +4,9 @@
 
 ghost use Rattle.std.specs.Prelude.{◌≡◌, ⊤, ℕ, List, codes, ◌+◌, ◌-◌, ◌*◌, ◌/◌, ◌%◌, ◌^◌, ◌<◌, ◌≤◌, ◌↔◌, ◌==◌, ◌&&◌, ◌||◌, if◌then◌else◌, not, true, false, IsNone, IfSome, refl};
 ghost use Rattle.std.specs.Ordering.{nat_cmp};
-ghost use Rattle.std.proofs.Common.{lit≤};
-ghost use Rattle.bitvec_mem.specs.SameDigits.{same_from_digits};
 ghost use Rattle.bitvec_mem.specs.Digit.{digit, differ, count_below};
+
+mod registers;
 
 use std::alloc::AllocError;
 use std::fmt::Debug;
@@ -14,10 +14,10 @@ use std::hash::Hash;
 
 /// An unsigned number of a fixed width, the word that a memory is made of.
 ///
-/// As in the Rust crate, where the trait stands for the processor's register types. Each function
-/// here says its result digit by digit, so code that is generic in the register needs nothing else.
+/// Each function says its result digit by digit, so code that is generic in the register needs
+/// nothing else. In the Rust crate the trait stands for the processor's register types.
 pub trait BitRegister: Copy + Default + Eq + Ord + Hash + Debug {
-    /// The width in bits, a power of two from 8 to 64.
+    /// The width in bits, a power of two from 8 to 128.
     const BITS: u8;
 
     /// The number of bits that an index below `BITS` needs.
@@ -124,8 +124,7 @@ pub trait BitRegister: Copy + Default + Eq + Ord + Hash + Debug {
 
     ghost least_law: { 3 ≤ INDX };
 
-    // The one law that a register of 128 bits would change.
-    ghost most_law: { INDX ≤ 6 };
+    ghost most_law: { INDX ≤ 7 };
 
     // These two follow from the laws above; with them, divisors and casts need no proof.
     ghost eight_law: { 8 ≤ BITS };
@@ -152,524 +151,7 @@ pub trait BitRegister: Copy + Default + Eq + Ord + Hash + Debug {
     ghost default_law: { (a : Self) → Self.is_default a → a ≡ ZERO };
 }
 
-#[tactic(auto, using(crate::proofs::Widths::digits_8))]
-impl BitRegister for u8 {
-    const BITS: u8 = 8;
-
-    const INDX: u8 = 3;
-
-    const MASK: u8 = 7;
-
-    const ZERO: u8 = 0;
-
-    const ONE: u8 = 1;
-
-    const ALL: u8 = u8::MAX;
-
-    const NAME: &'static str = "u8";
-
-    ghost BITS = { 8 };
-
-    ghost INDX = { 3 };
-
-    ghost MASK = { 7 };
-
-    ghost ZERO = { 0 };
-
-    ghost ONE = { 1 };
-
-    ghost ALL = { 255 };
-
-    ghost name = { codes "u8" };
-
-    ghost number = { λ x. x };
-
-    ghost from_number = { λ n. n };
-
-    ghost number_back = { λ a h. refl };
-
-    fn name_text() -> &'static str {
-        Self::NAME
-    }
-
-    fn and(self, with: u8) -> u8 {
-        self & with
-    }
-
-    fn or(self, with: u8) -> u8 {
-        self | with
-    }
-
-    fn xor(self, with: u8) -> u8 {
-        self ^ with
-    }
-
-    fn not(self) -> u8 {
-        !self
-    }
-
-    fn shl(self, n: u8) -> u8 {
-        self << n
-    }
-
-    fn shr(self, n: u8) -> u8 {
-        self >> n
-    }
-
-    fn count_ones(self) -> u32 {
-        u8::count_ones(self)
-    }
-
-    fn to_u128(self) -> u128 {
-        u128::from(self)
-    }
-
-    fn from_u128(n: u128) -> Option<u8> {
-        u8::try_from(n).ok()
-    }
-
-    ghost width_law = { refl };
-
-    ghost least_law = { lit≤ tt };
-
-    ghost most_law = { lit≤ tt };
-
-    ghost eight_law = { lit≤ tt };
-
-    ghost limit_law = { lit≤ tt };
-
-    ghost mask_law = { refl };
-
-    ghost zero_law = { refl };
-
-    ghost one_law = { refl };
-
-    ghost all_law = { refl };
-
-    ghost digits_law = { same_from_digits 8 };
-
-    ghost eq_law = { λ a b h k. refl };
-
-    ghost order_law = { λ a b h k. refl };
-
-    ghost default_law = { λ a h. h };
-}
-
-#[tactic(auto, using(crate::proofs::Widths::digits_16))]
-impl BitRegister for u16 {
-    const BITS: u8 = 16;
-
-    const INDX: u8 = 4;
-
-    const MASK: u8 = 15;
-
-    const ZERO: u16 = 0;
-
-    const ONE: u16 = 1;
-
-    const ALL: u16 = u16::MAX;
-
-    const NAME: &'static str = "u16";
-
-    ghost BITS = { 16 };
-
-    ghost INDX = { 4 };
-
-    ghost MASK = { 15 };
-
-    ghost ZERO = { 0 };
-
-    ghost ONE = { 1 };
-
-    ghost ALL = { 65535 };
-
-    ghost name = { codes "u16" };
-
-    ghost number = { λ x. x };
-
-    ghost from_number = { λ n. n };
-
-    ghost number_back = { λ a h. refl };
-
-    fn name_text() -> &'static str {
-        Self::NAME
-    }
-
-    fn and(self, with: u16) -> u16 {
-        self & with
-    }
-
-    fn or(self, with: u16) -> u16 {
-        self | with
-    }
-
-    fn xor(self, with: u16) -> u16 {
-        self ^ with
-    }
-
-    fn not(self) -> u16 {
-        !self
-    }
-
-    fn shl(self, n: u8) -> u16 {
-        self << n
-    }
-
-    fn shr(self, n: u8) -> u16 {
-        self >> n
-    }
-
-    fn count_ones(self) -> u32 {
-        u16::count_ones(self)
-    }
-
-    fn to_u128(self) -> u128 {
-        u128::from(self)
-    }
-
-    fn from_u128(n: u128) -> Option<u16> {
-        u16::try_from(n).ok()
-    }
-
-    ghost width_law = { refl };
-
-    ghost least_law = { lit≤ tt };
-
-    ghost most_law = { lit≤ tt };
-
-    ghost eight_law = { lit≤ tt };
-
-    ghost limit_law = { lit≤ tt };
-
-    ghost mask_law = { refl };
-
-    ghost zero_law = { refl };
-
-    ghost one_law = { refl };
-
-    ghost all_law = { refl };
-
-    ghost digits_law = { same_from_digits 16 };
-
-    ghost eq_law = { λ a b h k. refl };
-
-    ghost order_law = { λ a b h k. refl };
-
-    ghost default_law = { λ a h. h };
-}
-
-#[tactic(auto, using(crate::proofs::Widths::digits_32))]
-impl BitRegister for u32 {
-    const BITS: u8 = 32;
-
-    const INDX: u8 = 5;
-
-    const MASK: u8 = 31;
-
-    const ZERO: u32 = 0;
-
-    const ONE: u32 = 1;
-
-    const ALL: u32 = u32::MAX;
-
-    const NAME: &'static str = "u32";
-
-    ghost BITS = { 32 };
-
-    ghost INDX = { 5 };
-
-    ghost MASK = { 31 };
-
-    ghost ZERO = { 0 };
-
-    ghost ONE = { 1 };
-
-    ghost ALL = { 4294967295 };
-
-    ghost name = { codes "u32" };
-
-    ghost number = { λ x. x };
-
-    ghost from_number = { λ n. n };
-
-    ghost number_back = { λ a h. refl };
-
-    fn name_text() -> &'static str {
-        Self::NAME
-    }
-
-    fn and(self, with: u32) -> u32 {
-        self & with
-    }
-
-    fn or(self, with: u32) -> u32 {
-        self | with
-    }
-
-    fn xor(self, with: u32) -> u32 {
-        self ^ with
-    }
-
-    fn not(self) -> u32 {
-        !self
-    }
-
-    fn shl(self, n: u8) -> u32 {
-        self << n
-    }
-
-    fn shr(self, n: u8) -> u32 {
-        self >> n
-    }
-
-    fn count_ones(self) -> u32 {
-        u32::count_ones(self)
-    }
-
-    fn to_u128(self) -> u128 {
-        u128::from(self)
-    }
-
-    fn from_u128(n: u128) -> Option<u32> {
-        u32::try_from(n).ok()
-    }
-
-    ghost width_law = { refl };
-
-    ghost least_law = { lit≤ tt };
-
-    ghost most_law = { lit≤ tt };
-
-    ghost eight_law = { lit≤ tt };
-
-    ghost limit_law = { lit≤ tt };
-
-    ghost mask_law = { refl };
-
-    ghost zero_law = { refl };
-
-    ghost one_law = { refl };
-
-    ghost all_law = { refl };
-
-    ghost digits_law = { same_from_digits 32 };
-
-    ghost eq_law = { λ a b h k. refl };
-
-    ghost order_law = { λ a b h k. refl };
-
-    ghost default_law = { λ a h. h };
-}
-
-#[tactic(auto, using(crate::proofs::Widths::digits_64))]
-impl BitRegister for u64 {
-    const BITS: u8 = 64;
-
-    const INDX: u8 = 6;
-
-    const MASK: u8 = 63;
-
-    const ZERO: u64 = 0;
-
-    const ONE: u64 = 1;
-
-    const ALL: u64 = u64::MAX;
-
-    const NAME: &'static str = "u64";
-
-    ghost BITS = { 64 };
-
-    ghost INDX = { 6 };
-
-    ghost MASK = { 63 };
-
-    ghost ZERO = { 0 };
-
-    ghost ONE = { 1 };
-
-    ghost ALL = { 18446744073709551615 };
-
-    ghost name = { codes "u64" };
-
-    ghost number = { λ x. x };
-
-    ghost from_number = { λ n. n };
-
-    ghost number_back = { λ a h. refl };
-
-    fn name_text() -> &'static str {
-        Self::NAME
-    }
-
-    fn and(self, with: u64) -> u64 {
-        self & with
-    }
-
-    fn or(self, with: u64) -> u64 {
-        self | with
-    }
-
-    fn xor(self, with: u64) -> u64 {
-        self ^ with
-    }
-
-    fn not(self) -> u64 {
-        !self
-    }
-
-    fn shl(self, n: u8) -> u64 {
-        self << n
-    }
-
-    fn shr(self, n: u8) -> u64 {
-        self >> n
-    }
-
-    fn count_ones(self) -> u32 {
-        u64::count_ones(self)
-    }
-
-    fn to_u128(self) -> u128 {
-        u128::from(self)
-    }
-
-    fn from_u128(n: u128) -> Option<u64> {
-        u64::try_from(n).ok()
-    }
-
-    ghost width_law = { refl };
-
-    ghost least_law = { lit≤ tt };
-
-    ghost most_law = { lit≤ tt };
-
-    ghost eight_law = { lit≤ tt };
-
-    ghost limit_law = { lit≤ tt };
-
-    ghost mask_law = { refl };
-
-    ghost zero_law = { refl };
-
-    ghost one_law = { refl };
-
-    ghost all_law = { refl };
-
-    ghost digits_law = { same_from_digits 64 };
-
-    ghost eq_law = { λ a b h k. refl };
-
-    ghost order_law = { λ a b h k. refl };
-
-    ghost default_law = { λ a h. h };
-}
-
-#[tactic(auto, using(crate::proofs::Widths::digits_64))]
-impl BitRegister for usize {
-    const BITS: u8 = 64;
-
-    const INDX: u8 = 6;
-
-    const MASK: u8 = 63;
-
-    const ZERO: usize = 0;
-
-    const ONE: usize = 1;
-
-    const ALL: usize = usize::MAX;
-
-    const NAME: &'static str = "usize";
-
-    ghost BITS = { 64 };
-
-    ghost INDX = { 6 };
-
-    ghost MASK = { 63 };
-
-    ghost ZERO = { 0 };
-
-    ghost ONE = { 1 };
-
-    ghost ALL = { 18446744073709551615 };
-
-    ghost name = { codes "usize" };
-
-    ghost number = { λ x. x };
-
-    ghost from_number = { λ n. n };
-
-    ghost number_back = { λ a h. refl };
-
-    fn name_text() -> &'static str {
-        Self::NAME
-    }
-
-    fn and(self, with: usize) -> usize {
-        self & with
-    }
-
-    fn or(self, with: usize) -> usize {
-        self | with
-    }
-
-    fn xor(self, with: usize) -> usize {
-        self ^ with
-    }
-
-    fn not(self) -> usize {
-        !self
-    }
-
-    fn shl(self, n: u8) -> usize {
-        self << n
-    }
-
-    fn shr(self, n: u8) -> usize {
-        self >> n
-    }
-
-    fn count_ones(self) -> u32 {
-        usize::count_ones(self)
-    }
-
-    fn to_u128(self) -> u128 {
-        self as u128
-    }
-
-    fn from_u128(n: u128) -> Option<usize> {
-        usize::try_from(n).ok()
-    }
-
-    ghost width_law = { refl };
-
-    ghost least_law = { lit≤ tt };
-
-    ghost most_law = { lit≤ tt };
-
-    ghost eight_law = { lit≤ tt };
-
-    ghost limit_law = { lit≤ tt };
-
-    ghost mask_law = { refl };
-
-    ghost zero_law = { refl };
-
-    ghost one_law = { refl };
-
-    ghost all_law = { refl };
-
-    ghost digits_law = { same_from_digits 64 };
-
-    ghost eq_law = { λ a b h k. refl };
-
-    ghost order_law = { λ a b h k. refl };
-
-    ghost default_law = { λ a h. h };
-}
-
 /// The width of a register in bits.
-///
-/// As in the Rust crate.
 pub fn bits_of<R: BitRegister>() -> usize
     ensures value { result ≡ R.BITS }
     ensures least { 8 ≤ result }
@@ -679,8 +161,6 @@ pub fn bits_of<R: BitRegister>() -> usize
 }
 
 /// How many registers hold so many bits: `bits / BITS`, and one more where a remainder is left.
-///
-/// As in the Rust crate.
 pub fn elts<R: BitRegister>(bits: usize) -> usize
     ensures { result ≡ bits / R.BITS + (if bits % R.BITS == 0 then 0 else 1) }
 {
@@ -689,8 +169,8 @@ pub fn elts<R: BitRegister>(bits: usize) -> usize
 
 /// One register, as a memory of a single word.
 ///
-/// It is copied, compared, hashed and made by default as its `elem` is. As in the Rust crate, where
-/// it stands for atomic and shared words too.
+/// It is copied, compared, hashed and made by default as its `elem` is. In the Rust crate it stands
+/// for atomic and shared words too.
 #[derive(Copy, PartialEq, Eq, PartialOrd, Ord, Hash, Default, Debug)]
 pub struct BitElement<R: BitRegister = usize> {
     /// The word.
@@ -733,7 +213,7 @@ mod tests {
     }
 
     // Its functions, on the digits 1100 and 1010; `past` is the least number that it has no room for.
-    fn has_functions<R: BitRegister>(rt: &impl Abort, past: u128) -> Result<(), Fail> {
+    fn has_functions<R: BitRegister>(rt: &impl Abort, past: Option<u128>) -> Result<(), Fail> {
         let a = R::from_u128(12).ok_or("12 is a number of each register")?;
         let b = R::from_u128(10).ok_or("10 is a number of each register")?;
         assert_eq!(rt; a.and(b).to_u128(), 8);
@@ -744,7 +224,9 @@ mod tests {
         assert_eq!(rt; a.shl(1).to_u128(), 24);
         assert_eq!(rt; a.shr(2).to_u128(), 3);
         assert_eq!(rt; a.count_ones(), 2);
-        assert_eq!(rt; R::from_u128(past), None);
+        if let Some(past) = past {
+            assert_eq!(rt; R::from_u128(past), None);
+        }
         assert!(rt; b < a);
         Ok(())
     }
@@ -756,15 +238,17 @@ mod tests {
         has_constants::<u32>(&rt, [32, 5, 31], "u32");
         has_constants::<u64>(&rt, [64, 6, 63], "u64");
         has_constants::<usize>(&rt, [64, 6, 63], "usize");
+        has_constants::<u128>(&rt, [128, 7, 127], "u128");
     }
 
     #[test]
     fn functions(rt: HostRuntime) -> Result<(), Fail> {
-        has_functions::<u8>(&rt, 0x100)?;
-        has_functions::<u16>(&rt, 0x1_0000)?;
-        has_functions::<u32>(&rt, 0x1_0000_0000)?;
-        has_functions::<u64>(&rt, 0x1_0000_0000_0000_0000)?;
-        has_functions::<usize>(&rt, 0x1_0000_0000_0000_0000)?;
+        has_functions::<u8>(&rt, Some(0x100))?;
+        has_functions::<u16>(&rt, Some(0x1_0000))?;
+        has_functions::<u32>(&rt, Some(0x1_0000_0000))?;
+        has_functions::<u64>(&rt, Some(0x1_0000_0000_0000_0000))?;
+        has_functions::<usize>(&rt, Some(0x1_0000_0000_0000_0000))?;
+        has_functions::<u128>(&rt, None)?;
         Ok(())
     }
 

@@ -69,8 +69,6 @@ impl<R: BitRegister> Limits for BitIdx<R> {
 
 impl<R: BitRegister> BitIdx<R> {
     /// The index `idx`; refuses a number that is not below the width, and the error holds it.
-    ///
-    /// As in the Rust crate.
     pub fn new(idx: u8) -> Result<Self, BitIdxError<R>>
         ensures accepted { IsOk result ↔ (idx < R.BITS) }
         ensures refused { IsErr result ↔ (R.BITS ≤ idx) }
@@ -110,8 +108,6 @@ impl<R: BitRegister> BitIdx<R> {
     }
 
     /// The index one further, and whether that crosses into the next register, at its first index.
-    ///
-    /// As in the Rust crate.
     pub fn next(self) -> (Self, bool)
         ensures moved { result.0 ≡ (self + 1) % R.BITS }
         ensures crossed { IsTrue result.1 ↔ (self ≡ R.BITS - 1) }
@@ -124,8 +120,6 @@ impl<R: BitRegister> BitIdx<R> {
     }
 
     /// The index one back, and whether that crosses into the register before, at its last index.
-    ///
-    /// As in the Rust crate.
     pub fn prev(self) -> (Self, bool)
         ensures moved { result.0 ≡ (self + R.BITS - 1) % R.BITS }
         ensures crossed { IsTrue result.1 ↔ (self ≡ 0) }
@@ -140,8 +134,8 @@ impl<R: BitRegister> BitIdx<R> {
     /// How many registers on the index lies that is `by` bits further, and that index.
     ///
     /// The sum of this index and `by` wraps at the end of `isize`; the registers are its floor by the
-    /// width, below zero for a step back, and the index is its remainder. As in the Rust crate, which
-    /// keeps it private.
+    /// width, below zero for a step back, and the index is its remainder. The Rust crate keeps it
+    /// private.
     pub fn offset(self, by: isize) -> (isize, Self)
         ensures carried { result.0 ≡ int_div_euclid (int_wrap w64 (pos self +ℤ by)) (pos R.BITS) }
         ensures index { pos result.1 ≡ int_rem_euclid (int_wrap w64 (pos self +ℤ by)) (pos R.BITS) }
@@ -155,8 +149,8 @@ impl<R: BitRegister> BitIdx<R> {
 
     /// How many registers `len` bits from this one on meet, and where they end in the last.
     ///
-    /// For no bits that is no register, and this index as the end. As in the Rust crate, but with no
-    /// sum that could pass the type, for any `len`.
+    /// For no bits that is no register, and this index as the end. No sum passes the type, whatever
+    /// `len` is.
     #[tactic(auto, using(crate::proofs::Steps::tails))]
     pub fn span(self, len: usize) -> (usize, BitEnd<R>)
         ensures empty { len ≡ 0 → (result.0 ≡ 0) × (result.1 ≡ self) }
@@ -241,8 +235,6 @@ impl<R: BitRegister> Limits for BitEnd<R> {
 
 impl<R: BitRegister> BitEnd<R> {
     /// The end `end`; `None` where it passes the width.
-    ///
-    /// As in the Rust crate.
     pub fn new(end: u8) -> Option<Self>
         ensures accepted { IsSome result ↔ (end ≤ R.BITS) }
         ensures refused { IsNone result ↔ (R.BITS < end) }
@@ -280,7 +272,7 @@ impl<R: BitRegister> BitEnd<R> {
     /// How many registers `len` bits from this end on meet, and where they end in the last.
     ///
     /// An end at the width is the start of the next register. For no bits that is no register, and
-    /// this end. As in the Rust crate, but with no sum that could pass the type, for any `len`.
+    /// this end. No sum passes the type, whatever `len` is.
     pub fn span(self, len: usize) -> (usize, BitEnd<R>)
         ensures empty { len ≡ 0 → (result.0 ≡ 0) × (result.1 ≡ self) }
         ensures elements { 0 < len → result.0 ≡ (self % R.BITS + len + (R.BITS - 1)) / R.BITS }
@@ -328,8 +320,6 @@ impl<R: BitRegister> Limits for BitPos<R> {
 
 impl<R: BitRegister> BitPos<R> {
     /// The position `pos`; `None` where it is not below the width.
-    ///
-    /// As in the Rust crate.
     pub fn new(pos: u8) -> Option<Self>
         ensures accepted { IsSome result ↔ (pos < R.BITS) }
         ensures refused { IsNone result ↔ (R.BITS ≤ pos) }
@@ -375,8 +365,6 @@ impl<R: BitRegister> BitPos<R> {
     }
 
     /// The mask with this position alone.
-    ///
-    /// As in the Rust crate.
     pub fn mask(self) -> BitMask<R>
         ensures value { result ≡ 2 ^ self }
         ensures below { self < R.BITS }
@@ -415,8 +403,6 @@ impl<R: BitRegister> Clone for BitSel<R> {
 
 impl<R: BitRegister> BitSel<R> {
     /// The selector `sel`; `None` where the count of its ones is not 1.
-    ///
-    /// As in the Rust crate.
     pub fn new(sel: R) -> Option<Self>
         ensures accepted { IsSome result ↔ HasOneDigit R.BITS (R.number sel) }
         ensures value { IfSome result (λ made. made ≡ R.number sel) }
@@ -449,8 +435,6 @@ impl<R: BitRegister> BitSel<R> {
     }
 
     /// The mask with the selector's position alone.
-    ///
-    /// As in the Rust crate.
     pub fn mask(self) -> BitMask<R>
         ensures value { result ≡ self }
         ensures position { (p : ℕ) × (p < R.BITS) × (self ≡ 2 ^ p) }
@@ -537,8 +521,6 @@ impl<R: BitRegister> BitMask<R> {
     }
 
     /// Whether the selector's position is in the mask.
-    ///
-    /// As in the Rust crate.
     pub fn test(&self, sel: BitSel<R>) -> bool
         ensures { (p : ℕ) → sel ≡ 2 ^ p → result ≡ digit self.now p }
     {
@@ -546,8 +528,6 @@ impl<R: BitRegister> BitMask<R> {
     }
 
     /// Adds the selector's position to the mask.
-    ///
-    /// As in the Rust crate.
     pub fn insert(&mut self, sel: BitSel<R>)
         ensures below { self.new < 2 ^ R.BITS }
         ensures digits { (p : ℕ) → p < R.BITS → digit self.new p ≡ (digit self.old p || digit sel p) }

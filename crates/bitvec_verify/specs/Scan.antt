@@ -5,7 +5,7 @@ use Rattle.std.specs.Option.{option_or}
 use Rattle.bitvec_order.specs.Index.{numbers_between}
 use Rattle.bitvec_order.specs.Order.{mask_start, mask_end, IsOneToOne, SelectsPositions, MasksPositions, plain_mask_of}
 
--- what a candidate answers at a register of that width
+-- what a candidate gives at a register of that width
 pub record Candidate : Type 0 where
   pub width : ℕ
   pub at : ℕ → ℕ
@@ -29,7 +29,7 @@ pub data Test : Type 0 where
   repetition : ℕ → Test
   masked : Option ℕ → Option ℕ → Test
 
--- what a failed test found: the index or the bounds, with what the candidate answered and what it should have
+-- what a failed test found: the index or the bounds, with what the candidate gave and what it should have given
 pub data Fault : Type 0 where
   wrong_selector : (index got want : ℕ) → Fault
   repeated : (index position : ℕ) → Fault

@@ -14,7 +14,7 @@ use bitvec_order::index::{BitEnd, BitIdx, BitMask, BitPos, BitSel};
 use bitvec_order::order::{BitAt, OrderCandidate, plain_mask};
 use std::alloc::AllocError;
 
-/// Where a candidate is not a lawful order of a register: what it answered, and what it should have.
+/// Where a candidate is not a lawful order of a register: what it gave, and what it should have given.
 ///
 /// Our own: the Rust crate panics there.
 #[derive(Copy, PartialEq, Eq, Debug)]
@@ -63,6 +63,8 @@ pub enum VerifyFault {
     Usize(OrderFault<usize>),
     /// At `u64`.
     U64(OrderFault<u64>),
+    /// At `u128`.
+    U128(OrderFault<u128>),
 }
 
 impl Clone for VerifyFault {
@@ -187,8 +189,8 @@ fn scan<R: BitRegister, O: OrderCandidate<R>>() -> Result<(), OrderFault<R>>
 /// The scan tests each index in rising order, first its selector and then whether a lower index has
 /// its position; then the mask of each pair of present bounds, starts in rising order and for each
 /// the ends from there to the width; then both bounds absent, an absent end for each start, and an
-/// absent start for each end. As in the Rust crate, which panics at a fault, prints on demand and
-/// tests no absent bound.
+/// absent start for each end. The Rust crate panics at a fault, prints on demand and tests no absent
+/// bound.
 pub fn verify_for_type<R: BitRegister, O: OrderCandidate<R>>() -> Result<(), OrderFault<R>>
     ensures lawful { IsOk result ↔ IsLawful (candidate R.BITS O.at_of O.select_of O.mask_of) }
     ensures first { let c = candidate R.BITS O.at_of O.select_of O.mask_of in
@@ -200,21 +202,23 @@ pub fn verify_for_type<R: BitRegister, O: OrderCandidate<R>>() -> Result<(), Ord
 /// Whether a candidate is a lawful order of each register: `Ok`, or the first fault at the first
 /// register that has one.
 ///
-/// The registers are scanned in the order `u8`, `u16`, `u32`, `usize`, `u64`. As in the Rust crate,
-/// which panics at a fault.
+/// The registers are scanned in the order `u8`, `u16`, `u32`, `usize`, `u64`, `u128`. The Rust
+/// crate panics at a fault, and has no register of 128 bits.
 pub fn verify<O>() -> Result<(), VerifyFault>
 where
     O: OrderCandidate<u8>
         + OrderCandidate<u16>
         + OrderCandidate<u32>
         + OrderCandidate<usize>
-        + OrderCandidate<u64>,
+        + OrderCandidate<u64>
+        + OrderCandidate<u128>,
     ensures { let cs : Candidates = record {
       at_u8 = candidate 8 ⟦<O as BitAt<u8>>⟧.at_of ⟦<O as OrderCandidate<u8>>⟧.select_of ⟦<O as OrderCandidate<u8>>⟧.mask_of;
       at_u16 = candidate 16 ⟦<O as BitAt<u16>>⟧.at_of ⟦<O as OrderCandidate<u16>>⟧.select_of ⟦<O as OrderCandidate<u16>>⟧.mask_of;
       at_u32 = candidate 32 ⟦<O as BitAt<u32>>⟧.at_of ⟦<O as OrderCandidate<u32>>⟧.select_of ⟦<O as OrderCandidate<u32>>⟧.mask_of;
       at_usize = candidate 64 ⟦<O as BitAt<usize>>⟧.at_of ⟦<O as OrderCandidate<usize>>⟧.select_of ⟦<O as OrderCandidate<usize>>⟧.mask_of;
       at_u64 = candidate 64 ⟦<O as BitAt<u64>>⟧.at_of ⟦<O as OrderCandidate<u64>>⟧.select_of ⟦<O as OrderCandidate<u64>>⟧.mask_of;
+      at_u128 = candidate 128 ⟦<O as BitAt<u128>>⟧.at_of ⟦<O as OrderCandidate<u128>>⟧.select_of ⟦<O as OrderCandidate<u128>>⟧.mask_of;
     } in
         Verifies cs result }
 {
@@ -222,7 +226,8 @@ where
     verify_for_type::<u16, O>().map_err(VerifyFault::U16)?;
     verify_for_type::<u32, O>().map_err(VerifyFault::U32)?;
     verify_for_type::<usize, O>().map_err(VerifyFault::Usize)?;
-    verify_for_type::<u64, O>().map_err(VerifyFault::U64)
+    verify_for_type::<u64, O>().map_err(VerifyFault::U64)?;
+    verify_for_type::<u128, O>().map_err(VerifyFault::U128)
 }
 
 #[cfg(test)]

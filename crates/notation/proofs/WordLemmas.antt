@@ -9,14 +9,6 @@ use Rattle.std.proofs.lemmas.List.{map-append}
 use Rattle.std.proofs.lemmas.List.Elements.{All-get_or, All-push, All-same}
 use Rattle.notation.specs.Words.{hexadecimal, memory_text, IsWordText, IsMemoryText, pieces}
 
--- a number of as many bits as a register has is one of 64 bits
-pub number_below : (n bits exponent : ℕ) → n < 2 ^ bits → bits ≡ 2 ^ exponent → exponent ≤ 6 → n < 2 ^ 64
-number_below n bits exponent h e l =
-    let few : 2 ^ exponent ≤ 2 ^ 6 = pow_mono l in
-    let small : bits ≤ 64 = omega arith in
-    let most : 2 ^ bits ≤ 2 ^ 64 = pow_mono small in
-    omega arith
-
 flat_map-map : {A B C : Type 0} (g : B → List C) (f : A → B) (xs : List A) → flat_map g (map f xs) ≡ flat_map (λ x. g (f x)) xs
 flat_map-map g f [] = refl
 flat_map-map g f (x ∷ xs) = ap (λ ys. g (f x) ++ ys) (flat_map-map g f xs)

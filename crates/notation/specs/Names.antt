@@ -7,4 +7,5 @@ IsOrderName name = (name ≡ codes "lsb0") ⊎ (name ≡ codes "msb0") ⊎ (name
 
 -- a text is the name of a register
 abbrev pub IsRegisterName : List ℕ → Type 0
-IsRegisterName name = (name ≡ codes "u8") ⊎ (name ≡ codes "u16") ⊎ (name ≡ codes "u32") ⊎ (name ≡ codes "u64") ⊎ (name ≡ codes "usize")
+IsRegisterName name =
+    (name ≡ codes "u8") ⊎ (name ≡ codes "u16") ⊎ (name ≡ codes "u32") ⊎ (name ≡ codes "u64") ⊎ (name ≡ codes "usize") ⊎ (name ≡ codes "u128")

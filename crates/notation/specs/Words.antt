@@ -1,12 +1,12 @@
 -- Memories as text.
 use Rattle.std.specs.Prelude.{◌≡◌, ℕ, ◌<◌, ◌^◌, ◌⊎◌, ◌==◌, false, List, [], ◌∷◌, ◌++◌, length, map, codes}
 use Rattle.std.specs.List.{All, flat_map, slice_split}
-use Rattle.std.specs.Fmt.{digits}
 use Rattle.std.specs.Str.Parse.{AllDigits, digits_value}
+use Rattle.bitvec.specs.Numeral.{numeral}
 
--- a number in hexadecimal
+-- a number in hexadecimal, in one digit at least
 abbrev pub hexadecimal : ℕ → List ℕ
-hexadecimal n = digits 16 false n
+hexadecimal n = numeral 16 false 1 n
 
 -- the text of a memory: `-` for no words, else the words in hexadecimal with commas between them
 abbrev pub memory_text : List ℕ → List ℕ

@@ -7,9 +7,9 @@ use crate::hilo::HiLo;
 use bitvec::mem::BitRegister;
 use bitvec::order::{BitOrder, Lsb0, Msb0};
 
-/// A call that is answered for one register and one order.
+/// A call for one register and one order.
 pub trait Call {
-    /// What it answers.
+    /// What it returns.
     type Answer;
 
     /// The answer.
@@ -27,6 +27,7 @@ pub fn answer<C: Call>(order: &str, register: &str, call: &C) -> Option<C::Answe
         "u32" => under::<u32, C>(order, call),
         "u64" => under::<u64, C>(order, call),
         "usize" => under::<usize, C>(order, call),
+        "u128" => under::<u128, C>(order, call),
         _ => None,
     }
 }

@@ -1,11 +1,27 @@
 //! Memories as text: hexadecimal numbers with commas between them, or `-` for none.
 
-ghost use Rattle.std.specs.Prelude.{◌≡◌, ℕ, List, ◌++◌, map, string_bytes, IfOk, MatchOption, OnOk};
-ghost use Rattle.notation.specs.Words.{IsMemoryText, memory_text};
+ghost use Rattle.std.specs.Prelude.{◌≡◌, ℕ, List, ◌++◌, map, string_bytes, IfOk, MatchOption, OnOk, Some};
+ghost use Rattle.notation.specs.Words.{IsMemoryText, hexadecimal, memory_text};
 
 use crate::number::number;
 use bitvec::mem::BitRegister;
+use bitvec_mem::digits::write_numeral;
 use std::alloc::{AllocError, Allocator};
+use std::fmt;
+
+// A number in hexadecimal. The format `{:x}` of std says what it writes of 64 bits at most.
+#[derive(Clone, Copy)]
+struct Hexadecimal(u128);
+
+impl fmt::Display for Hexadecimal {
+    ghost output = { λ h. Some (hexadecimal h.0) };
+
+    ghost styled_output = { λ h _. Some (hexadecimal h.0) };
+
+    fn fmt<W: fmt::Write>(&self, f: &mut fmt::Formatter<W>) -> fmt::Result {
+        write_numeral(f, self.0, 16, false, 1)
+    }
+}
 
 /// The words of a text; `None` where it is no such list, or where a number does not fit the register.
 pub fn words_of<'a, R: BitRegister, A: Allocator>(
@@ -42,18 +58,11 @@ pub fn write_words<R: BitRegister, A: Allocator>(
     let Some((first, rest)) = memory.split_first() else {
         return text.push_str("-");
     };
-    let first = number_of(*first);
-    write!(text, "{first:x}")?;
+    let first = Hexadecimal(first.to_u128());
+    write!(text, "{first}")?;
     for word in rest {
-        let word = number_of(*word);
-        write!(text, ",{word:x}")?;
+        let word = Hexadecimal(word.to_u128());
+        write!(text, ",{word}")?;
     }
     Ok(())
-}
-
-// The number of a word, which has at most 64 bits.
-fn number_of<R: BitRegister>(word: R) -> u64
-    ensures { result ≡ R.number word }
-{
-    word.to_u128() as u64
 }

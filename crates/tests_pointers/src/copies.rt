@@ -150,6 +150,23 @@ fn counts_two_copies_through_one_writer(rt: HostRuntime) -> Result<(), Fail> {
     Ok(())
 }
 
+// A word of the sixth register to bytes of the other order, and back.
+#[test]
+fn copies_a_word_of_128_bits(rt: HostRuntime) -> Result<(), Fail> {
+    let source = [0x8000_0000_0000_0000_0000_0000_0000_0001u128];
+    let mut bytes = [0xFFu8; 16];
+    let (word, first) = (at::<u128, Msb0>(0), at::<u8, Lsb0>(0));
+    assert!(rt; word.run_in(1, 128) && first.run_in(16, 128));
+    let mut writer = WordWriter::rising(&mut bytes);
+    word.copy_through(&source, first, &mut writer, 128);
+    assert_eq!(rt; progress(&writer), (16, 16));
+    assert_eq!(rt; bytes, [1, 0, 0, 0, 0, 0, 0, 0, 0, 0, 0, 0, 0, 0, 0, 0x80]);
+    let mut words = [0u128];
+    first.copy_to(&bytes, word, &mut words, 128);
+    assert_eq!(rt; words, source);
+    Ok(())
+}
+
 // The bits of three words in a list, each at its index, or with the indices of a word turned round.
 fn list_of(words: [u64; 3], turned: bool) -> [bool; 192] {
     let turn = if turned { 63 } else { 0 };

@@ -1,7 +1,7 @@
 //! Pointers, ranges, spans and commands at the ends of the number types.
 //!
 //! Each condition at its edge is first known from the contracts alone, by a function that calls without
-//! a test or says what the test answers.
+//! a test or says what the test returns.
 
 ghost use Rattle.std.specs.Prelude.{◌≡◌, pos, ◌-ℤ◌, ◌<◌, IsTrue};
 ghost use Rattle.bitvec.specs.BitPtr.{ptr_of};
@@ -181,7 +181,7 @@ fn a_span_may_lie_in_no_memory(rt: HostRuntime) {
 }
 
 // The reply to one command through a span, and the memory after it; `None` where the span does not
-// fit. It takes no memory, as it is handed no allocator.
+// fit. It never allocates, as it is handed no allocator.
 fn replied(start: u32, len: usize, command: Command<u8>) -> Option<(Reply<u8>, [u8; 2])> {
     let span: BitSpan<u8, Lsb0> = span_at(start, len)?;
     let spans = [span];

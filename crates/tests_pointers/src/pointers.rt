@@ -69,7 +69,7 @@ fn stepped(from: u16, by: isize) -> Option<(isize, u8)> {
     }
 }
 
-// The same by `add` and by `sub`, and the count that `offset_from` answers for the way back.
+// The same by `add` and by `sub`, and the count that `offset_from` returns for the way back.
 fn there_and_back(from: u16, count: u8) -> Option<((isize, u8), (isize, u8), isize)> {
     let low = at::<u32>(from);
     if !low.can_offset(isize::from(count)) {

@@ -183,6 +183,7 @@ fn has_the_limits_of_each_register(rt: HostRuntime) {
     assert!(rt; has_limits::<u32>(72057594037927937, 72057594037927935));
     assert!(rt; has_limits::<u64>(36028797018963969, 36028797018963967));
     assert!(rt; has_limits::<usize>(36028797018963969, 36028797018963967));
+    assert!(rt; has_limits::<u128>(18014398509481985, 18014398509481983));
 }
 
 #[test]

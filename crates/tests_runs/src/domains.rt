@@ -317,7 +317,7 @@ fn hands_on_the_words_of_its_bits(rt: HostRuntime) -> Result<(), Fail> {
     Ok(())
 }
 
-// Stores a word in the part of the bits from 2 to 6 of a byte, and answers what stood there.
+// Stores a word in the part of the bits from 2 to 6 of a byte, and returns what stood there.
 fn stores(byte: &mut [u8], value: u8) -> Option<u8> {
     let span: BitSpan<u8, Lsb0> = span_at(2, 4)?;
     if !span.fits(byte.len()) || span.elements() == 0 {
@@ -362,7 +362,7 @@ fn edits_one_word(rt: HostRuntime) -> Result<(), Fail> {
     Ok(())
 }
 
-// Makes a bit of each run of a span's bits one, and answers the bits before.
+// Makes a bit of each run of a span's bits one, and returns the bits before.
 fn replaces<R: BitRegister, O: BitOrder<R>>(
     memory: &mut [R],
     start: u32,
@@ -385,7 +385,7 @@ fn replaces<R: BitRegister, O: BitOrder<R>>(
     Some([first, middle, last])
 }
 
-// Makes the first bit of a span one, where the span is one run alone, and answers the bit before.
+// Makes the first bit of a span one, where the span is one run alone, and returns the bit before.
 fn replaces_first<R: BitRegister, O: BitOrder<R>>(
     memory: &mut [R],
     start: u32,

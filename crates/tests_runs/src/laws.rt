@@ -82,7 +82,7 @@ fn run_turned<R: BitRegister, O: BitOrder<R>, O2: BitOrder<R>>(
 }
 
 /// How the commands of different spans stand among each other does not matter, nor which requests
-/// name no span. It takes and answers nothing; its contract is the law.
+/// name no span. It takes and returns nothing; its contract is the law.
 fn order_between_spans_does_not_matter<R: BitRegister, O: BitOrder<R>>()
     ensures { OrderBetweenSpansDoesNotMatter R.BITS O.at_of }
 {}

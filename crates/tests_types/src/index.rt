@@ -37,6 +37,7 @@ fn constructors(rt: HostRuntime) {
     has_constructors::<u32>(&rt, 32);
     has_constructors::<u64>(&rt, 64);
     has_constructors::<usize>(&rt, 64);
+    has_constructors::<u128>(&rt, 128);
 }
 
 #[test]
@@ -148,6 +149,7 @@ fn jumps(rt: HostRuntime) {
     assert!(rt; jumps_to::<u8>(3, -4, -1, 7));
     assert!(rt; jumps_to::<u8>(7, isize::MAX, -1_152_921_504_606_846_976, 6));
     assert!(rt; jumps_to::<u16>(10, 40, 3, 2));
+    assert!(rt; jumps_to::<u128>(127, isize::MAX, -72_057_594_037_927_936, 126));
 }
 
 // Whether a run of bits from an index meets so many registers and ends there in the last.
@@ -165,6 +167,8 @@ fn spans(rt: HostRuntime) {
     assert!(rt; spans_to::<u8>(3, 3, 1, 6));
     assert!(rt; spans_to::<u8>(7, usize::MAX, 2_305_843_009_213_693_953, 6));
     assert!(rt; spans_to::<u16>(10, 40, 4, 2));
+    assert!(rt; spans_to::<u128>(127, 2, 2, 1));
+    assert!(rt; spans_to::<u128>(127, usize::MAX, 144_115_188_075_855_873, 126));
     assert_eq!(rt; BitEnd::<u8>::MAX.span(8), (1, BitEnd::MAX));
 }
 
@@ -279,6 +283,17 @@ fn render_u64(rt: HostRuntime) -> Result<(), Fail> {
     let error = BitIdx::<u64>::new(64).err().ok_or("an index")?;
     let display = "the value 64 is too large to index into u64 (64 bits wide)";
     shows_error(&rt, &error, display, "BitIdxError<u64>(64)")?;
+    Ok(())
+}
+
+#[test]
+fn render_u128(rt: HostRuntime) -> Result<(), Fail> {
+    shows(&rt, &BitIdx::<u128>::MAX, "BitIdx<u128>", "1111111")?;
+    shows(&rt, &BitEnd::<u128>::MAX, "BitEnd<u128>", "10000000")?;
+    shows(&rt, &BitPos::<u128>::MAX, "BitPos<u128>", "1111111")?;
+    let error = BitIdx::<u128>::new(128).err().ok_or("an index")?;
+    let display = "the value 128 is too large to index into u128 (128 bits wide)";
+    shows_error(&rt, &error, display, "BitIdxError<u128>(128)")?;
     Ok(())
 }
 

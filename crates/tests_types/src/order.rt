@@ -1,4 +1,4 @@
-//! Masks and sums of selectors that the Rust crate's own code answers, and an order of a user's.
+//! Masks and sums of selectors that the Rust crate's own code returns, and an order of a user's.
 
 ghost use Rattle.std.specs.Prelude.{◌≡◌, ℕ, ◌<◌, ◌≤◌, bit_xor};
 ghost use Rattle.bitvec.specs.Order.{mask_start, mask_end};

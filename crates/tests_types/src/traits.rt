@@ -291,6 +291,12 @@ fn equal_faults_at_u64(fault: OrderFault<u64>, there: VerifyFault) -> bool
     VerifyFault::U64(fault) == there
 }
 
+fn equal_faults_at_u128(fault: OrderFault<u128>, there: VerifyFault) -> bool
+    ensures { IsTrue result ↔ (VerifyFault.U128 fault ≡ there) }
+{
+    VerifyFault::U128(fault) == there
+}
+
 fn copied_fault<R: BitRegister>(fault: &OrderFault<R>) -> Result<OrderFault<R>, AllocError>
     ensures { result ≡ Ok fault.now }
 {

@@ -79,7 +79,7 @@ fn mangled(
     }
 }
 
-// Well-formed calls, answers and faults.
+// Well-formed calls, with answers and with faults.
 const CALLS: [&str; 12] = [
     "domain lsb0 u8 12,34,56 4 8",
     "domain msb0 u32 0,ffffffff 34 28",

@@ -1,4 +1,4 @@
-//! Answers where requests for memory are refused.
+//! What the program prints where requests for memory are refused.
 
 use super::refusing::{Plan, Refusing};
 use super::writers::Slow;
@@ -32,7 +32,7 @@ fn called(alloc: Global, args: &[String], first: u64, alone: bool) -> Outcome {
     }
 }
 
-// Whether each request for memory of a call, refused in turn, gives the line and the status of want of
+// Whether each request for memory of a call, refused in turn, gives the line and the status of out of
 // memory, or the whole answer with its own status; and how many requests there are.
 fn stands(
     alloc: Global,

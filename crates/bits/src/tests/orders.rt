@@ -1,6 +1,6 @@
-//! Orders and candidates that no crate of the layer knows of: what it answers under them.
+//! Orders and candidates that no crate of the layer knows of: what it returns under them.
 
-ghost use Rattle.std.specs.Prelude.{◌≡◌, ℕ, ◌+◌, ◌%◌, ◌^◌, ◌<◌, ◌≤◌, ◌==◌, ◌&&◌, Bool, true, false, is_none, unwrap_or, if◌then◌else◌};
+ghost use Rattle.std.specs.Prelude.{◌≡◌, ℕ, ◌+◌, ◌%◌, ◌^◌, ◌<◌, ◌≤◌, ◌==◌, ◌&&◌, ◌||◌, Bool, true, false, is_none, unwrap_or, if◌then◌else◌};
 ghost use Rattle.bitvec.specs.Order.{mask_start, mask_end, plain_mask_of};
 ghost use Rattle.bits.specs.Orders.{rotated, rotated_one_to_one, tabled, tabled_one_to_one};
 
@@ -344,40 +344,46 @@ trait IsFaulty<R: BitRegister> {
     const FAULTY: bool;
 }
 
-/// At fault at `u64`, and at `usize` where `USIZE` is true.
-struct Wide<const USIZE: bool>;
+/// At fault at `u128`, and also at `u64` where `FIRST` is at most 1, and at `usize` where it is 0.
+struct Wide<const FIRST: u8>;
 
-impl<const USIZE: bool> IsFaulty<u8> for Wide<USIZE> {
+impl<const FIRST: u8> IsFaulty<u8> for Wide<FIRST> {
     ghost FAULTY = { false };
 
     const FAULTY: bool = false;
 }
 
-impl<const USIZE: bool> IsFaulty<u16> for Wide<USIZE> {
+impl<const FIRST: u8> IsFaulty<u16> for Wide<FIRST> {
     ghost FAULTY = { false };
 
     const FAULTY: bool = false;
 }
 
-impl<const USIZE: bool> IsFaulty<u32> for Wide<USIZE> {
+impl<const FIRST: u8> IsFaulty<u32> for Wide<FIRST> {
     ghost FAULTY = { false };
 
     const FAULTY: bool = false;
 }
 
-impl<const USIZE: bool> IsFaulty<usize> for Wide<USIZE> {
-    ghost FAULTY = { USIZE };
+impl<const FIRST: u8> IsFaulty<usize> for Wide<FIRST> {
+    ghost FAULTY = { FIRST == 0 };
 
-    const FAULTY: bool = USIZE;
+    const FAULTY: bool = FIRST == 0;
 }
 
-impl<const USIZE: bool> IsFaulty<u64> for Wide<USIZE> {
+impl<const FIRST: u8> IsFaulty<u64> for Wide<FIRST> {
+    ghost FAULTY = { (FIRST == 0) || (FIRST == 1) };
+
+    const FAULTY: bool = FIRST == 0 || FIRST == 1;
+}
+
+impl<const FIRST: u8> IsFaulty<u128> for Wide<FIRST> {
     ghost FAULTY = { true };
 
     const FAULTY: bool = true;
 }
 
-/// `Lsb0`, but the mask from no start to 64 is zero where the candidate is at fault.
+/// `Lsb0`, but the mask from no start to the width is zero where the candidate is at fault.
 struct Open<F> {
     faulty: PhantomData<F>,
 }
@@ -394,7 +400,7 @@ impl<R: BitRegister, F: IsFaulty<R>> Numbers<R> for Open<F> {
     ghost select_of = { λ i. 2 ^ i };
 
     ghost mask_of = { λ from upto.
-        if F.FAULTY && (is_none from && (unwrap_or upto 0 == 64))
+        if F.FAULTY && (is_none from && (unwrap_or upto 0 == R.BITS))
         then 0
         else plain_mask_of (λ i. i) (mask_start from) (mask_end R.BITS upto) };
 
@@ -403,7 +409,7 @@ impl<R: BitRegister, F: IsFaulty<R>> Numbers<R> for Open<F> {
     }
 
     fn mask_between(from: Option<u8>, upto: Option<u8>) -> R {
-        if F::FAULTY && from.is_none() && upto.unwrap_or(0) == 64 {
+        if F::FAULTY && from.is_none() && upto.unwrap_or(0) == R::BITS {
             R::ZERO
         } else {
             plain_mask_between::<R, Same>(from, upto)
@@ -411,27 +417,35 @@ impl<R: BitRegister, F: IsFaulty<R>> Numbers<R> for Open<F> {
     }
 }
 
-/// The fault of an empty mask from no start to 64.
+/// The fault of an empty mask from no start to the width.
 fn open_fault<R: BitRegister>() -> Option<OrderFault<R>> {
     Some(OrderFault::Mask {
         from: None,
-        upto: Some(BitEnd::new(64)?),
+        upto: Some(BitEnd::new(R::BITS)?),
         got: BitMask::new(R::ZERO),
         want: BitMask::new(R::ALL),
     })
 }
 
+/// The fault at `u128`, where that is the first register with one.
+fn fault_at_u128<const FIRST: u8>() -> Option<OrderFault<u128>> {
+    match verify::<ByNumbers<Open<Wide<FIRST>>>>() {
+        Err(VerifyFault::U128(fault)) => Some(fault),
+        _ => None,
+    }
+}
+
 /// The fault at `u64`, where that is the first register with one.
-fn fault_at_u64<const USIZE: bool>() -> Option<OrderFault<u64>> {
-    match verify::<ByNumbers<Open<Wide<USIZE>>>>() {
+fn fault_at_u64<const FIRST: u8>() -> Option<OrderFault<u64>> {
+    match verify::<ByNumbers<Open<Wide<FIRST>>>>() {
         Err(VerifyFault::U64(fault)) => Some(fault),
         _ => None,
     }
 }
 
 /// The fault at `usize`, where that is the first register with one.
-fn fault_at_usize<const USIZE: bool>() -> Option<OrderFault<usize>> {
-    match verify::<ByNumbers<Open<Wide<USIZE>>>>() {
+fn fault_at_usize<const FIRST: u8>() -> Option<OrderFault<usize>> {
+    match verify::<ByNumbers<Open<Wide<FIRST>>>>() {
         Err(VerifyFault::Usize(fault)) => Some(fault),
         _ => None,
     }
@@ -439,8 +453,10 @@ fn fault_at_usize<const USIZE: bool>() -> Option<OrderFault<usize>> {
 
 #[test]
 fn faults_at_some_registers(rt: HostRuntime) {
-    assert!(rt; fault_at_u64::<false>().is_some());
-    assert_eq!(rt; fault_at_u64::<false>(), open_fault());
-    assert!(rt; fault_at_usize::<true>().is_some());
-    assert_eq!(rt; fault_at_usize::<true>(), open_fault());
+    assert!(rt; fault_at_u128::<2>().is_some());
+    assert_eq!(rt; fault_at_u128::<2>(), open_fault());
+    assert!(rt; fault_at_u64::<1>().is_some());
+    assert_eq!(rt; fault_at_u64::<1>(), open_fault());
+    assert!(rt; fault_at_usize::<0>().is_some());
+    assert_eq!(rt; fault_at_usize::<0>(), open_fault());
 }

@@ -1,4 +1,4 @@
-//! Writers that take little at a time or fail, and answers through them.
+//! Writers that take little at a time or fail, and what the program prints through them.
 
 use super::refusing::{Plan, Refusing};
 use super::{FIRST, USAGE, words};

@@ -1,4 +1,4 @@
-//! What is asked of a span, and what is answered.
+//! What is asked of a span, and what it returns.
 
 /// A command to one span. Our own.
 ///
@@ -6,21 +6,21 @@
 /// 0 to before the span's length. Which commands are refused, [`Reply::PastEnd`] says.
 #[derive(Clone, Copy, PartialEq, Eq, Debug)]
 pub enum Command<R> {
-    /// Answers the span's bits in its word `k`, each as the digit that it has there, and all others
+    /// Returns the span's bits in its word `k`, each as the digit that it has there, and all others
     /// zero.
     Load(usize),
-    /// Puts the digits of the number in the places of the span's bits in its word `k`, and answers as
+    /// Puts the digits of the number in the places of the span's bits in its word `k`, and returns as
     /// `Load` did before.
     Store(usize, R),
-    /// Makes the span's bits in its word `k` one, and answers as `Load` did before.
+    /// Makes the span's bits in its word `k` one, and returns as `Load` did before.
     Set(usize),
-    /// Makes the span's bits in its word `k` zero, and answers as `Load` did before.
+    /// Makes the span's bits in its word `k` zero, and returns as `Load` did before.
     Clear(usize),
-    /// Turns the span's bits in its word `k` over, and answers as `Load` did before.
+    /// Turns the span's bits in its word `k` over, and returns as `Load` did before.
     Invert(usize),
-    /// Answers a bit.
+    /// Returns a bit.
     Read(usize),
-    /// Writes a bit, and answers it as it was.
+    /// Writes a bit, and returns it as it was.
     Replace(usize, bool),
     /// Exchanges two bits.
     Swap(usize, usize),

@@ -14,7 +14,7 @@ use crate::run::bit::bit_pointer;
 use crate::run::command::{Command, Reply};
 use crate::run::word;
 
-// Answers the value of a word of the span.
+// Returns the value of a word of the span.
 fn load<R: BitRegister, O: BitOrder<R>>(span: BitSpan<R, O>, memory: &[R], k: usize) -> Reply<R>
     requires { Fits R.BITS (span_of span) (length memory.now) }
     ensures { IsStep R.BITS O.at_of (span_of span) (map R.number memory.now) (Load k) (reply_number R.number result) (map R.number memory.now) }
@@ -87,7 +87,7 @@ fn invert<R: BitRegister, O: BitOrder<R>>(
     }
 }
 
-// Answers a bit of the span.
+// Returns a bit of the span.
 fn read<R: BitRegister, O: BitOrder<R>>(span: BitSpan<R, O>, memory: &[R], index: usize) -> Reply<R>
     requires { Fits R.BITS (span_of span) (length memory.now) }
     ensures { IsStep R.BITS O.at_of (span_of span) (map R.number memory.now) (Read index) (reply_number R.number result) (map R.number memory.now) }
@@ -99,7 +99,7 @@ fn read<R: BitRegister, O: BitOrder<R>>(span: BitSpan<R, O>, memory: &[R], index
     }
 }
 
-// Writes a bit of the span, and answers it as it was.
+// Writes a bit of the span, and returns it as it was.
 fn replace<R: BitRegister, O: BitOrder<R>>(
     span: BitSpan<R, O>,
     memory: &mut [R],

@@ -59,7 +59,7 @@ impl<'a, R: BitRegister, O> BitDomainMut<'a, R, O> {
 
     /// The bits of one word, where the domain is those alone.
     ///
-    /// As in the Rust crate, which answers a bit slice. The run keeps its loan.
+    /// The run keeps its loan. The Rust crate gives a bit slice.
     pub fn enclave(self) -> Option<BitWordsMut<'a, R, O>>
         ensures bits { MatchOption result
             (is_bit_enclave (lent_bits R.number self.entry) ≡ false)
@@ -80,7 +80,7 @@ impl<'a, R: BitRegister, O> BitDomainMut<'a, R, O> {
 
     /// The head, the body and the tail, where the domain is not one run alone.
     ///
-    /// As in the Rust crate, which answers bit slices. Each run keeps its loan.
+    /// Each run keeps its loan. The Rust crate gives bit slices.
     pub fn region(
         self,
     ) -> Option<
@@ -153,7 +153,7 @@ impl<'a, R: BitRegister, O> DomainMut<'a, R, O> {
     /// [`into_bitslice`](PartialElementMut::into_bitslice) has them, and all bits of the body.
     ///
     /// Each run has the loan of its part, and lies in it where the part does; an absent part is a
-    /// run without bits. It asks a body that is no longer than one span's can be, as each from
+    /// run without bits. Requires a body that is no longer than one span's can be, as each from
     /// [`domain_mut`](BitSpan::domain_mut) is. Our own, for the Rust crate's `into_bit_domain` over a
     /// mutable memory.
     pub fn into_bit_domain(self) -> BitDomainMut<'a, R, O>
@@ -184,7 +184,7 @@ impl<R: BitRegister, O> BitSpan<R, O> {
     /// They are those of [`bit_domain`](BitSpan::bit_domain). When the loans end, the memory is the
     /// last words of the head's loan, of the body's and of the tail's, one behind the other; the
     /// words of an absent part are as before. The loans are those of
-    /// [`domain_mut`](BitSpan::domain_mut). It asks that the span lies within the memory. Our own,
+    /// [`domain_mut`](BitSpan::domain_mut). Requires that the span lies within the memory. Our own,
     /// for the Rust crate's `bit_domain_mut`.
     pub fn bit_domain_mut<'a>(self, memory: &'a mut [R]) -> BitDomainMut<'a, R, O>
         requires { Fits R.BITS (span_of self) (length memory.old) }

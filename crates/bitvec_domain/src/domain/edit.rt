@@ -136,7 +136,7 @@ impl<'a, R: BitRegister, O: BitOrder<R>> PartialElementMut<'a, R, O> {
         self.word().and(self.mask().into_inner())
     }
 
-    /// Puts the digits of `value` at the positions of the bits, without a shift, and answers the
+    /// Puts the digits of `value` at the positions of the bits, without a shift, and returns the
     /// previous ones as [`load_value`](PartialElementMut::load_value) does.
     ///
     /// Every other digit stays, and every other word.
@@ -152,7 +152,7 @@ impl<'a, R: BitRegister, O: BitOrder<R>> PartialElementMut<'a, R, O> {
         old.and(mask)
     }
 
-    /// Turns each of the bits over, and answers the previous ones.
+    /// Turns each of the bits over, and returns the previous ones.
     pub fn invert(&mut self) -> R
         ensures reference { (memory_of self.new).ghost_name ≡ (memory_of self.old).ghost_name }
         ensures slot { slot_in self.new ≡ slot_in self.old }
@@ -165,7 +165,7 @@ impl<'a, R: BitRegister, O: BitOrder<R>> PartialElementMut<'a, R, O> {
         old.and(mask)
     }
 
-    /// Makes each of the bits zero, and answers the previous ones.
+    /// Makes each of the bits zero, and returns the previous ones.
     pub fn clear(&mut self) -> R
         ensures reference { (memory_of self.new).ghost_name ≡ (memory_of self.old).ghost_name }
         ensures slot { slot_in self.new ≡ slot_in self.old }
@@ -178,7 +178,7 @@ impl<'a, R: BitRegister, O: BitOrder<R>> PartialElementMut<'a, R, O> {
         old.and(mask)
     }
 
-    /// Makes each of the bits one, and answers the previous ones.
+    /// Makes each of the bits one, and returns the previous ones.
     pub fn set(&mut self) -> R
         ensures reference { (memory_of self.new).ghost_name ≡ (memory_of self.old).ghost_name }
         ensures slot { slot_in self.new ≡ slot_in self.old }

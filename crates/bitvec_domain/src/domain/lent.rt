@@ -190,7 +190,7 @@ impl<R: BitRegister, O> BitSpan<R, O> {
     /// They are those of [`domain`](BitSpan::domain), and none is copied. The head's loan has all
     /// words up to its own, which is its last, and the tail's all words from its own on. When the
     /// loans end, the memory is what they leave, one behind the other; words that no loan has are as
-    /// before. It asks a span that [`fits`](BitSpan::fits), and the body is no longer than
+    /// before. Requires a span that [`fits`](BitSpan::fits), and the body is no longer than
     /// one span's can be. Our own, for the Rust crate's domains
     /// over a mutable memory.
     pub fn domain_mut<'a>(self, memory: &'a mut [R]) -> DomainMut<'a, R, O>
@@ -301,7 +301,7 @@ impl<R: BitRegister, O: BitOrder<R>> BitSpan<R, O> {
 
     /// Makes each bit of the span in a memory the same, and leaves every other bit as it is.
     ///
-    /// It asks a span that [`fits`](BitSpan::fits). Our own.
+    /// Requires a span that [`fits`](BitSpan::fits). Our own.
     pub fn fill(self, memory: &mut [R], bit: bool)
         requires { Fits R.BITS (span_of self) (length memory.old) }
         ensures list { list_of R.BITS O.at_of (span_of self) (map R.number memory.new) ≡ replicate (span_of self).len bit }

@@ -1,7 +1,7 @@
 //! The texts of domains: their items in a base, without leading zeros, a comma and a space between
 //! them, in square brackets.
 //!
-//! As in the Rust crate without flags. Here none of them follows the caller's flags. The contracts say
+//! They are those of the Rust crate without flags, and none follows the caller's flags. The contracts say
 //! what is written where a call succeeds and the formatter indents nothing.
 
 ghost use Rattle.std.specs.Prelude.{◌≡◌, ◌≤◌, ◌++◌, Some, codes, true, false};

@@ -125,7 +125,7 @@ impl<'a, R: BitRegister, O> PartialElement<'a, R, O> {
 
     /// The bits of the part, in its one word.
     ///
-    /// As in the Rust crate, which answers a bit slice.
+    /// The Rust crate gives a bit slice.
     pub fn into_bitslice(self) -> BitWords<'a, R, O>
         ensures { word_bits R.number result ≡ part_bits (element_part R.number self.entry) }
     {
@@ -247,7 +247,7 @@ impl<'a, R: BitRegister, O> Domain<'a, R, O> {
     /// The bits of the parts: each partial element's as its
     /// [`into_bitslice`](PartialElement::into_bitslice) has them, and all bits of the body.
     ///
-    /// It asks a body that is no longer than one span's can be, as [`len`](Domain::len) does.
+    /// Requires a body that is no longer than one span's can be, as [`len`](Domain::len) does.
     pub fn into_bit_domain(self) -> BitDomain<'a, R, O>
         requires { HasShortBody R.BITS (domain_parts R.number self) }
         ensures { bit_parts R.number result ≡ bit_parts_of R.BITS (domain_parts R.number self.entry) }

@@ -49,7 +49,7 @@ impl<R: BitRegister, O> Drop for BitWordsMut<'_, R, O> {
     }
 }
 
-/// No bits, in no words. As in the Rust crate, where it is the empty bit slice.
+/// No bits, in no words; in the Rust crate, the empty bit slice.
 impl<'a, R: BitRegister, O> Default for BitWordsMut<'a, R, O> {
     ghost use Rattle.std.specs.Prelude.{[], ◌≡◌};
     ghost use Rattle.bitvec_domain.specs.WordsMut.{no_stretch};
@@ -128,7 +128,7 @@ impl<'a, R: BitRegister, O: BitOrder<R>> BitWordsMut<'a, R, O> {
         bit_pointer::<R, O>(self.head, i).read(self.words())
     }
 
-    /// Writes the bit `i` places after the first, and answers the bit before; no other bit of the
+    /// Writes the bit `i` places after the first, and returns the bit before; no other bit of the
     /// memory changes.
     pub fn replace(&mut self, i: usize, bit: bool) -> bool
         requires { i < (stretch_in self.old).len }

@@ -125,7 +125,7 @@ impl<R: BitRegister, O: BitOrder<R>> BitSpan<R, O> {
     /// Makes the bits of the span in a memory those of a list of as many, and leaves every other bit
     /// as it is.
     ///
-    /// It asks a span that [`fits`](BitSpan::fits). Our own, for the Rust crate's
+    /// Requires a span that [`fits`](BitSpan::fits). Our own, for the Rust crate's
     /// `BitSlice::clone_from_bitslice`.
     pub fn write_bits(self, memory: &mut [R], bits: &[bool])
         requires fits { Fits R.BITS (span_of self) (length memory.old) }

@@ -170,10 +170,10 @@ pub trait SpanLimits: Sized {
     /// No bits, from the first bit of the first word on.
     const EMPTY: Self;
 
-    /// The greatest length, in bits. As in the Rust crate.
+    /// The greatest length, in bits.
     const REGION_MAX_BITS: usize;
 
-    /// The greatest number of words that so many bits can meet. As in the Rust crate.
+    /// The greatest number of words that so many bits can meet.
     const REGION_MAX_ELTS: usize;
 
     ghost EMPTY: { Self };
@@ -318,7 +318,7 @@ impl<R: BitRegister, O> BitSpan<R, O> {
 
     /// The pointer to the bit `index` places after the first.
     ///
-    /// It asks an index below the length, and lies in each memory that the span
+    /// Requires an index below the length. The pointer lies in each memory that the span
     /// [`fits`](BitSpan::fits). Our own.
     pub fn bitptr(self, index: usize) -> BitPtr<R, O>
         requires { index < (span_of self).len }
@@ -339,7 +339,7 @@ impl<R: BitRegister, O> BitSpan<R, O> {
 
     /// How many words the span meets, 0 for an empty one whatever its head.
     ///
-    /// The Rust crate answers 1 for an empty span with a head above 0.
+    /// The Rust crate gives 1 for an empty span with a head above 0.
     pub fn elements(&self) -> usize
         ensures value { result ≡ words_met R.BITS (span_of self.now).head (span_of self.now).len }
         ensures short { result ≤ region_max_bits }

@@ -32,8 +32,6 @@ impl<R: BitRegister> Model for IdxRange<R> {
 
 impl<R: BitRegister> BitIdx<R> {
     /// The indices from this one to before `upto`, which is not below it.
-    ///
-    /// As in the Rust crate.
     #[tactic(auto, using(crate::proofs::Ranges::run_lengths))]
     pub fn range(self, upto: BitEnd<R>) -> IdxRange<R>
         requires { self ≤ upto }
@@ -49,8 +47,6 @@ impl<R: BitRegister> BitIdx<R> {
     }
 
     /// All indices of the register.
-    ///
-    /// As in the Rust crate.
     #[tactic(auto, using(crate::proofs::Ranges::run_lengths))]
     pub fn range_all() -> IdxRange<R>
         ensures items { result ≡ numbers_between 0 R.BITS }
@@ -124,8 +120,6 @@ impl<R: BitRegister> Model for EndRange<R> {
 
 impl<R: BitRegister> BitEnd<R> {
     /// The ends from `from` to the width, both included.
-    ///
-    /// As in the Rust crate.
     #[tactic(auto, using(crate::proofs::Ranges::run_lengths))]
     pub fn range_from(from: BitIdx<R>) -> EndRange<R>
         ensures items { result ≡ numbers_between from (R.BITS + 1) }
@@ -199,7 +193,7 @@ impl<R: BitRegister> Model for PosRange<R> {
 impl<R: BitRegister> BitPos<R> {
     /// All positions of the register.
     ///
-    /// As in the Rust crate, which keeps it private.
+    /// The Rust crate keeps it private.
     pub fn range_all() -> PosRange<R>
         ensures items { result ≡ numbers_between 0 R.BITS }
         ensures count { length result ≡ R.BITS }
@@ -261,8 +255,6 @@ impl<R: BitRegister> Model for SelRange<R> {
 
 impl<R: BitRegister> BitSel<R> {
     /// All selectors of the register.
-    ///
-    /// As in the Rust crate.
     pub fn range_all() -> SelRange<R>
         ensures items { result ≡ powers_between 0 R.BITS }
         ensures count { length result ≡ R.BITS }

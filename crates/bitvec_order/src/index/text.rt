@@ -1,6 +1,6 @@
 //! The texts of indices, ends, positions, selectors, masks and the error of an index.
 //!
-//! As in the Rust crate without flags. Here none of them follows the caller's flags, as a width or
+//! They are those of the Rust crate without flags, and none follows the caller's flags, as a width or
 //! a fill. The contracts say what is written where a call succeeds and the formatter indents nothing.
 
 ghost use Rattle.std.specs.Prelude.{◌≡◌, ◌⊎◌, ◌+◌, ◌≤◌, false, Some, codes};

@@ -120,8 +120,7 @@ impl<R: BitRegister, O: BitOrder<R>> BitPtr<R, O> {
         self.copy_through(memory, dest, &mut writer, count);
     }
 
-    /// Another name of [`copy_to`](BitPtr::copy_to), since two memories never overlap. As in the Rust
-    /// crate.
+    /// Another name of [`copy_to`](BitPtr::copy_to), since two memories never overlap.
     pub fn copy_to_nonoverlapping<R2: BitRegister, O2: BitOrder<R2>>(
         self,
         memory: &[R],

@@ -146,7 +146,7 @@ impl<R: BitRegister, O> BitPtrRange<R, O> {
 
     /// Takes the pointer `n` places after the start, and drops those before it.
     ///
-    /// Where there is none it answers `None` and leaves the range empty, at its end.
+    /// Where there is none it returns `None` and leaves the range empty, at its end.
     pub fn nth(&mut self, n: usize) -> Option<BitPtr<R, O>>
         ensures end { (range_of self.new).end ≡ (range_of self.old).end }
         ensures item { MatchOption result
@@ -166,7 +166,7 @@ impl<R: BitRegister, O> BitPtrRange<R, O> {
 
     /// Takes the pointer `n` places before the last, and drops those after it.
     ///
-    /// Where there is none it answers `None` and leaves the range empty, at its start.
+    /// Where there is none it returns `None` and leaves the range empty, at its start.
     pub fn nth_back(&mut self, n: usize) -> Option<BitPtr<R, O>>
         ensures start { (range_of self.new).start ≡ (range_of self.old).start }
         ensures item { MatchOption result
@@ -274,5 +274,5 @@ impl<R: BitRegister, O> ExactSizeIterator for BitPtrRange<R, O> {
     }
 }
 
-/// After `None` the range answers `None` for good.
+/// After `None` the range returns `None` for good.
 impl<R: BitRegister, O> FusedIterator for BitPtrRange<R, O> {}

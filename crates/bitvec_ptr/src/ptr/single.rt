@@ -331,7 +331,7 @@ impl<R: BitRegister, O: BitOrder<R>> BitPtr<R, O> {
         memory[at] = with_bit::<R, O>(memory[at], self.bit(), bit);
     }
 
-    /// Writes the pointer's bit as [`write`](BitPtr::write) does, and answers the bit before.
+    /// Writes the pointer's bit as [`write`](BitPtr::write) does, and returns the bit before.
     pub fn replace(self, memory: &mut [R], bit: bool) -> bool
         requires { IsIn (ptr_of self) (length memory.old) }
         ensures previous { slice_get (memory_bits R.BITS O.at_of (map R.number memory.old)) (index_of R.BITS (ptr_of self)) ≡ Some result }
@@ -345,8 +345,7 @@ impl<R: BitRegister, O: BitOrder<R>> BitPtr<R, O> {
     }
 
     /// Exchanges the pointer's bit in `memory` with the bit of `with` in `other`, and changes no other
-    /// bit: [`is_in`](BitPtr::is_in) is the test of each. As in the Rust crate, but for two memories
-    /// that are handed in.
+    /// bit: [`is_in`](BitPtr::is_in) is the test of each.
     pub fn swap<R2: BitRegister, O2: BitOrder<R2>>(
         self,
         memory: &mut [R],
