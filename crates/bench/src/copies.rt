@@ -2,7 +2,7 @@
 
 ghost use Rattle.std.specs.Prelude.{◌<◌, length};
 ghost use Rattle.bitvec.specs.BitPtr.{ptr_of};
-ghost use Rattle.bitvec.specs.Steps.{RunsIn};
+ghost use Rattle.bitvec.specs.Steps.{RangeIsIn};
 
 use crate::timer::{Job, Mode, Name, tell, time};
 use crate::words::{Formula, bytes, is_copied, words, words_of};
@@ -25,8 +25,8 @@ struct Across<'a, R: BitRegister, O: BitOrder<R>, R2: BitRegister, O2: BitOrder<
 
 impl<R: BitRegister, O: BitOrder<R>, R2: BitRegister, O2: BitOrder<R2>> Job
     for Across<'_, R, O, R2, O2> {
-    ghost ready = { λ s. RunsIn R.BITS (ptr_of s.from) (length s.source.now) s.count
-        × RunsIn R2.BITS (ptr_of s.to) (length s.target.now) s.count };
+    ghost ready = { λ s. RangeIsIn R.BITS (ptr_of s.from) (length s.source.now) s.count
+        × RangeIsIn R2.BITS (ptr_of s.to) (length s.target.now) s.count };
 
     #[inline(never)]
     fn go(&mut self) {
@@ -45,7 +45,8 @@ struct Within<'a, O: BitOrder<u64>> {
 }
 
 impl<O: BitOrder<u64>> Job for Within<'_, O> {
-    ghost ready = { λ s. RunsIn 64 (ptr_of s.from) (length s.memory.now) s.count × RunsIn 64 (ptr_of s.to) (length s.memory.now) s.count };
+    ghost ready = { λ s. RangeIsIn 64 (ptr_of s.from) (length s.memory.now) s.count
+        × RangeIsIn 64 (ptr_of s.to) (length s.memory.now) s.count };
 
     #[inline(never)]
     fn go(&mut self) {

@@ -1,8 +1,8 @@
 //! How long the layer's calls take, and whether they do what plain loops do.
 //!
-//! With no argument it copies, runs and fills a few thousand words, compares each memory with what a
-//! plain loop makes, and prints a line for each that agrees. With the argument `time` it prints a name
-//! and nanoseconds for each call: of a word, a request or a span.
+//! With no argument it copies, runs and fills a few thousand words, compares each memory with what
+//! a plain loop makes, and prints a line for each that agrees. With the argument `time` it prints a
+//! name and nanoseconds for each call: of a word, a request or a span.
 #![tactic(auto)]
 
 mod copies;

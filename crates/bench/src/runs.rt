@@ -23,7 +23,8 @@ struct Requests<'a> {
 }
 
 impl Job for Requests<'_> {
-    ghost ready = { λ s. CanRun 64 span_of s.spans.now (length s.memory.now) × (length s.replies.now ≡ length s.requests.now) };
+    ghost ready = { λ s. CanRun 64 span_of s.spans.now (length s.memory.now)
+        × (length s.replies.now ≡ length s.requests.now) };
 
     #[inline(never)]
     fn go(&mut self) {
@@ -149,8 +150,8 @@ fn run_stores(rt: HostRuntime, mode: Mode) -> io::Result<()> {
     tell(rt, name, agrees)
 }
 
-// Whether the test passes spans of ten bits one behind the other, in either direction, and not where
-// one of them stands twice.
+// Whether the test passes spans of ten bits one behind the other, in either direction, and not
+// where one of them stands twice.
 fn is_right(rt: HostRuntime, count: u16, words: usize) -> Result<bool, AllocError> {
     let mut spans = rising(rt, count)?;
     let rises = can_run(&spans, words);

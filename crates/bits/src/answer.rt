@@ -59,8 +59,8 @@ pub fn out_of_memory<W: Write>(out: &mut W) -> u8
 
 /// Writes the answer to the arguments, and gives the exit status.
 ///
-/// Status 0 is an answer, 2 a fault of the arguments, 3 out of memory and 4 a write that failed. The
-/// whole text is made before any of it is written.
+/// Status 0 is an answer, 2 a fault of the arguments, 3 out of memory and 4 a write that failed.
+/// The whole text is made before any of it is written.
 pub fn answer<A: Allocator, W: Write>(alloc: &A, args: &[String], out: &mut W) -> u8
     ensures { (result ≡ 0) ⊎ (result ≡ 2) ⊎ (result ≡ 3) ⊎ (result ≡ 4) }
 {
@@ -82,7 +82,7 @@ fn text<'a, A: Allocator>(alloc: &'a A, args: &[String]) -> Result<String<&'a A>
                 start: start.as_str(),
                 len: len.as_str(),
             };
-            names::answer(order.as_str(), register.as_str(), &call).unwrap_or(Err(Fault::Usage))
+            names::answer_at(order.as_str(), register.as_str(), &call).unwrap_or(Err(Fault::Usage))
         }
         [call, order, register, from, upto] if call.as_str() == "mask" => {
             let call = MaskCall {
@@ -90,7 +90,7 @@ fn text<'a, A: Allocator>(alloc: &'a A, args: &[String]) -> Result<String<&'a A>
                 from: from.as_str(),
                 upto: upto.as_str(),
             };
-            names::answer(order.as_str(), register.as_str(), &call).unwrap_or(Err(Fault::Usage))
+            names::answer_at(order.as_str(), register.as_str(), &call).unwrap_or(Err(Fault::Usage))
         }
         [call, order, register, words, spans, commands] if call.as_str() == "run" => {
             let call = RunCall {
@@ -99,7 +99,7 @@ fn text<'a, A: Allocator>(alloc: &'a A, args: &[String]) -> Result<String<&'a A>
                 spans: spans.as_str(),
                 commands: commands.as_str(),
             };
-            names::answer(order.as_str(), register.as_str(), &call).unwrap_or(Err(Fault::Usage))
+            names::answer_at(order.as_str(), register.as_str(), &call).unwrap_or(Err(Fault::Usage))
         }
         [call, candidate] if call.as_str() == "verify" => verify::text(alloc, candidate.as_str()),
         _ => Err(Fault::Usage),

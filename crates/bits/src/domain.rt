@@ -30,7 +30,7 @@ impl<'a, A: Allocator> Call for DomainCall<'a, '_, A> {
     type Answer = Result<String<&'a A>, Fault<&'a A>>;
 
     // One line an item, and the number of items.
-    fn answer<R: BitRegister, O: BitOrder<R>>(&self) -> Self::Answer {
+    fn at<R: BitRegister, O: BitOrder<R>>(&self) -> Self::Answer {
         let alloc = self.alloc;
         let memory = words_of::<R, A>(alloc, self.words)?.ok_or(Fault::Usage)?;
         let start = place(self.start).ok_or(Fault::Usage)?;
@@ -46,8 +46,8 @@ impl<'a, A: Allocator> Call for DomainCall<'a, '_, A> {
     }
 }
 
-// Writes a line an item, and gives their number. Word numbers and counts are u128, in which no sum of
-// two of them passes the type.
+// Writes a line an item, and gives their number. Word numbers and counts are u128, in which no sum
+// of two of them passes the type.
 fn write_items<R: BitRegister, O: BitOrder<R>, A: Allocator>(
     text: &mut String<A>,
     first: u128,

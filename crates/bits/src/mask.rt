@@ -24,7 +24,7 @@ impl<'a, A: Allocator> Call for MaskCall<'a, '_, A> {
     type Answer = Result<String<&'a A>, Fault<&'a A>>;
 
     // The mask in binary.
-    fn answer<R: BitRegister, O: BitOrder<R>>(&self) -> Self::Answer {
+    fn at<R: BitRegister, O: BitOrder<R>>(&self) -> Self::Answer {
         let alloc = self.alloc;
         let from = bound(self.from).ok_or(Fault::Usage)?;
         let upto = bound(self.upto).ok_or(Fault::Usage)?;

@@ -31,10 +31,10 @@ impl<'a, A: Allocator> Call for RunCall<'a, '_, A> {
     type Answer = Result<String<&'a A>, Fault<&'a A>>;
 
     // One line a reply, and the memory.
-    fn answer<R: BitRegister, O: BitOrder<R>>(&self) -> Self::Answer {
+    fn at<R: BitRegister, O: BitOrder<R>>(&self) -> Self::Answer {
         let alloc = self.alloc;
         let mut memory = words_of::<R, A>(alloc, self.words)?.ok_or(Fault::Usage)?;
-        let places = places_of(alloc, self.spans)?;
+        let places = intervals_of(alloc, self.spans)?;
         let requests = requests_of::<R, A>(alloc, self.commands)?;
         let spans = spans_of::<R, O, A>(alloc, &places)?;
         if !spans.iter().all(|span| span.fits(memory.len())) {
@@ -55,7 +55,7 @@ impl<'a, A: Allocator> Call for RunCall<'a, '_, A> {
 }
 
 // A comma list of places and lengths with a plus sign between them, or `-` for none.
-fn places_of<'a, A: Allocator>(
+fn intervals_of<'a, A: Allocator>(
     alloc: &'a A,
     text: &str,
 ) -> Result<Vec<(u64, u64), &'a A>, Fault<&'a A>> {

@@ -7,7 +7,7 @@ use Rattle.bitvec_order.specs.Order.{IsOneToOne}
 use Rattle.bitvec_ptr.specs.Memory.{bit_of}
 use Rattle.bitvec_ptr.specs.Place.{words_met}
 use Rattle.bitvec_domain.specs.Span.{Span, Covers, Fits, list_of, element, word_of}
-use Rattle.bitvec_domain.specs.Edit.{slot_of, EditsPart}
+use Rattle.bitvec_domain.specs.Slot.{slot_of, EditsPart}
 use Rattle.bitvec_domain.proofs.PartLemmas.{bit_of-span, element-list_of, length-list_of}
 use Rattle.bitvec.specs.declared.run.command.Command.{Command}
 use Rattle.bitvec.specs.declared.run.command.Command.TheVariants.{Load, Store, Set, Clear, Invert}

@@ -8,7 +8,7 @@ use Rattle.std.proofs.lemmas.Bool.{le-leb, lt-leb, lt-ltb, le-ltb, cases_eq, cas
 use Rattle.std.proofs.lemmas.List.{same_lists, get_or_past, get_or-set_same, get_or-set_other}
 use Rattle.std.proofs.lemmas.List.Edits.{swap_is}
 use Rattle.bitvec_mem.specs.Digit.{digit}
-use Rattle.bitvec_ptr.specs.Memory.{bit_of, memory_bits, copied}
+use Rattle.bitvec_ptr.specs.Memory.{bit_of, memory_bits, list_with_copy}
 use Rattle.bitvec_ptr.proofs.MemoryLemmas.{get_or-tabulate}
 use Rattle.bitvec_ptr.proofs.BitLemmas.{length-memory_bits, get_or-memory_bits}
 use Rattle.bitvec_ptr.proofs.CopyLemmas.{met_covers, element_is, copied_none, copied_from_points, get_or-copied_below, get_or-copied_inside, get_or-copied_above}
@@ -159,7 +159,7 @@ module _ (bits : ℕ) (at : ℕ → ℕ) (span : Span) (old new : List ℕ) (in_
       many
 
   pub step-copy : (from to count p q : ℕ) → from + count ≤ span.len → to + count ≤ span.len → p ≡ nat_abs span.word * bits + span.head + from → q ≡ nat_abs span.word * bits + span.head + to
-      → memory_bits bits at new ≡ copied (memory_bits bits at old) p (memory_bits bits at old) q count → IsStep bits at span old (Copy from to count) Done new
+      → memory_bits bits at new ≡ list_with_copy (memory_bits bits at old) p (memory_bits bits at old) q count → IsStep bits at span old (Copy from to count) Done new
   step-copy from to count p q h k e f is =
       let xs : List Bool = list_of bits at span old in
       let all : List Bool = memory_bits bits at old in
@@ -168,8 +168,8 @@ module _ (bits : ℕ) (at : ℕ → ℕ) (span : Span) (old new : List ℕ) (in_
       let longer = length-list_of bits at span new in
       elim (cases_eq count 0) [
         | inl none ↦ (
-            let same : copied all p all q count ≡ all = rw none (sym (copied_none all p all q)) in
-            let none_copied : copied xs from xs to count ≡ xs = rw none (sym (copied_none xs from xs to)) in
+            let same : list_with_copy all p all q count ≡ all = rw none (sym (copied_none all p all q)) in
+            let none_copied : list_with_copy xs from xs to count ≡ xs = rw none (sym (copied_none xs from xs to)) in
             step-within bits at span old new (Copy from to count) Done (rw (long, le-leb (from + count) span.len h, le-leb (to + count) span.len k) refl) refl
             (same_lists (list_of bits at span new) xs (longer ∙ sym long) (λ n d below.
             let short : n < span.len = omega (arith, longer) in
@@ -180,7 +180,7 @@ module _ (bits : ℕ) (at : ℕ → ℕ) (span : Span) (old new : List ℕ) (in_
         | inr some ↦ (
             let p_in : p + count ≤ length all = omega (arith, e, inside_memory (from + count - 1) (omega arith), many_bits) in
             let q_in : q + count ≤ length all = omega (arith, f, inside_memory (to + count - 1) (omega arith), many_bits) in
-            let ys : List Bool = copied all p all q count in
+            let ys : List Bool = list_with_copy all p all q count in
             step-within bits at span old new (Copy from to count) Done (rw (long, le-leb (from + count) span.len h, le-leb (to + count) span.len k) refl) refl
             (copied_from_points xs from xs to count (omega (arith, long)) (omega (arith, long)) (list_of bits at span new) (longer ∙ sym long)
             (λ j d below.

@@ -12,8 +12,8 @@ use Rattle.bitvec_ptr.specs.Memory.{bit_of}
 use Rattle.bitvec_ptr.specs.Place.{words_met}
 use Rattle.bitvec_ptr.proofs.MemoryLemmas.{tabulate_same}
 use Rattle.bitvec_domain.specs.Span.{Span, Covers, Fits, list_of, word_of}
-use Rattle.bitvec_domain.specs.Domain.{part_head, part_tail, part_of}
-use Rattle.bitvec_domain.specs.Edit.{slot_of, edited_word, EditsPart}
+use Rattle.bitvec_domain.specs.Parts.{part_head, part_tail, part_of}
+use Rattle.bitvec_domain.specs.Slot.{slot_of, edited_word, EditsPart}
 use Rattle.bitvec_domain.proofs.PartLemmas.{inside-from_part, part-from_inside, bit_of-span, element-list_of, length-list_of, value_of-part_of}
 use Rattle.bitvec.specs.Commands.{with_word}
 use Rattle.bitvec_domain.proofs.CoverLemmas.{covers-own}

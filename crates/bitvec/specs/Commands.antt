@@ -2,7 +2,7 @@
 -- index in a word to its position in the number; a word is given as its number.
 use Rattle.std.specs.Prelude.{ℕ, ◌+◌, ◌/◌, ◌%◌, Bool, true, false, not, ◌&&◌, List, [], ◌∷◌, length, swap, slice_set, if◌then◌else◌, ◌==◌, nat_lt, nat_le}
 use Rattle.bitvec_mem.specs.Digit.{digit}
-use Rattle.bitvec_ptr.specs.Memory.{tabulate, copied}
+use Rattle.bitvec_ptr.specs.Memory.{tabulate, list_with_copy}
 use Rattle.bitvec_ptr.specs.Place.{words_met}
 use Rattle.bitvec_domain.specs.Span.{element, word_of}
 use Rattle.bitvec.specs.declared.run.command.Command.{Command}
@@ -49,7 +49,7 @@ edited_list bits at head (Invert k) xs = with_word bits head xs k (λ j. not (el
 edited_list bits at head (Read i) xs = xs
 edited_list bits at head (Replace i b) xs = slice_set xs i b
 edited_list bits at head (Swap i j) xs = swap xs i j
-edited_list bits at head (Copy from to count) xs = copied xs from xs to count
+edited_list bits at head (Copy from to count) xs = list_with_copy xs from xs to count
 
 -- the reply to a command on a list
 abbrev pub reply_to : ℕ → (ℕ → ℕ) → ℕ → Command ℕ → List Bool → Reply ℕ

@@ -1,8 +1,8 @@
 //! What registers, orders and places have no part in, as calls whose contracts are the laws.
 //!
 //! Each speaks of the commands of one span alone, the definition that the contract of
-//! [`run`](crate::run::run) says a span's replies and list by. So with that contract a law carries to
-//! any two calls of `run`. Both are our own.
+//! [`run`](crate::run::run) says a span's replies and list by. So with that contract a law carries
+//! to any two calls of `run`. Both are our own.
 
 ghost use Rattle.bitvec.specs.Laws.{BitCommandsAgree, TurnedOrdersAgree};
 
@@ -20,11 +20,11 @@ pub fn bit_commands<R: BitRegister, O: BitOrder<R>, R2: BitRegister, O2: BitOrde
 
 /// An order changes only where a bit lies.
 ///
-/// A number is turned from one order to another where its digit at the position of each index in the
-/// other is the digit at the index's position in the one. Two memories have the same bits, each under
-/// an order of its own, and the same spans. Then the same requests, with the numbers of `Store`
-/// turned, get each span the same replies, with the numbers of `Word` turned, and leave it equal
-/// lists.
+/// A number is turned from one order to another where its digit at the position of each index in
+/// the other is the digit at the index's position in the one. Two memories have the same bits, each
+/// under an order of its own, and the same spans. Then the same requests, with the numbers of
+/// `Store` turned, get each span the same replies, with the numbers of `Word` turned, and leave it
+/// equal lists.
 pub fn turned_orders<R: BitRegister, O: BitOrder<R>, O2: BitOrder<R>>()
     ensures { TurnedOrdersAgree R.BITS O.at_of O2.at_of }
 {}

@@ -1,8 +1,9 @@
-//! The layer's types and traits under one name, as the Rust crate has it: `use bitvec::prelude::*;`.
+//! The layer's types and traits under one name, as the Rust crate has it: `use
+//! bitvec::prelude::*;`.
 //!
 //! Besides the types and both orders it has the small traits that carry constants, so that
-//! `BitIdx::<u8>::MAX` or `BitSpan::<u8, Lsb0>::EMPTY` are written as there. Functions keep the names
-//! of their modules.
+//! `BitIdx::<u8>::MAX` or `BitSpan::<u8, Lsb0>::EMPTY` are written as there. Functions keep the
+//! names of their modules.
 
 pub use crate::domain::{
     BitDomain, BitDomainMut, BitWords, BitWordsMut, Domain, DomainMut, PartialElement,

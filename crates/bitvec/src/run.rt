@@ -1,9 +1,10 @@
 //! Commands through disjoint spans of one memory.
 //!
-//! Each span's list of bits goes its own way: what its commands answer, and what they leave, is what
-//! they give on that list alone. All of it is our own.
+//! Each span's list of bits goes its own way: what its commands answer, and what they leave, is
+//! what they give on that list alone. All of it is our own.
 
-ghost use Rattle.std.specs.Prelude.{◌≡◌, ℕ, pos, ◌+ℤ◌, ◌≤ℤ◌, ◌⊎◌, ◌↔◌, IsTrue, IfSome, All, AllPairs, List, [], ◌∷◌, length, map};
+ghost use Rattle.std.specs.Prelude.{◌≡◌, ℕ, pos, ◌+ℤ◌, ◌≤ℤ◌, ◌⊎◌, ◌↔◌, IsTrue, IfSome, All};
+ghost use Rattle.std.specs.Prelude.{AllPairs, List, [], ◌∷◌, length, map};
 ghost use Rattle.bitvec_ptr.specs.Place.{place_at};
 ghost use Rattle.bitvec_domain.specs.Span.{AreDisjoint};
 ghost use Rattle.bitvec_domain.specs.BitSpan.{span_of};
@@ -24,14 +25,16 @@ pub use self::command::{Command, Reply, Request};
 
 // Whether a span has no bit in common with any of the others.
 fn is_apart<R: BitRegister, O>(span: BitSpan<R, O>, others: &[BitSpan<R, O>]) -> bool
-    ensures { IsTrue result ↔ All (λ other. AreDisjoint R.BITS (span_of span) (span_of other)) others.now }
+    ensures { IsTrue result ↔ All (λ other. AreDisjoint R.BITS (span_of span) (span_of other))
+        others.now }
 {
     others.iter().all(|other| span.is_disjoint(other))
 }
 
 // Whether no two spans have a bit in common, each tested with each.
 fn are_apart<R: BitRegister, O>(spans: &[BitSpan<R, O>]) -> bool
-    ensures { IsTrue result ↔ AllPairs (λ a b. AreDisjoint R.BITS (span_of a) (span_of b)) spans.now }
+    ensures { IsTrue result ↔ AllPairs (λ a b. AreDisjoint R.BITS (span_of a) (span_of b))
+        spans.now }
 {
     for i in 0..spans.len() {
         if !is_apart(spans[i], &spans[i + 1..]) {
@@ -50,11 +53,11 @@ fn comes_before<R: BitRegister, O>(span: BitSpan<R, O>, next: BitSpan<R, O>) -> 
     span.is_empty() || span.to_bitptr_range().end() <= next.to_bitptr()
 }
 
-// Whether no two spans have a bit in common, by one pass that tests each with the last one before it
-// that has bits; `None` where a span that has bits starts before that one.
+// Whether no two spans have a bit in common, by one pass that tests each with the last one before
+// it that has bits; `None` where a span that has bits starts before that one.
 fn neighbours_apart<R: BitRegister, O>(spans: &[BitSpan<R, O>]) -> Option<bool>
-    ensures { IfSome result
-        (λ apart. IsTrue apart ↔ AllPairs (λ a b. AreDisjoint R.BITS (span_of a) (span_of b)) spans.now) }
+    ensures { IfSome result (λ apart. IsTrue apart
+        ↔ AllPairs (λ a b. AreDisjoint R.BITS (span_of a) (span_of b)) spans.now) }
 {
     let mut last = 0;
     for i in 1..spans.len() {
@@ -72,11 +75,12 @@ fn neighbours_apart<R: BitRegister, O>(spans: &[BitSpan<R, O>]) -> Option<bool>
     Some(true)
 }
 
-/// Whether each span lies within a memory of so many words and no two have a bit in common: the test
-/// of [`run`].
+/// Whether each span lies within a memory of so many words and no two have a bit in common: the
+/// test of [`run`].
 ///
-/// Spans whose places rise, each that has bits behind the one before it that has, take one pass, and so
-/// do those that meet a neighbour in it; spans in no order are tested each with each. Our own.
+/// Spans whose places rise, each that has bits behind the one before it that has, take one pass,
+/// and so do those that meet a neighbour in it; spans in no order are tested each with each. Our
+/// own.
 pub fn can_run<R: BitRegister, O>(spans: &[BitSpan<R, O>], words: usize) -> bool
     ensures { IsTrue result ↔ CanRun R.BITS span_of spans.now words }
 {
@@ -95,7 +99,8 @@ fn serve<R: BitRegister, O: BitOrder<R>>(
 ) -> Reply<R>
     requires { CanRun R.BITS span_of spans.now (length memory.old) }
     ensures { IsRun R.BITS O.at_of span_of spans.now (map R.number memory.old)
-        (request_number R.number request ∷ []) (reply_number R.number result ∷ []) (map R.number memory.new) }
+        (request_number R.number request ∷ []) (reply_number R.number result ∷ [])
+        (map R.number memory.new) }
 {
     if request.span < spans.len() {
         let span = spans[request.span];
@@ -105,14 +110,14 @@ fn serve<R: BitRegister, O: BitOrder<R>>(
     }
 }
 
-/// Gives the spans of one memory the commands of the requests, in their order, and writes reply n to
-/// request n.
+/// Gives the spans of one memory the commands of the requests, in their order, and writes reply n
+/// to request n.
 ///
 /// [`can_run`] of the memory's length is the test of the spans, and there are as many replies as
 /// requests. Each span's replies are those that its own list of bits gives under its own commands
 /// alone; a request that names no span gets [`Reply::NoSpan`]. In the end each span has the list
-/// that its commands leave, and every other bit of the memory is as before. A refused command changes
-/// nothing. Our own.
+/// that its commands leave, and every other bit of the memory is as before. A refused command
+/// changes nothing. Our own.
 pub fn run<R: BitRegister, O: BitOrder<R>>(
     spans: &[BitSpan<R, O>],
     memory: &mut [R],
@@ -122,7 +127,8 @@ pub fn run<R: BitRegister, O: BitOrder<R>>(
     requires can_run { CanRun R.BITS span_of spans.now (length memory.old) }
     requires room { length replies.old ≡ length requests.now }
     ensures { IsRun R.BITS O.at_of span_of spans.now (map R.number memory.old)
-        (map (request_number R.number) requests.now) (map (reply_number R.number) replies.new) (map R.number memory.new) }
+        (map (request_number R.number) requests.now) (map (reply_number R.number) replies.new)
+        (map R.number memory.new) }
 {
     for n in 0..requests.len() {
         let request = requests[n];

@@ -5,7 +5,7 @@ use Rattle.std.specs.Prelude.{slice_index, slice_set}
 use Rattle.bitvec_mem.specs.Digit.{digit, differ}
 use Rattle.bitvec_order.specs.Order.{IsOneToOne, IsMaskOf}
 use Rattle.bitvec_order.proofs.IndexLemmas.{digit-mask_at, number_of-from_digits}
-use Rattle.bitvec_domain.specs.Edit.{Slot, slot_part, EditsPart}
+use Rattle.bitvec_domain.specs.Slot.{Slot, slot_part, EditsPart}
 use Rattle.bitvec_domain.proofs.PartLemmas.{value_of-from_mask}
 
 -- a digit cleared, set or turned over where a mask has its position

@@ -5,14 +5,14 @@ use Rattle.std.specs.Prelude.{nat_abs, Option, Some, None, is_some}
 use Rattle.std.specs.Borrow.{GName}
 use Rattle.bitvec_ptr.specs.Place.{words_met}
 use Rattle.bitvec_domain.specs.Span.{Span}
-use Rattle.bitvec_domain.specs.Edit.{Slot, slot_at}
+use Rattle.bitvec_domain.specs.Slot.{Slot, slot_at}
 use Rattle.bitvec_domain.specs.Lending.{name_of}
 use Rattle.bitvec_domain.specs.Pieces.{names_of, piece_list}
 use Rattle.bitvec_domain.specs.declared.lend.Pieces.{Pieces}
-use Rattle.bitvec_domain.specs.declared.domain.lent.DomainMut.{DomainMut}
-use Rattle.bitvec_domain.specs.declared.domain.lent.DomainMut.TheVariants.{Enclave, Region}
+use Rattle.bitvec_domain.specs.declared.domain.domain_mut.DomainMut.{DomainMut}
+use Rattle.bitvec_domain.specs.declared.domain.domain_mut.DomainMut.TheVariants.{Enclave, Region}
 use Rattle.bitvec_domain.specs.Loans.{is_inside, has_head, has_tail, words_before, body_words, slots_of, lists_of, word_of_bit, filled_slot_if, filled}
-use Rattle.bitvec_domain.specs.LoansView.{loan_names, loan_slots, loan_words}
+use Rattle.bitvec_domain.specs.DomainMut.{loan_names, loan_slots, loan_words}
 use Rattle.bitvec_domain.proofs.LoanEnds.{last_of}
 use Rattle.bitvec_domain.proofs.LoanLemmas.{loans-within, inside-none}
 

@@ -14,8 +14,8 @@ use Rattle.bitvec_ptr.specs.Place.{words_met, tail_of}
 use Rattle.bitvec_ptr.proofs.PlaceLemmas.{words_met-none, words_met-some}
 use Rattle.bitvec_ptr.proofs.MemoryLemmas.{tabulate-from_elements}
 use Rattle.bitvec_domain.specs.Span.{Span, Covers, Fits, list_of}
-use Rattle.bitvec_domain.specs.Domain.{part_head, part_tail, part_of}
-use Rattle.bitvec_domain.specs.Edit.{slot_at, edited_word}
+use Rattle.bitvec_domain.specs.Parts.{part_head, part_tail, part_of}
+use Rattle.bitvec_domain.specs.Slot.{slot_at, edited_word}
 use Rattle.bitvec_domain.specs.Loans.{has_head, has_tail, body_words, word_of_bit, filled_slot_if, filled}
 use Rattle.bitvec_domain.proofs.PartLemmas.{inside-from_part, part-from_inside, bit_of-span}
 use Rattle.bitvec_domain.proofs.CoverLemmas.{covers-own}

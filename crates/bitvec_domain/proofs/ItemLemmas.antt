@@ -15,7 +15,7 @@ use Rattle.bitvec_ptr.specs.Place.{words_met, tail_of}
 use Rattle.bitvec_ptr.proofs.PlaceLemmas.{words_met-none, words_met-some, tail_of-some}
 use Rattle.bitvec_ptr.proofs.MemoryLemmas.{tabulate_same}
 use Rattle.bitvec_domain.specs.Span.{Span, Fits, list_of, word_of, words_of, region_max_bits}
-use Rattle.bitvec_domain.specs.Domain.{Part, Parts, enclave, region, whole, value_of, part_head, part_tail, part_of, parts_of, items, HasShortBody}
+use Rattle.bitvec_domain.specs.Parts.{Part, Parts, enclave, region, whole, value_of, part_head, part_tail, part_of, parts_of, items, HasShortBody}
 use Rattle.bitvec_domain.proofs.PartLemmas.{part_same, value_of-part_of, length-list_of}
 
 -- a whole word is its own value

@@ -9,13 +9,13 @@ use Rattle.bitvec_ptr.proofs.PlaceLemmas.{words_met-none, words_met-some}
 use Rattle.bitvec_domain.specs.Span.{Span}
 use Rattle.bitvec_domain.proofs.PartLemmas.{part_same}
 use Rattle.bitvec_domain.proofs.SliceLemmas.{map-slice}
-use Rattle.bitvec_domain.specs.Domain.{Part, Parts, enclave, region, part_of, parts_of}
-use Rattle.bitvec_domain.specs.Edit.{Slot, slot_part, slot_at}
+use Rattle.bitvec_domain.specs.Parts.{Part, Parts, enclave, region, part_of, parts_of}
+use Rattle.bitvec_domain.specs.Slot.{Slot, slot_part, slot_at}
 use Rattle.bitvec_domain.specs.Loans.{is_inside, has_head, has_tail, words_before, body_words, slots_of, lists_of}
-use Rattle.bitvec_domain.specs.LoansView.{loan_slots, loan_words, lent_parts}
+use Rattle.bitvec_domain.specs.DomainMut.{loan_slots, loan_words, lent_parts}
 use Rattle.bitvec_domain.specs.Pieces.{piece_list}
-use Rattle.bitvec_domain.specs.declared.domain.lent.DomainMut.{DomainMut}
-use Rattle.bitvec_domain.specs.declared.domain.lent.DomainMut.TheVariants.{Enclave, Region}
+use Rattle.bitvec_domain.specs.declared.domain.domain_mut.DomainMut.{DomainMut}
+use Rattle.bitvec_domain.specs.declared.domain.domain_mut.DomainMut.TheVariants.{Enclave, Region}
 
 -- the part at a slot of some words, if there is one
 abbrev pub slot_part_if : Option Slot → List ℕ → Option Part

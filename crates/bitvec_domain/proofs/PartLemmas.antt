@@ -13,7 +13,7 @@ use Rattle.bitvec_ptr.specs.Place.{words_met, tail_of}
 use Rattle.bitvec_ptr.proofs.PlaceLemmas.{words_met-none, words_met-some, tail_of-some}
 use Rattle.bitvec_ptr.proofs.MemoryLemmas.{length-tabulate, get_or-tabulate, bit_of-place}
 use Rattle.bitvec_domain.specs.Span.{Span, list_of, element, word_of}
-use Rattle.bitvec_domain.specs.Domain.{Part, value_of, part_head, part_tail, part_of}
+use Rattle.bitvec_domain.specs.Parts.{Part, value_of, part_head, part_tail, part_of}
 
 -- a part by its word and bounds
 abbrev pub made : ℕ → ℕ → ℕ → Part

@@ -1,4 +1,4 @@
--- The runs of a span's bits in its loans, and where their bits lie in the span.
+-- The stretches of a span's bits in its loans, and where their bits lie in the span.
 use Rattle.std.proofs.Common.{◌≡◌, ℕ, ◌+◌, ◌-◌, ◌*◌, ◌/◌, ◌%◌, ◌<◌, ◌≤◌, ◌==◌, Bool, true, false, not, if◌then◌else◌, T, List, [], ◌++◌, length, map, take, drop, refl, sym, ap, ◌∙◌, subst, arith, inl, inr, MutBor}
 use Rattle.std.specs.Prelude.{nat_abs, Option, Some, None, is_some, IfSome}
 use Rattle.std.specs.Borrow.{GName}
@@ -8,22 +8,22 @@ use Rattle.std.proofs.lemmas.Bool.{cases_eq, eq-eqb, ne_eqb, eqb-true, eqb-false
 use Rattle.bitvec_ptr.specs.Place.{words_met, tail_of}
 use Rattle.bitvec_ptr.proofs.PlaceLemmas.{words_met-none, words_met-some, tail_of-some}
 use Rattle.bitvec_domain.specs.Span.{Span}
-use Rattle.bitvec_domain.specs.Domain.{part_head, part_tail}
-use Rattle.bitvec_domain.specs.Edit.{Slot, slot_at}
-use Rattle.bitvec_domain.specs.WordsMut.{Stretch, slot_stretch_if, whole_stretch}
-use Rattle.bitvec_domain.specs.Written.{IsWritten, RunIsWritten, body_place, tail_place}
+use Rattle.bitvec_domain.specs.Parts.{part_head, part_tail}
+use Rattle.bitvec_domain.specs.Slot.{Slot, slot_at}
+use Rattle.bitvec_domain.specs.Stretch.{Stretch, slot_stretch_if, whole_stretch}
+use Rattle.bitvec_domain.specs.Written.{IsWritten, StretchIsWritten, body_place, tail_place}
 use Rattle.bitvec_domain.specs.Lending.{name_of}
 use Rattle.bitvec_domain.specs.Pieces.{names_of}
-use Rattle.bitvec_domain.specs.BitLoans.{names_if, places_of}
-use Rattle.bitvec_domain.specs.BitLoansView.{run_names, run_places, run_words}
+use Rattle.bitvec_domain.specs.BitLoans.{names_if, stretches_of}
+use Rattle.bitvec_domain.specs.BitDomainMut.{bit_loan_names, bit_loan_stretches, bit_loan_words}
 use Rattle.bitvec_domain.specs.declared.lend.Pieces.{Pieces}
-use Rattle.bitvec_domain.specs.declared.domain.bits_lent.BitDomainMut.{BitDomainMut}
-use Rattle.bitvec_domain.specs.declared.domain.bits_lent.BitDomainMut.TheVariants.{Enclave, Region}
+use Rattle.bitvec_domain.specs.declared.domain.bit_domain_mut.BitDomainMut.{BitDomainMut}
+use Rattle.bitvec_domain.specs.declared.domain.bit_domain_mut.BitDomainMut.TheVariants.{Enclave, Region}
 use Rattle.bitvec_domain.specs.Loans.{is_inside, has_head, has_tail, words_before, body_words, slots_of, lists_of}
 use Rattle.bitvec_domain.proofs.LoanEnds.{last_of}
 use Rattle.bitvec_domain.proofs.LoanLemmas.{rows, inside, heads, tails, loans-within, inside-alone, inside-none}
-use Rattle.bitvec_domain.proofs.RunLemmas.{is_some-if}
-use Rattle.bitvec_domain.proofs.WrittenLemmas.{Agrees, agree-none, agree-run, written-none, placed-piece, placed-join, placed-whole}
+use Rattle.bitvec_domain.proofs.StretchLemmas.{is_some-if}
+use Rattle.bitvec_domain.proofs.WrittenLemmas.{Agrees, agree-none, agree-stretch, written-none, placed-piece, placed-join, placed-whole}
 
 module _ (bits : ℕ) (span : Span) (in_head : span.head < bits) where
   abbrev first : ℕ
@@ -38,7 +38,7 @@ module _ (bits : ℕ) (span : Span) (in_head : span.head < bits) where
   abbrev one : Bool → ℕ
   one b = if b then 1 else 0
 
-  -- the three runs write what is to be written in the span
+  -- the three stretches write what is to be written in the span
   abbrev AllAgree : Bool → Bool → ℕ → Type 0
   AllAgree hd tl n =
       let s0 = slot_stretch_if (if hd then Some (slot_at bits span 0 first) else None) in
@@ -94,7 +94,7 @@ module _ (bits : ℕ) (span : Span) (in_head : span.head < bits) where
       let body : (met - 0 - 0) * bits ≡ (q + 1) * bits = ap (λ n. n * bits) (let same : met - 0 - 0 ≡ q + 1 = omega (arith, k.0) in same) in (
         agree-none _ _ _ _ _ _ _ refl (λ p s a c. omega (arith, zero, s, a)),
         (
-          agree-run _ _ _ _ _ _ _ (omega (arith, zero)) (omega (arith, k, zero, full, body)) (λ p a. omega (arith, a)) (λ p s a. omega (arith, s)),
+          agree-stretch _ _ _ _ _ _ _ (omega (arith, zero)) (omega (arith, k, zero, full, body)) (λ p a. omega (arith, a)) (λ p s a. omega (arith, s)),
           λ size. agree-none _ _ _ _ _ _ _ refl (λ p s a c. omega (arith, k, zero, full, body, c)),
         ),
       ))
@@ -103,9 +103,9 @@ module _ (bits : ℕ) (span : Span) (in_head : span.head < bits) where
       let full = eqb-true _ bits f in
       let pt = full_tail 0 f in
       let body : (met - 1 - 0) * bits ≡ q * bits = ap (λ n. n * bits) (let same : met - 1 - 0 ≡ q = omega (arith, k.0) in same) in (
-        agree-run _ _ _ _ _ _ _ (omega arith) (omega (arith, k, full, pt, in_head)) (λ p a. omega (arith, a)) (λ p s a. omega (arith, pt, in_head, s)),
+        agree-stretch _ _ _ _ _ _ _ (omega arith) (omega (arith, k, full, pt, in_head)) (λ p a. omega (arith, a)) (λ p s a. omega (arith, pt, in_head, s)),
         (
-          agree-run _ _ _ _ _ _ _ (omega (arith, pt, in_head)) (omega (arith, k, full, body)) (λ p a. omega (arith, a)) (λ p s a. omega (arith, s)),
+          agree-stretch _ _ _ _ _ _ _ (omega (arith, pt, in_head)) (omega (arith, k, full, body)) (λ p a. omega (arith, a)) (λ p s a. omega (arith, s)),
           λ size. agree-none _ _ _ _ _ _ _ refl (λ p s a c. omega (arith, k, full, body, c)),
         ),
       ))
@@ -117,8 +117,8 @@ module _ (bits : ℕ) (span : Span) (in_head : span.head < bits) where
       let body : (met - 0 - 1) * bits ≡ q * bits = ap (λ n. n * bits) (let same : met - 0 - 1 ≡ q = omega (arith, k.0) in same) in (
         agree-none _ _ _ _ _ _ _ refl (λ p s a c. omega (arith, zero, s, a)),
         (
-          agree-run _ _ _ _ _ _ _ (omega (arith, zero)) (omega (arith, k, zero, body)) (λ p a. omega (arith, a)) (λ p s a. omega (arith, s)),
-          λ size. agree-run _ _ _ _ _ _ _ (omega (arith, zero, ph)) (omega (arith, k, zero, ph, pt, body)) (λ p a. omega (arith, ph)) (λ p s a. omega (arith, k, zero, ph, pt, body, a)),
+          agree-stretch _ _ _ _ _ _ _ (omega (arith, zero)) (omega (arith, k, zero, body)) (λ p a. omega (arith, a)) (λ p s a. omega (arith, s)),
+          λ size. agree-stretch _ _ _ _ _ _ _ (omega (arith, zero, ph)) (omega (arith, k, zero, ph, pt, body)) (λ p a. omega (arith, ph)) (λ p s a. omega (arith, k, zero, ph, pt, body, a)),
         ),
       ))
       (λ e o b f.
@@ -127,7 +127,7 @@ module _ (bits : ℕ) (span : Span) (in_head : span.head < bits) where
       let pt = last_tail 0 (omega (arith, single)) in
       let low : q * bits ≡ 0 * bits = ap (λ n. n * bits) (let same : q ≡ 0 = omega (arith, k.0, single) in same) in
       let body : (met - 1 - 0) * bits ≡ 0 * bits = ap (λ n. n * bits) (let same : met - 1 - 0 ≡ 0 = omega (arith, single) in same) in (
-        agree-run _ _ _ _ _ _ _ (omega arith) (omega (arith, k, pt, low)) (λ p a. omega (arith, a)) (λ p s a. omega (arith, k, pt, low, a)),
+        agree-stretch _ _ _ _ _ _ _ (omega arith) (omega (arith, k, pt, low)) (λ p a. omega (arith, a)) (λ p s a. omega (arith, k, pt, low, a)),
         (
           agree-none _ _ _ _ _ _ _ (omega (arith, body)) (λ p s a c. omega (arith, body, s)),
           λ size. agree-none _ _ _ _ _ _ _ refl (λ p s a c. omega (arith, k, low, body, in_head, c)),
@@ -141,10 +141,10 @@ module _ (bits : ℕ) (span : Span) (in_head : span.head < bits) where
       let ph = later_head (met - 1) (omega (arith, more)) in
       let pt = last_tail (met - 1) (omega (arith, k.0)) in
       let body : (met - 1 - 1 + 1) * bits ≡ q * bits = ap (λ n. n * bits) (let same : met - 1 - 1 + 1 ≡ q = omega (arith, k.0, more) in same) in (
-        agree-run _ _ _ _ _ _ _ (omega arith) (omega (arith, k, pt0, in_head, body)) (λ p a. omega (arith, a)) (λ p s a. omega (arith, pt0, in_head, s)),
+        agree-stretch _ _ _ _ _ _ _ (omega arith) (omega (arith, k, pt0, in_head, body)) (λ p a. omega (arith, a)) (λ p s a. omega (arith, pt0, in_head, s)),
         (
-          agree-run _ _ _ _ _ _ _ (omega (arith, pt0, in_head)) (omega (arith, k, body)) (λ p a. omega (arith, a)) (λ p s a. omega (arith, s)),
-          λ size. agree-run _ _ _ _ _ _ _ (omega (arith, ph, pt0, in_head)) (omega (arith, k, ph, pt, body)) (λ p a. omega (arith, ph)) (λ p s a. omega (arith, k, ph, pt, body, a)),
+          agree-stretch _ _ _ _ _ _ _ (omega (arith, pt0, in_head)) (omega (arith, k, body)) (λ p a. omega (arith, a)) (λ p s a. omega (arith, s)),
+          λ size. agree-stretch _ _ _ _ _ _ _ (omega (arith, ph, pt0, in_head)) (omega (arith, k, ph, pt, body)) (λ p a. omega (arith, ph)) (λ p s a. omega (arith, k, ph, pt, body, a)),
         ),
       ))
       refl refl
@@ -156,14 +156,14 @@ tail-outside bits span =
     (λ e b f o. tails e b f o ≡ true → not (inside e b f o) ≡ true)
     (λ e t. refl) (λ e t. refl) (λ e t. refl) (λ e t. refl) (λ e o t. absurd cc) (λ e o t. refl)
 
--- how many bits the runs have
+-- how many bits the stretches have
 abbrev total : (bits : ℕ) → Span → Bool → Bool → Bool → ℕ → ℕ
 total bits span hd ins tl n =
-    let p = places_of bits ((if hd then Some (slot_at bits span 0 (nat_abs span.word)) else None), not ins, (if tl then Some (slot_at bits span (words_met bits span.head span.len - 1) 0) else None)) n in
+    let p = stretches_of bits ((if hd then Some (slot_at bits span 0 (nat_abs span.word)) else None), not ins, (if tl then Some (slot_at bits span (words_met bits span.head span.len - 1) 0) else None)) n in
     p.0.len + ((body_place p).len + (tail_place p).len)
 
--- the runs have as many bits as the span
-pub total-len : (bits : ℕ) (span : Span) (in_head : span.head < bits) → (p : Stretch × Option (Stretch × Stretch)) → p ≡ places_of bits (slots_of bits span) (body_words bits span) → p.0.len + ((body_place p).len + (tail_place p).len) ≡ span.len
+-- the stretches have as many bits as the span
+pub total-len : (bits : ℕ) (span : Span) (in_head : span.head < bits) → (p : Stretch × Option (Stretch × Stretch)) → p ≡ stretches_of bits (slots_of bits span) (body_words bits span) → p.0.len + ((body_place p).len + (tail_place p).len) ≡ span.len
 total-len bits span in_head p is =
     ap (λ (p : Stretch × Option (Stretch × Stretch)). p.0.len + ((body_place p).len + (tail_place p).len)) is
     ∙ rows (span.len == 0) (span.head == 0) (tail_of bits span.head span.len == bits) (words_met bits span.head span.len == 1)
@@ -220,20 +220,20 @@ named hd tl true (name, Some others) e k = differ e
 named hd tl false (name, None) e k = differ (sym e)
 named hd tl false (name, Some (body, last)) e k = (is_some-if hd name, (refl, is_some-if tl last))
 
-named-runs : {R O : Type 0} {a b c d e f g : _} (domain : BitDomainMut R O a b c d e f g) → is_some (run_names domain).1 ≡ is_some (run_places domain).1
-named-runs (Enclave run) = refl
-named-runs (Region head body tail) = refl
+named-stretches : {R O : Type 0} {a b c d e f g : _} (domain : BitDomainMut R O a b c d e f g) → is_some (bit_loan_names domain).1 ≡ is_some (bit_loan_stretches domain).1
+named-stretches (Enclave stretch) = refl
+named-stretches (Region head body tail) = refl
 
-some-places : (bits : ℕ) (head tail : Option Slot) (inside : Bool) (n : ℕ) → is_some (places_of bits (head, not inside, tail) n).1 ≡ not inside
+some-places : (bits : ℕ) (head tail : Option Slot) (inside : Bool) (n : ℕ) → is_some (stretches_of bits (head, not inside, tail) n).1 ≡ not inside
 some-places bits head tail true n = refl
 some-places bits head tail false n = refl
 
-first-place : (bits : ℕ) (head tail : Option Slot) (inside : Bool) (n : ℕ) → (places_of bits (head, not inside, tail) n).0 ≡ slot_stretch_if head
+first-place : (bits : ℕ) (head tail : Option Slot) (inside : Bool) (n : ℕ) → (stretches_of bits (head, not inside, tail) n).0 ≡ slot_stretch_if head
 first-place bits head tail true n = refl
 first-place bits head tail false n = refl
 
 other-places : (bits : ℕ) (head tail : Option Slot) (inside : Bool) (n : ℕ) → not inside ≡ true
-    → (body_place (places_of bits (head, not inside, tail) n) ≡ whole_stretch bits n) × (tail_place (places_of bits (head, not inside, tail) n) ≡ slot_stretch_if tail)
+    → (body_place (stretches_of bits (head, not inside, tail) n) ≡ whole_stretch bits n) × (tail_place (stretches_of bits (head, not inside, tail) n) ≡ slot_stretch_if tail)
 other-places bits head tail true n e = differ (sym e)
 other-places bits head tail false n e = (refl, refl)
 
@@ -247,23 +247,23 @@ no_slot false slot e = refl
 
 module _ {R : Type 0} (number : R → ℕ) (bits : ℕ) (at : ℕ → ℕ) (xs : List Bool) where
   -- the last words of a loan, if there was one
-  piece-written : (F : Option (MutBor (List R))) (b : Bool) (from from' : ℕ) (run run' : Stretch) (l v : List R) → is_some (name_of F) ≡ b → (b ≡ true → from ≡ from') → (b ≡ true → run ≡ run') → (b ≡ false → run'.len ≡ 0) → l ≡ (if b then v else [])
-      → IfSome F (λ (r : MutBor (List R)). RunIsWritten bits at xs from run (map number l) (map number r.now)) → RunIsWritten bits at xs from' run' (map number v) (map number (last_of F v))
-  piece-written (Some r) true from from' run run' l v is begins lies none listed put =
-      let a : RunIsWritten bits at xs from' run (map number l) (map number r.now) = subst (λ (f : ℕ). RunIsWritten bits at xs f run (map number l) (map number r.now)) (begins refl) put in
-      let c : RunIsWritten bits at xs from' run' (map number l) (map number r.now) = subst (λ (s : Stretch). RunIsWritten bits at xs from' s (map number l) (map number r.now)) (lies refl) a in
-      subst (λ (w : List R). RunIsWritten bits at xs from' run' (map number w) (map number r.now)) listed c
-  piece-written (Some r) false from from' run run' l v is begins lies none listed put = differ is
-  piece-written None true from from' run run' l v is begins lies none listed put = differ (sym is)
-  piece-written None false from from' run run' l v is begins lies none listed put =
-      subst (λ (n : ℕ). IsWritten bits at xs from' (run'.first * bits + run'.head) n (map number v) (map number v)) (sym (none refl)) (written-none bits at xs from' (run'.first * bits + run'.head) (map number v))
+  piece-written : (F : Option (MutBor (List R))) (b : Bool) (from from' : ℕ) (stretch stretch' : Stretch) (l v : List R) → is_some (name_of F) ≡ b → (b ≡ true → from ≡ from') → (b ≡ true → stretch ≡ stretch') → (b ≡ false → stretch'.len ≡ 0) → l ≡ (if b then v else [])
+      → IfSome F (λ (r : MutBor (List R)). StretchIsWritten bits at xs from stretch (map number l) (map number r.now)) → StretchIsWritten bits at xs from' stretch' (map number v) (map number (last_of F v))
+  piece-written (Some r) true from from' stretch stretch' l v is begins lies none listed put =
+      let a : StretchIsWritten bits at xs from' stretch (map number l) (map number r.now) = subst (λ (f : ℕ). StretchIsWritten bits at xs f stretch (map number l) (map number r.now)) (begins refl) put in
+      let c : StretchIsWritten bits at xs from' stretch' (map number l) (map number r.now) = subst (λ (s : Stretch). StretchIsWritten bits at xs from' s (map number l) (map number r.now)) (lies refl) a in
+      subst (λ (w : List R). StretchIsWritten bits at xs from' stretch' (map number w) (map number r.now)) listed c
+  piece-written (Some r) false from from' stretch stretch' l v is begins lies none listed put = differ is
+  piece-written None true from from' stretch stretch' l v is begins lies none listed put = differ (sym is)
+  piece-written None false from from' stretch stretch' l v is begins lies none listed put =
+      subst (λ (n : ℕ). IsWritten bits at xs from' (stretch'.first * bits + stretch'.head) n (map number v) (map number v)) (sym (none refl)) (written-none bits at xs from' (stretch'.first * bits + stretch'.head) (map number v))
 
   -- the loans' last words, one behind the other
   pub written-loans : {O : Type 0} {a b c d e f g : _} (span : Span) (memory : List R) → span.head < bits → nat_abs span.word + words_met bits span.head span.len ≤ length memory → (domain : BitDomainMut R O a b c d e f g) (pieces : Pieces R)
-      → run_places domain ≡ places_of bits (slots_of bits span) (body_words bits span) → run_words domain ≡ lists_of bits span memory → names_of pieces ≡ names_if (has_head span) (has_tail bits span) (run_names domain)
-      → IfSome pieces.front (λ (r : MutBor (List R)). RunIsWritten bits at xs 0 (run_places domain).0 (map number (run_words domain).0) (map number r.now))
-      → IfSome pieces.body (λ (r : MutBor (List R)). RunIsWritten bits at xs (run_places domain).0.len (body_place (run_places domain)) (map number (run_words domain).1) (map number r.now))
-      → IfSome pieces.back (λ (r : MutBor (List R)). RunIsWritten bits at xs ((run_places domain).0.len + (body_place (run_places domain)).len) (tail_place (run_places domain)) (map number (run_words domain).2) (map number r.now))
+      → bit_loan_stretches domain ≡ stretches_of bits (slots_of bits span) (body_words bits span) → bit_loan_words domain ≡ lists_of bits span memory → names_of pieces ≡ names_if (has_head span) (has_tail bits span) (bit_loan_names domain)
+      → IfSome pieces.front (λ (r : MutBor (List R)). StretchIsWritten bits at xs 0 (bit_loan_stretches domain).0 (map number (bit_loan_words domain).0) (map number r.now))
+      → IfSome pieces.body (λ (r : MutBor (List R)). StretchIsWritten bits at xs (bit_loan_stretches domain).0.len (body_place (bit_loan_stretches domain)) (map number (bit_loan_words domain).1) (map number r.now))
+      → IfSome pieces.back (λ (r : MutBor (List R)). StretchIsWritten bits at xs ((bit_loan_stretches domain).0.len + (body_place (bit_loan_stretches domain)).len) (tail_place (bit_loan_stretches domain)) (map number (bit_loan_words domain).2) (map number r.now))
       → IsWritten bits at xs 0 (nat_abs span.word * bits + span.head) span.len (map number memory)
       (map number (last_of pieces.front (take (words_before span) memory) ++ (last_of pieces.body (take (body_words bits span) (drop (words_before span) memory)) ++ last_of pieces.back (drop (body_words bits span) (drop (words_before span) memory)))))
   written-loans span memory in_head fits domain pieces places words names front body back =
@@ -293,16 +293,16 @@ module _ {R : Type 0} (number : R → ℕ) (bits : ℕ) (at : ℕ → ℕ) (xs :
       let long1 : length (map number v1) ≡ n = length-map v1 number ∙ length-take-le n (drop i memory) (omega (arith, within, fits, rest)) in
       let size0 : length (map number v0) * bits ≡ i * bits = ap (λ m. m * bits) long0 in
       let size1 : length (map number v1) * bits ≡ n * bits = ap (λ m. m * bits) long1 in
-      let there = named hd tl inside (run_names domain) (named-runs domain ∙ ap (λ (p : Stretch × Option (Stretch × Stretch)). is_some p.1) places ∙ some-places bits head tail inside n) (inside-alone bits span) in
-      let place0 : (run_places domain).0 ≡ s0 = ap (λ (p : Stretch × Option (Stretch × Stretch)). p.0) places ∙ first-place bits head tail inside n in
+      let there = named hd tl inside (bit_loan_names domain) (named-stretches domain ∙ ap (λ (p : Stretch × Option (Stretch × Stretch)). is_some p.1) places ∙ some-places bits head tail inside n) (inside-alone bits span) in
+      let place0 : (bit_loan_stretches domain).0 ≡ s0 = ap (λ (p : Stretch × Option (Stretch × Stretch)). p.0) places ∙ first-place bits head tail inside n in
       let others = other-places bits head tail inside n in
-      let place1 : not inside ≡ true → body_place (run_places domain) ≡ s1 = λ e. ap body_place places ∙ (others e).0 in
+      let place1 : not inside ≡ true → body_place (bit_loan_stretches domain) ≡ s1 = λ e. ap body_place places ∙ (others e).0 in
       let outside : tl ≡ true → not inside ≡ true = tail-outside bits span in
-      let place2 : tl ≡ true → tail_place (run_places domain) ≡ s2 = λ e. ap tail_place places ∙ (others (outside e)).1 in
-      let len0 : (run_places domain).0.len ≡ s0.len = ap (λ (s : Stretch). s.len) place0 in
-      let w0 = piece-written pieces.front hd 0 0 (run_places domain).0 s0 (run_words domain).0 v0 (ap (λ (m : Option GName × Option GName × Option GName). is_some m.0) names ∙ there.0) (λ e. refl) (λ e. place0) (no_slot hd slot0) (λ k. (words k).0) front in
-      let w1 = piece-written pieces.body (not inside) (run_places domain).0.len s0.len (body_place (run_places domain)) s1 (run_words domain).1 v1 (ap (λ (m : Option GName × Option GName × Option GName). is_some m.1) names ∙ there.1.0) (λ e. len0) place1 (λ e. ap (λ m. m * bits) (inside-none bits span (not-false inside e)) ∙ omega arith) ((λ k. (words k).1) ∙ unless-if inside v1) body in
-      let w2 = piece-written pieces.back tl ((run_places domain).0.len + (body_place (run_places domain)).len) (s0.len + n * bits) (tail_place (run_places domain)) s2 (run_words domain).2 v2 (ap (λ (m : Option GName × Option GName × Option GName). is_some m.2) names ∙ there.1.1) (λ e. (λ k. len0 k + (place1 (outside e) k).len)) place2 (no_slot tl slot2) (λ k. (words k).2) back in
+      let place2 : tl ≡ true → tail_place (bit_loan_stretches domain) ≡ s2 = λ e. ap tail_place places ∙ (others (outside e)).1 in
+      let len0 : (bit_loan_stretches domain).0.len ≡ s0.len = ap (λ (s : Stretch). s.len) place0 in
+      let w0 = piece-written pieces.front hd 0 0 (bit_loan_stretches domain).0 s0 (bit_loan_words domain).0 v0 (ap (λ (m : Option GName × Option GName × Option GName). is_some m.0) names ∙ there.0) (λ e. refl) (λ e. place0) (no_slot hd slot0) (λ k. (words k).0) front in
+      let w1 = piece-written pieces.body (not inside) (bit_loan_stretches domain).0.len s0.len (body_place (bit_loan_stretches domain)) s1 (bit_loan_words domain).1 v1 (ap (λ (m : Option GName × Option GName × Option GName). is_some m.1) names ∙ there.1.0) (λ e. len0) place1 (λ e. ap (λ m. m * bits) (inside-none bits span (not-false inside e)) ∙ omega arith) ((λ k. (words k).1) ∙ unless-if inside v1) body in
+      let w2 = piece-written pieces.back tl ((bit_loan_stretches domain).0.len + (body_place (bit_loan_stretches domain)).len) (s0.len + n * bits) (tail_place (bit_loan_stretches domain)) s2 (bit_loan_words domain).2 v2 (ap (λ (m : Option GName × Option GName × Option GName). is_some m.2) names ∙ there.1.1) (λ e. (λ k. len0 k + (place1 (outside e) k).len)) place2 (no_slot tl slot2) (λ k. (words k).2) back in
       let agree = all-agree bits span in_head in
       let p0 = placed-piece bits at xs start span.len 0 0 (s0.first * bits + s0.head) s0.len (map number v0) (map number c0) w0 (subst (λ (m : ℕ). Agrees start span.len 0 m 0 (s0.first * bits + s0.head) s0.len) (sym size0) agree.0) in
       let p1 = placed-piece bits at xs start span.len (0 + length (map number v0) * bits) s0.len (0 * bits + 0) (n * bits) (map number v1) (map number c1) w1

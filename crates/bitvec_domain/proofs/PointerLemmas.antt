@@ -5,7 +5,7 @@ use Rattle.std.proofs.lemmas.Int.{ints}
 use Rattle.std.proofs.lemmas.Nat.{mul-le, div-add-mod', div-mul-add, mod_below}
 use Rattle.std.proofs.lemmas.Bool.{cases_eq, cases_lt}
 use Rattle.bitvec_ptr.specs.Place.{Ptr, place_at, place_of, index_of, words_met}
-use Rattle.bitvec_ptr.specs.Steps.{IsIn, RunsIn}
+use Rattle.bitvec_ptr.specs.Steps.{IsIn, RangeIsIn}
 use Rattle.bitvec_ptr.proofs.MemoryLemmas.{place_parts}
 use Rattle.bitvec_ptr.proofs.PlaceLemmas.{words_met-none, words_met-some}
 use Rattle.bitvec_ptr.proofs.PlaceOrder.{place_same}
@@ -56,9 +56,9 @@ module _ (bits : ℕ) (span : Span) (words : ℕ) (in_head : span.head < bits) (
       let step = step_place span.word (pos ((span.head + i) / bits)) (pos i) (pos (span.head + i)) span.head _ bits some refl refl refl in
       subst (λ (p : Ptr). IsIn p words) (sym (place_same bits ptr (pointer_at bits span i) small (mod_below (span.head + i) bits some) (place ∙ sym step))) (in-pointer_at i h)
 
-  -- so is a run of its bits
-  pub runs-pointer_at : (i count : ℕ) → i + count ≤ span.len → RunsIn bits (pointer_at bits span i) words count
-  runs-pointer_at i count h =
+  -- so is a stretch of its bits
+  pub range-pointer_at : (i count : ℕ) → i + count ≤ span.len → RangeIsIn bits (pointer_at bits span i) words count
+  range-pointer_at i count h =
       let some : 0 < bits = omega arith in
       let word = word_from span.word ((span.head + i) / bits) fits.0 in
       let parts = div-add-mod' (span.head + i) bits in (

@@ -10,13 +10,13 @@ use Rattle.bitvec_ptr.specs.Memory.{tabulate, bit_of, memory_bits}
 use Rattle.bitvec_ptr.specs.Place.{words_met}
 use Rattle.bitvec_ptr.proofs.MemoryLemmas.{length-tabulate, get_or-tabulate}
 use Rattle.bitvec_ptr.proofs.PlaceLemmas.{words_met-none, words_met-some}
-use Rattle.bitvec_domain.specs.Words.{WordBits, bits_list}
+use Rattle.bitvec_domain.specs.BitParts.{WordBits, bits_list}
 
 -- an element of a table
 pub slice_get-tabulate : {A : Type 0} (n : ℕ) (f : ℕ → A) (j : ℕ) → j < n → slice_get (tabulate n f) j ≡ Some (f j)
 slice_get-tabulate n f j h = slice_get-get_or (tabulate n f) j (f j) (omega (arith, h, length-tabulate n f)) ∙ ap Some (get_or-tabulate n f j (f j) h)
 
--- a bit of a run lies in the words that the run meets
+-- a bit of a stretch lies in the words that the stretch meets
 pub met_within : (bits head len i n : ℕ) → 0 < bits → i < len → words_met bits head len ≤ n → head + i < n * bits
 met_within bits head len i n some h fits =
     let met = words_met-some bits head len (omega arith) in
@@ -25,7 +25,7 @@ met_within bits head len i n some h fits =
     let scaled : ((head + len - 1) / bits + 1) * bits ≤ n * bits = mul-le-mul_right bits (omega arith) in
     omega (arith, parts, rest, scaled)
 
--- a bit of the run as a bit of the memory
+-- a bit of the stretch as a bit of the memory
 pub read_known : (bits : ℕ) (at : ℕ → ℕ) (b : WordBits) (i place : ℕ) (r : Bool) → 0 < bits → i < b.len → words_met bits b.head b.len ≤ length b.words → place ≡ b.head + i → slice_get (memory_bits bits at b.words) place ≡ Some r
     → slice_get (bits_list bits at b) i ≡ Some r
 read_known bits at b i place r some h fits e read =

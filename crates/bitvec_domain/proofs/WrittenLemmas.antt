@@ -1,4 +1,4 @@
--- Bits of a memory written from a list, run by run.
+-- Bits of a memory written from a list, stretch by stretch.
 use Rattle.std.proofs.Common.{◌≡◌, ℕ, ◌+◌, ◌-◌, ◌*◌, ◌/◌, ◌%◌, ◌<◌, ◌≤◌, Bool, true, false, ◌&&◌, if◌then◌else◌, nat_le, nat_lt, List, ◌++◌, length, map, refl, sym, ap, ◌∙◌, subst, arith, inl, inr}
 use Rattle.std.specs.Prelude.{nat_abs, pos, slice_index, slice_set}
 use Rattle.std.proofs.lemmas.List.{length-append, length-map, get_or_past, get_or_append_left, get_or-append-add, get_or-set_same, get_or-set_other}
@@ -11,7 +11,7 @@ use Rattle.bitvec_ptr.specs.Place.{words_met}
 use Rattle.bitvec_ptr.proofs.MemoryLemmas.{place_parts, tabulate-from_elements}
 use Rattle.bitvec_ptr.proofs.BitLemmas.{length-memory_bits, get_or-memory_bits}
 use Rattle.bitvec_domain.specs.Span.{Span, Covers, Fits, list_of, element}
-use Rattle.bitvec_domain.specs.WordsMut.{Stretch}
+use Rattle.bitvec_domain.specs.Stretch.{Stretch}
 use Rattle.bitvec_domain.specs.Written.{IsWritten}
 use Rattle.bitvec_domain.proofs.CoverLemmas.{covers-own}
 use Rattle.bitvec_domain.proofs.WordsLemmas.{met_within}
@@ -56,7 +56,7 @@ bit_of-behind bits at ws vs p some h =
     ∙ ap (λ w. digit (slice_index (ws ++ vs) w) (at (k % bits))) parts.0
     ∙ ap (λ w. digit w (at (k % bits))) (get_or-append-add ws vs (k / bits) 0)
 
--- the run of a piece of `size` bits, which begins at the place `base` of a memory, writes there what is to be written from
+-- the stretch of a piece of `size` bits, which begins at the place `base` of a memory, writes there what is to be written from
 -- the place `start` on
 abbrev pub Agrees : ℕ → ℕ → ℕ → ℕ → ℕ → ℕ → ℕ → Type 0
 Agrees start len base size from place count =
@@ -69,9 +69,9 @@ pub agree-none : (start len base size from place count : ℕ) → count ≡ 0 �
 agree-none start len base size from place count none out p small = (λ a b. absurd (omega (arith, none, a, b)), λ a b. absurd (out p small a b))
 
 -- a piece with some of it
-pub agree-run : (start len base size from place count : ℕ) → base + place ≡ start + from → base + place + count ≤ start + len → ((p : ℕ) → start ≤ base + p → place ≤ p) → ((p : ℕ) → p < size → base + p < start + len → p < place + count)
+pub agree-stretch : (start len base size from place count : ℕ) → base + place ≡ start + from → base + place + count ≤ start + len → ((p : ℕ) → start ≤ base + p → place ≤ p) → ((p : ℕ) → p < size → base + p < start + len → p < place + count)
     → Agrees start len base size from place count
-agree-run start len base size from place count e upto low high p small = (λ a b. (omega (arith, e, a), (omega (arith, upto, b), omega (arith, e, a))), λ a b. (low p a, high p small b))
+agree-stretch start len base size from place count e upto low high p small = (λ a b. (omega (arith, e, a), (omega (arith, upto, b), omega (arith, e, a))), λ a b. (low p a, high p small b))
 
 module _ (bits : ℕ) (at : ℕ → ℕ) (xs : List Bool) where
   -- nothing is written
@@ -174,14 +174,14 @@ module _ (bits : ℕ) (at : ℕ → ℕ) (xs : List Bool) where
     each = λ p h. w.1 p h ∙ ap (λ n. if nat_le start n && nat_lt n (start + len) then element xs (0 + (n - start)) else bit_of bits at old p) (let same : 0 + p ≡ p = omega arith in same);
   }
 
-  -- one bit more of a run is written
-  pub run-more : (from i : ℕ) (bit : Bool) (run now : Stretch) (old mid new : List ℕ) → now ≡ run → run.first + run.count ≤ length old → run.head + i < run.count * bits → IsWritten bits at xs from (run.first * bits + run.head) i old mid → bit ≡ element xs (from + i)
-      → memory_bits bits at new ≡ slice_set (memory_bits bits at mid) (now.first * bits + (now.head + i)) bit → length new ≡ length mid → IsWritten bits at xs from (run.first * bits + run.head) (i + 1) old new
-  run-more from i bit run now old mid new same room inside done is set words =
-      let whole : (run.first + run.count) * bits ≤ length old * bits = mul-le (run.first + run.count) bits (length old) bits room (omega arith) in
-      written-more from (run.first * bits + run.head) i bit old mid new (omega (arith, whole, inside)) done is
+  -- one bit more of a stretch is written
+  pub stretch-more : (from i : ℕ) (bit : Bool) (stretch now : Stretch) (old mid new : List ℕ) → now ≡ stretch → stretch.first + stretch.count ≤ length old → stretch.head + i < stretch.count * bits → IsWritten bits at xs from (stretch.first * bits + stretch.head) i old mid → bit ≡ element xs (from + i)
+      → memory_bits bits at new ≡ slice_set (memory_bits bits at mid) (now.first * bits + (now.head + i)) bit → length new ≡ length mid → IsWritten bits at xs from (stretch.first * bits + stretch.head) (i + 1) old new
+  stretch-more from i bit stretch now old mid new same room inside done is set words =
+      let whole : (stretch.first + stretch.count) * bits ≤ length old * bits = mul-le (stretch.first + stretch.count) bits (length old) bits room (omega arith) in
+      written-more from (stretch.first * bits + stretch.head) i bit old mid new (omega (arith, whole, inside)) done is
       (set ∙ ap (λ (s : Stretch). slice_set (memory_bits bits at mid) (s.first * bits + (s.head + i)) bit) same
-      ∙ ap (λ n. slice_set (memory_bits bits at mid) n bit) (let same_place : run.first * bits + (run.head + i) ≡ run.first * bits + run.head + i = omega arith in same_place)) words
+      ∙ ap (λ n. slice_set (memory_bits bits at mid) n bit) (let same_place : stretch.first * bits + (stretch.head + i) ≡ stretch.first * bits + stretch.head + i = omega arith in same_place)) words
 
 -- a span whose bits in a memory were written
 module _ {R : Type 0} (number : R → ℕ) (bits : ℕ) (at : ℕ → ℕ) (xs : List Bool) (span : Span) (old new : List R) (in_head : span.head < bits) (fits : Fits bits span (length old))

@@ -2,7 +2,7 @@
 use Rattle.std.specs.Prelude.{ℕ, nat_abs, ◌+◌, ◌-◌, ◌^◌, ◌==◌, ◌&&◌, Bool, not, if◌then◌else◌, List, [], ◌++◌, take, drop, replicate, slice_set, Option, Some, None}
 use Rattle.bitvec_ptr.specs.Place.{words_met, tail_of}
 use Rattle.bitvec_domain.specs.Span.{Span}
-use Rattle.bitvec_domain.specs.Edit.{Slot, slot_at, slot_part, edited_word}
+use Rattle.bitvec_domain.specs.Slot.{Slot, slot_at, slot_part, edited_word}
 
 -- the span has bits of one word alone, with neither its first nor its last
 abbrev pub is_inside : ℕ → Span → Bool

@@ -2,7 +2,7 @@
 use Rattle.std.specs.Prelude.{◌≡◌, ℕ, ◌+◌, ◌-◌, ◌*◌, ◌<◌, ◌&&◌, if◌then◌else◌, Bool, List, Option, Some, None, length, nat_le, nat_lt}
 use Rattle.bitvec_ptr.specs.Memory.{bit_of}
 use Rattle.bitvec_domain.specs.Span.{element}
-use Rattle.bitvec_domain.specs.WordsMut.{Stretch, no_stretch}
+use Rattle.bitvec_domain.specs.Stretch.{Stretch, no_stretch}
 
 -- the `count` bits from a place on are the list's elements from `from` on, every other bit is as before, and there are
 -- as many words
@@ -10,11 +10,11 @@ pub record IsWritten (bits : ℕ) (at : ℕ → ℕ) (xs : List Bool) (from plac
   pub words : length new ≡ length old
   pub each : (p : ℕ) → p < length old * bits → bit_of bits at new p ≡ (if nat_le place p && nat_lt p (place + count) then element xs (from + (p - place)) else bit_of bits at old p)
 
--- the bits of a run are the list's elements from `from` on, and every other bit of its memory is as before
-abbrev pub RunIsWritten : ℕ → (ℕ → ℕ) → List Bool → ℕ → Stretch → List ℕ → List ℕ → Type 0
-RunIsWritten bits at xs from run old new = IsWritten bits at xs from (run.first * bits + run.head) run.len old new
+-- the bits of a stretch are the list's elements from `from` on, and every other bit of its memory is as before
+abbrev pub StretchIsWritten : ℕ → (ℕ → ℕ) → List Bool → ℕ → Stretch → List ℕ → List ℕ → Type 0
+StretchIsWritten bits at xs from stretch old new = IsWritten bits at xs from (stretch.first * bits + stretch.head) stretch.len old new
 
--- where the body's run and the tail's lie, and no bits for one run alone
+-- where the body's stretch and the tail's lie, and no bits for one stretch alone
 abbrev pub body_place : Stretch × Option (Stretch × Stretch) → Stretch
 body_place (first, None) = no_stretch
 body_place (first, Some (body, last)) = body

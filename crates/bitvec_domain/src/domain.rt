@@ -1,10 +1,13 @@
 //! The words and parts of words that a span meets.
 
-ghost use Rattle.std.specs.Prelude.{◌≡◌, ⊤, ℕ, ◌+◌, ◌-◌, ◌<◌, ◌≤◌, ◌^◌, ◌⊎◌, ◌==◌, if◌then◌else◌, true, false, Some, None, MatchOption, nat_abs, length, map, slice_index, slice_range};
+ghost use Rattle.std.specs.Prelude.{◌≡◌, ⊤, ℕ, ◌+◌, ◌-◌, ◌<◌, ◌≤◌, ◌^◌, ◌⊎◌, ◌==◌, if◌then◌else◌};
+ghost use Rattle.std.specs.Prelude.{true, false, Some, None, MatchOption, nat_abs, length, map};
+ghost use Rattle.std.specs.Prelude.{slice_index, slice_range};
 ghost use Rattle.bitvec_order.specs.Order.{IsMaskOf};
 ghost use Rattle.bitvec_ptr.specs.Place.{words_met, tail_of};
 ghost use Rattle.bitvec_domain.specs.Span.{Fits, list_of, word_of, words_of};
-ghost use Rattle.bitvec_domain.specs.Domain.{part_of, parts_of, value_of, items, enclave, region, is_enclave, HasShortBody};
+ghost use Rattle.bitvec_domain.specs.Parts.{part_of, parts_of, value_of, items, enclave, region};
+ghost use Rattle.bitvec_domain.specs.Parts.{is_enclave, HasShortBody};
 
 use crate::ptr::span::BitSpan;
 use bitvec_mem::mem::BitRegister;
@@ -14,19 +17,21 @@ use std::alloc::AllocError;
 use std::iter::FusedIterator;
 use std::marker::PhantomData;
 
-mod bits_lent;
-mod edit;
-mod lent;
+mod bit_domain;
+mod bit_domain_mut;
+mod bit_words;
+mod bit_words_mut;
+mod domain_mut;
+mod partial_element_mut;
 mod text;
-mod words;
-mod words_mut;
 mod written;
 
-pub use self::bits_lent::BitDomainMut;
-pub use self::edit::PartialElementMut;
-pub use self::lent::DomainMut;
-pub use self::words::{BitDomain, BitWords};
-pub use self::words_mut::BitWordsMut;
+pub use self::bit_domain::BitDomain;
+pub use self::bit_domain_mut::BitDomainMut;
+pub use self::bit_words::BitWords;
+pub use self::bit_words_mut::BitWordsMut;
+pub use self::domain_mut::DomainMut;
+pub use self::partial_element_mut::PartialElementMut;
 
 /// Some bits of one word: those with indices from a head to before a tail.
 #[derive_where(Debug)]
@@ -54,13 +59,14 @@ impl<'a, R: BitRegister, O> Clone for PartialElement<'a, R, O> {
 impl<'a, R: BitRegister, O> Copy for PartialElement<'a, R, O> {}
 
 impl<'a, R: BitRegister, O> PartialElement<'a, R, O> {
-    ghost use Rattle.bitvec_domain.specs.DomainView.{element_part};
+    ghost use Rattle.bitvec_domain.specs.Domain.{element_part};
 
     // The bits of a word of a memory with indices from `head` to before `tail`.
     fn of_word(memory: &'a [R], at: usize, head: BitIdx<R>, tail: BitEnd<R>) -> Self
         requires at { at < length memory.now }
         requires ordered { head ≤ tail }
-        ensures { element_part R.number result ≡ record { word = slice_index (map R.number memory.now) at; head = head; tail = tail } }
+        ensures { element_part R.number result
+            ≡ record { word = slice_index (map R.number memory.now) at; head = head; tail = tail } }
     {
         PartialElement {
             elem: &memory[at..at + 1],
@@ -94,11 +100,12 @@ impl<'a, R: BitRegister, O> PartialElement<'a, R, O> {
 }
 
 impl<'a, R: BitRegister, O: BitOrder<R>> PartialElement<'a, R, O> {
-    ghost use Rattle.bitvec_domain.specs.DomainView.{element_part};
+    ghost use Rattle.bitvec_domain.specs.Domain.{element_part};
 
     /// The positions of the bits.
     pub fn mask(&self) -> BitMask<R>
-        ensures { IsMaskOf R.BITS O.at_of (element_part R.number self.now).head (element_part R.number self.now).tail result }
+        ensures { IsMaskOf R.BITS O.at_of (element_part R.number self.now).head
+            (element_part R.number self.now).tail result }
     {
         O::mask(Some(self.head()), Some(self.tail()))
     }
@@ -144,7 +151,7 @@ impl<'a, R: BitRegister, O> Clone for Domain<'a, R, O> {
 impl<'a, R: BitRegister, O> Copy for Domain<'a, R, O> {}
 
 impl<'a, R: BitRegister, O> Domain<'a, R, O> {
-    ghost use Rattle.bitvec_domain.specs.DomainView.{element_part, optional_part, domain_parts};
+    ghost use Rattle.bitvec_domain.specs.Domain.{element_part, optional_part, domain_parts};
 
     /// The part of one word, where the domain is that alone.
     pub fn enclave(self) -> Option<PartialElement<'a, R, O>>
@@ -168,10 +175,10 @@ impl<'a, R: BitRegister, O> Domain<'a, R, O> {
             Option<PartialElement<'a, R, O>>,
         ),
     >
-        ensures { MatchOption result
-            (is_enclave (domain_parts R.number self.entry) ≡ true)
+        ensures { MatchOption result (is_enclave (domain_parts R.number self.entry) ≡ true)
             (λ parts. domain_parts R.number self.entry
-            ≡ region (optional_part R.number parts.0) (map R.number parts.1.now) (optional_part R.number parts.2)) }
+            ≡ region (optional_part R.number parts.0) (map R.number parts.1.now)
+            (optional_part R.number parts.2)) }
     {
         match self {
             Domain::Enclave(_) => None,
@@ -181,7 +188,7 @@ impl<'a, R: BitRegister, O> Domain<'a, R, O> {
 }
 
 impl<'a, R: BitRegister, O: BitOrder<R>> Domain<'a, R, O> {
-    ghost use Rattle.bitvec_domain.specs.DomainView.{domain_parts};
+    ghost use Rattle.bitvec_domain.specs.Domain.{domain_parts};
 
     /// How many items are left: one for each part, and one for each whole word.
     ///
@@ -202,8 +209,8 @@ impl<'a, R: BitRegister, O: BitOrder<R>> Domain<'a, R, O> {
 
 impl<'a, R: BitRegister, O> Default for Domain<'a, R, O> {
     ghost use Rattle.std.specs.Prelude.{[], None, ◌≡◌};
-    ghost use Rattle.bitvec_domain.specs.Domain.{region};
-    ghost use Rattle.bitvec_domain.specs.DomainView.{domain_parts};
+    ghost use Rattle.bitvec_domain.specs.Parts.{region};
+    ghost use Rattle.bitvec_domain.specs.Domain.{domain_parts};
 
     ghost is_default = { λ d. domain_parts R.number d ≡ region None [] None };
 
@@ -218,7 +225,7 @@ impl<'a, R: BitRegister, O> Default for Domain<'a, R, O> {
 
 impl<R: BitRegister, O: BitOrder<R>> BitSpan<R, O> {
     ghost use Rattle.bitvec_domain.specs.BitSpan.{span_of};
-    ghost use Rattle.bitvec_domain.specs.DomainView.{element_part, optional_part, domain_parts};
+    ghost use Rattle.bitvec_domain.specs.Domain.{element_part, optional_part, domain_parts};
 
     /// The part of the `k`-th word that the span meets, counted from 0.
     ///
@@ -227,9 +234,11 @@ impl<R: BitRegister, O: BitOrder<R>> BitSpan<R, O> {
     pub fn part<'a>(self, memory: &'a [R], k: usize) -> PartialElement<'a, R, O>
         requires fits { Fits R.BITS (span_of self) (length memory.now) }
         requires met { k < words_met R.BITS (span_of self).head (span_of self).len }
-        ensures part { element_part R.number result ≡ part_of R.BITS (span_of self) (map R.number memory.now) k }
+        ensures part { element_part R.number result
+            ≡ part_of R.BITS (span_of self) (map R.number memory.now) k }
         ensures word { value_of R.BITS O.at_of (element_part R.number result)
-            ≡ word_of R.BITS O.at_of (span_of self).head (list_of R.BITS O.at_of (span_of self) (map R.number memory.now)) k }
+            ≡ word_of R.BITS O.at_of (span_of self).head
+            (list_of R.BITS O.at_of (span_of self) (map R.number memory.now)) k }
     {
         let at = self.address() as usize + k;
         let head = if k == 0 { self.head() } else { BitIdx::MIN };
@@ -246,7 +255,8 @@ impl<R: BitRegister, O: BitOrder<R>> BitSpan<R, O> {
         requires fits { Fits R.BITS (span_of self) (length memory.now) }
         requires met { 0 < words_met R.BITS (span_of self).head (span_of self).len }
         ensures { optional_part R.number result
-            ≡ (if (span_of self).head == 0 then None else Some (part_of R.BITS (span_of self) (map R.number memory.now) 0)) }
+            ≡ (if (span_of self).head == 0 then None
+            else Some (part_of R.BITS (span_of self) (map R.number memory.now) 0)) }
     {
         if self.head().into_inner() == 0 {
             return None;
@@ -258,9 +268,10 @@ impl<R: BitRegister, O: BitOrder<R>> BitSpan<R, O> {
     fn tail_part<'a>(self, memory: &'a [R]) -> Option<PartialElement<'a, R, O>>
         requires fits { Fits R.BITS (span_of self) (length memory.now) }
         requires met { 0 < words_met R.BITS (span_of self).head (span_of self).len }
-        ensures { let span = span_of self in
-            optional_part R.number result
-            ≡ (if tail_of R.BITS span.head span.len == R.BITS then None else Some (part_of R.BITS span (map R.number memory.now) (words_met R.BITS span.head span.len - 1))) }
+        ensures { let span = span_of self in optional_part R.number result
+            ≡ (if tail_of R.BITS span.head span.len == R.BITS then None
+            else Some (part_of R.BITS span (map R.number memory.now)
+            (words_met R.BITS span.head span.len - 1))) }
     {
         if self.tail().into_inner() == R::BITS {
             return None;
@@ -268,17 +279,17 @@ impl<R: BitRegister, O: BitOrder<R>> BitSpan<R, O> {
         Some(self.part(memory, self.elements() - 1))
     }
 
-    // The whole words, where the span is not within one word with neither its first nor its last bit.
+    // The whole words, where the span is not within one word with neither its first nor its last
+    // bit.
     fn body<'a>(self, memory: &'a [R]) -> &'a [R]
         requires fits { Fits R.BITS (span_of self) (length memory.now) }
         requires met { 0 < words_met R.BITS (span_of self).head (span_of self).len }
-        requires region { let span = span_of self in
-            words_met R.BITS span.head span.len ≡ 1 → (span.head ≡ 0) ⊎ (tail_of R.BITS span.head span.len ≡ R.BITS) }
-        ensures { let span = span_of self in
-            let first = nat_abs span.word in
-            let end = first + words_met R.BITS span.head span.len in
-            map R.number result.now
-            ≡ slice_range (map R.number memory.now) (if span.head == 0 then first else first + 1) (if tail_of R.BITS span.head span.len == R.BITS then end else end - 1) }
+        requires region { let span = span_of self in words_met R.BITS span.head span.len ≡ 1
+            → (span.head ≡ 0) ⊎ (tail_of R.BITS span.head span.len ≡ R.BITS) }
+        ensures { let span = span_of self in let first = nat_abs span.word
+            in let end = first + words_met R.BITS span.head span.len in map R.number result.now
+            ≡ slice_range (map R.number memory.now) (if span.head == 0 then first else first + 1)
+            (if tail_of R.BITS span.head span.len == R.BITS then end else end - 1) }
     {
         let first = self.address() as usize;
         let end = first + self.elements();
@@ -300,9 +311,11 @@ impl<R: BitRegister, O: BitOrder<R>> BitSpan<R, O> {
     /// An empty span has the empty domain; there the Rust crate may answer an enclave.
     pub fn domain<'a>(self, memory: &'a [R]) -> Domain<'a, R, O>
         requires { Fits R.BITS (span_of self) (length memory.now) }
-        ensures parts { domain_parts R.number result ≡ parts_of R.BITS (span_of self) (map R.number memory.now) }
+        ensures parts { domain_parts R.number result
+            ≡ parts_of R.BITS (span_of self) (map R.number memory.now) }
         ensures items { items R.BITS O.at_of (domain_parts R.number result)
-            ≡ words_of R.BITS O.at_of (span_of self).head (list_of R.BITS O.at_of (span_of self) (map R.number memory.now)) }
+            ≡ words_of R.BITS O.at_of (span_of self).head
+            (list_of R.BITS O.at_of (span_of self) (map R.number memory.now)) }
         ensures short { HasShortBody R.BITS (domain_parts R.number result) }
     {
         let elements = self.elements();
@@ -323,8 +336,8 @@ impl<'a, R: BitRegister, O: BitOrder<R>> Iterator for Domain<'a, R, O> {
     type Item = R;
 
     ghost use Rattle.std.specs.Iterator.{YieldsFirstBy, item_count};
-    ghost use Rattle.bitvec_domain.specs.Domain.{items, LeavesAfterFirst};
-    ghost use Rattle.bitvec_domain.specs.DomainView.{domain_parts};
+    ghost use Rattle.bitvec_domain.specs.Parts.{items, LeavesAfterFirst};
+    ghost use Rattle.bitvec_domain.specs.Domain.{domain_parts};
 
     ghost next_gives = { λ d item rest. YieldsFirstBy R.number (λ d. items R.BITS O.at_of (domain_parts R.number d)) d item rest
         × LeavesAfterFirst R.BITS (domain_parts R.number d) (domain_parts R.number rest) };
@@ -379,8 +392,8 @@ impl<'a, R: BitRegister, O: BitOrder<R>> Iterator for Domain<'a, R, O> {
 
 impl<'a, R: BitRegister, O: BitOrder<R>> DoubleEndedIterator for Domain<'a, R, O> {
     ghost use Rattle.std.specs.Iterator.{YieldsLastBy};
-    ghost use Rattle.bitvec_domain.specs.Domain.{items, LeavesBeforeLast};
-    ghost use Rattle.bitvec_domain.specs.DomainView.{domain_parts};
+    ghost use Rattle.bitvec_domain.specs.Parts.{items, LeavesBeforeLast};
+    ghost use Rattle.bitvec_domain.specs.Domain.{domain_parts};
 
     ghost next_back_gives = { λ d item rest. YieldsLastBy R.number (λ d. items R.BITS O.at_of (domain_parts R.number d)) d item rest
         × LeavesBeforeLast R.BITS (domain_parts R.number d) (domain_parts R.number rest) };

@@ -53,9 +53,12 @@ pub(crate) fn pieces_mut<T>(
 ) -> Pieces<'_, T>
     requires { i + n ≤ length s.old }
     ensures* ends { sem 𝓛 (LendsNamed T.row s.entry i n (names_of result)) }
-    ensures front { (is_some result.front ≡ front) × IfSome result.front (λ r. r.now ≡ take i s.old) }
-    ensures body { (is_some result.body ≡ body) × IfSome result.body (λ r. r.now ≡ take n (drop i s.old)) }
-    ensures back { (is_some result.back ≡ back) × IfSome result.back (λ r. r.now ≡ drop n (drop i s.old)) }
+    ensures front { (is_some result.front ≡ front)
+        × IfSome result.front (λ r. r.now ≡ take i s.old) }
+    ensures body { (is_some result.body ≡ body)
+        × IfSome result.body (λ r. r.now ≡ take n (drop i s.old)) }
+    ensures back { (is_some result.back ≡ back)
+        × IfSome result.back (λ r. r.now ≡ drop n (drop i s.old)) }
 {
     let (first, middle, last) = split_three_mut(s, i, n);
     let front = slice_if(first, front);

@@ -2,7 +2,9 @@
 //!
 //! The trait [`BitRegister`] is the only thing that the layers above know of a word.
 
-ghost use Rattle.std.specs.Prelude.{◌≡◌, ⊤, ℕ, List, codes, ◌+◌, ◌-◌, ◌*◌, ◌/◌, ◌%◌, ◌^◌, ◌<◌, ◌≤◌, ◌↔◌, ◌==◌, ◌&&◌, ◌||◌, if◌then◌else◌, not, true, false, IsNone, IfSome, refl};
+ghost use Rattle.std.specs.Prelude.{◌≡◌, ⊤, ℕ, List, codes, ◌+◌, ◌-◌, ◌*◌, ◌/◌, ◌%◌, ◌^◌, ◌<◌, ◌≤◌};
+ghost use Rattle.std.specs.Prelude.{◌↔◌, ◌==◌, ◌&&◌, ◌||◌, if◌then◌else◌, not, true, false, IsNone};
+ghost use Rattle.std.specs.Prelude.{IfSome, refl};
 ghost use Rattle.std.specs.Ordering.{nat_cmp};
 ghost use Rattle.bitvec_mem.specs.Digit.{digit, differ, count_below};
 
@@ -97,7 +99,8 @@ pub trait BitRegister: Copy + Default + Eq + Ord + Hash + Debug {
         ensures moved { (p : ℕ) → n + p < BITS
             → digit (number result) (n + p) ≡ digit (number self) p };
 
-    /// Each digit moved `n` positions down; the highest `n` become zero, and the lowest `n` are lost.
+    /// Each digit moved `n` positions down; the highest `n` become zero, and the lowest `n` are
+    /// lost.
     fn shr(self, n: u8) -> Self
         requires { n < BITS }
         ensures below { number result < 2 ^ BITS }
@@ -212,7 +215,8 @@ mod tests {
         assert_eq!(rt; R::default(), R::ZERO);
     }
 
-    // Its functions, on the digits 1100 and 1010; `past` is the least number that it has no room for.
+    // Its functions, on the digits 1100 and 1010; `past` is the least number that it has no room
+    // for.
     fn has_functions<R: BitRegister>(rt: &impl Abort, past: Option<u128>) -> Result<(), Fail> {
         let a = R::from_u128(12).ok_or("12 is a number of each register")?;
         let b = R::from_u128(10).ok_or("10 is a number of each register")?;

@@ -1,10 +1,12 @@
 //! Indices, ends, positions, selectors and masks of a register's bits.
 //!
-//! An index is a place in an order, from 0 to before the width; an order takes it to a position, the
-//! place of a digit in the number. A selector is the power of two of a position, and a mask is a set
-//! of positions, each as a number of the register.
+//! An index is a place in an order, from 0 to before the width; an order takes it to a position,
+//! the place of a digit in the number. A selector is the power of two of a position, and a mask is
+//! a set of positions, each as a number of the register.
 
-ghost use Rattle.std.specs.Prelude.{⊤, pos, ◌+ℤ◌, ◌≡◌, ℕ, ◌+◌, ◌-◌, ◌*◌, ◌/◌, ◌%◌, ◌^◌, ◌<◌, ◌≤◌, ◌↔◌, ◌||◌, IsOk, IsErr, IsSome, IsNone, IfOk, IfErr, IfSome, IsTrue};
+ghost use Rattle.std.specs.Prelude.{⊤, pos, ◌+ℤ◌, ◌≡◌, ℕ, ◌+◌, ◌-◌, ◌*◌, ◌/◌, ◌%◌, ◌^◌, ◌<◌, ◌≤◌};
+ghost use Rattle.std.specs.Prelude.{◌↔◌, ◌||◌, IsOk, IsErr, IsSome, IsNone, IfOk, IfErr, IfSome};
+ghost use Rattle.std.specs.Prelude.{IsTrue};
 ghost use Rattle.std.specs.Int.{w64, int_wrap, int_div_euclid, int_rem_euclid};
 ghost use Rattle.bitvec_order.specs.Index.{HasOneDigit};
 ghost use Rattle.bitvec_mem.specs.Digit.{digit};
@@ -133,9 +135,9 @@ impl<R: BitRegister> BitIdx<R> {
 
     /// How many registers on the index lies that is `by` bits further, and that index.
     ///
-    /// The sum of this index and `by` wraps at the end of `isize`; the registers are its floor by the
-    /// width, below zero for a step back, and the index is its remainder. The Rust crate keeps it
-    /// private.
+    /// The sum of this index and `by` wraps at the end of `isize`; the registers are its floor by
+    /// the width, below zero for a step back, and the index is its remainder. The Rust crate keeps
+    /// it private.
     pub fn offset(self, by: isize) -> (isize, Self)
         ensures carried { result.0 ≡ int_div_euclid (int_wrap w64 (pos self +ℤ by)) (pos R.BITS) }
         ensures index { pos result.1 ≡ int_rem_euclid (int_wrap w64 (pos self +ℤ by)) (pos R.BITS) }
@@ -200,7 +202,7 @@ impl<R: BitRegister> BitIdxError<R> {
     }
 }
 
-/// The end of a run of indices of a register, from 0 to the width inclusive.
+/// The end of a range of indices of a register, from 0 to the width inclusive.
 #[derive(Clone, Copy, PartialEq, Eq, PartialOrd, Ord, Hash, Default)]
 pub struct BitEnd<R: BitRegister = usize> {
     end: u8,
@@ -530,7 +532,8 @@ impl<R: BitRegister> BitMask<R> {
     /// Adds the selector's position to the mask.
     pub fn insert(&mut self, sel: BitSel<R>)
         ensures below { self.new < 2 ^ R.BITS }
-        ensures digits { (p : ℕ) → p < R.BITS → digit self.new p ≡ (digit self.old p || digit sel p) }
+        ensures digits { (p : ℕ) → p < R.BITS → digit self.new p
+            ≡ (digit self.old p || digit sel p) }
     {
         self.mask = self.mask.or(sel.sel);
     }
@@ -551,7 +554,8 @@ impl<R: BitRegister> BitMask<R> {
     pub fn sum<I: Iterator<Item = BitSel<R>>>(iter: I) -> Self
         requires can { I.can_next iter }
         requires ends { IsFinite (I.remaining iter) }
-        ensures union { WholeRun I.next_gives iter (λ p. HasDigits R.BITS result (is_in_some p.items)) }
+        ensures union { WholeRun I.next_gives iter
+            (λ p. HasDigits R.BITS result (is_in_some p.items)) }
     {
         iter.sum()
     }

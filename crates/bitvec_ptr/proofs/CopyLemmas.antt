@@ -8,7 +8,7 @@ use Rattle.std.proofs.lemmas.List.Edits.{paste_none, length-paste}
 use Rattle.std.proofs.lemmas.Nat.{div-add-mod', mod_below, row_fits}
 use Rattle.std.proofs.lemmas.Option.{slice_get-get_or}
 use Rattle.bitvec_ptr.specs.Place.{words_met}
-use Rattle.bitvec_ptr.specs.Memory.{bit_of, memory_bits, copied}
+use Rattle.bitvec_ptr.specs.Memory.{bit_of, memory_bits, list_with_copy}
 use Rattle.bitvec_ptr.proofs.BitLemmas.{length-memory_bits, get_or-memory_bits, place_within}
 use Rattle.bitvec_ptr.proofs.PlaceLemmas.{words_met-some}
 
@@ -16,10 +16,10 @@ use Rattle.bitvec_ptr.proofs.PlaceLemmas.{words_met-some}
 pub word_within : (w i k n : ℕ) → w * k + i < n * k → w < n
 word_within w i k n h = let p : w * k < n * k = omega arith in lt_of_mul-lt-mul_right k p
 
-pub copied_none : {A : Type 0} (source : List A) (s : ℕ) (target : List A) (t : ℕ) → target ≡ copied source s target t 0
+pub copied_none : {A : Type 0} (source : List A) (s : ℕ) (target : List A) (t : ℕ) → target ≡ list_with_copy source s target t 0
 copied_none source s target t = paste_none target t (drop s source)
 
-pub length-copied : {A : Type 0} (source : List A) (s : ℕ) (target : List A) (t n : ℕ) → t + n ≤ length target → s + n ≤ length source → length (copied source s target t n) ≡ length target
+pub length-copied : {A : Type 0} (source : List A) (s : ℕ) (target : List A) (t n : ℕ) → t + n ≤ length target → s + n ≤ length source → length (list_with_copy source s target t n) ≡ length target
 length-copied source s target t n h k = length-paste target t (drop s source) n h (omega (arith, length-drop s source))
 
 module _ {A : Type 0} (source : List A) (s : ℕ) (target : List A) (t n : ℕ) (h : t + n ≤ length target) (k : s + n ≤ length source) where
@@ -32,13 +32,13 @@ module _ {A : Type 0} (source : List A) (s : ℕ) (target : List A) (t n : ℕ) 
   both_len : length (take t target ++ take n (drop s source)) ≡ t + n
   both_len = omega (arith, length-append (take t target) (take n (drop s source)), first_len, middle_len)
 
-  pub get_or-copied_below : (q : ℕ) (d : A) → q < t → get_or (copied source s target t n) q d ≡ get_or target q d
+  pub get_or-copied_below : (q : ℕ) (d : A) → q < t → get_or (list_with_copy source s target t n) q d ≡ get_or target q d
   get_or-copied_below q d r =
       get_or_append_left (take t target ++ take n (drop s source)) (drop (t + n) target) d q (omega (arith, both_len))
       ∙ get_or_append_left (take t target) (take n (drop s source)) d q (omega (arith, first_len))
       ∙ get_or-take t target q d r
 
-  pub get_or-copied_inside : (q j : ℕ) (d : A) → q ≡ t + j → j < n → get_or (copied source s target t n) q d ≡ get_or source (s + j) d
+  pub get_or-copied_inside : (q j : ℕ) (d : A) → q ≡ t + j → j < n → get_or (list_with_copy source s target t n) q d ≡ get_or source (s + j) d
   get_or-copied_inside q j d e r =
       get_or_append_left (take t target ++ take n (drop s source)) (drop (t + n) target) d q (omega (arith, both_len))
       ∙ get_or-append_right (take t target) (take n (drop s source)) t q d first_len (omega arith)
@@ -46,7 +46,7 @@ module _ {A : Type 0} (source : List A) (s : ℕ) (target : List A) (t n : ℕ) 
       ∙ get_or-take n (drop s source) j d r
       ∙ get_or-drop s source j d
 
-  pub get_or-copied_above : (q : ℕ) (d : A) → t + n ≤ q → get_or (copied source s target t n) q d ≡ get_or target q d
+  pub get_or-copied_above : (q : ℕ) (d : A) → t + n ≤ q → get_or (list_with_copy source s target t n) q d ≡ get_or target q d
   get_or-copied_above q d r =
       get_or-append_right (take t target ++ take n (drop s source)) (drop (t + n) target) (t + n) q d both_len r
       ∙ get_or-drop (t + n) target (q - (t + n)) d
@@ -56,9 +56,9 @@ module _ {A : Type 0} (source : List A) (s : ℕ) (target : List A) (t n : ℕ) 
   pub copied_from_points : (now : List A) → length now ≡ length target
       → ((j : ℕ) (d : A) → j < n → get_or now (t + j) d ≡ get_or source (s + j) d)
       → ((q : ℕ) (d : A) → q < length target → (q < t) ⊎ (t + n ≤ q) → get_or now q d ≡ get_or target q d)
-      → now ≡ copied source s target t n
+      → now ≡ list_with_copy source s target t n
   copied_from_points now e inside outside =
-      same_lists now (copied source s target t n) (e ∙ sym (length-copied source s target t n h k))
+      same_lists now (list_with_copy source s target t n) (e ∙ sym (length-copied source s target t n h k))
       (λ q d r.
       ⊎_elim
       (λ u. outside q d (omega arith) (inl u) ∙ sym (get_or-copied_below q d u))

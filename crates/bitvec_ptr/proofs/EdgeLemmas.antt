@@ -14,7 +14,7 @@ use Rattle.bitvec_order.specs.Order.{IsOneToOne, IsMaskOf}
 use Rattle.bitvec_order.proofs.IndexLemmas.{digit-mask_at}
 use Rattle.bitvec_ptr.specs.declared.ptr.shift.Way.{Way}
 use Rattle.bitvec_ptr.specs.Shifts.{IsFalling, Allows}
-use Rattle.bitvec_ptr.specs.Memory.{bit_of, memory_bits, copied}
+use Rattle.bitvec_ptr.specs.Memory.{bit_of, memory_bits, list_with_copy}
 use Rattle.bitvec_ptr.proofs.BitLemmas.{length-memory_bits, get_or-memory_bits, bit_of-word}
 use Rattle.bitvec_ptr.proofs.CopyLemmas.{copied_from_points}
 
@@ -57,7 +57,7 @@ masked_outside bits at from count mask word with r j law within is h (inr l) e =
 pub part_put : (bits bits2 : ℕ) (at at2 : ℕ → ℕ) (src words : List ℕ) (s word bit count v : ℕ) → 0 < count → bit + count ≤ bits2 → word < length words → s + count ≤ length src * bits
     → ((j : ℕ) → j < count → digit v (at2 (bit + j)) ≡ bit_of bits at src (s + j))
     → ((j : ℕ) → j < bits2 → (j < bit) ⊎ (bit + count ≤ j) → digit v (at2 j) ≡ digit (slice_index words word) (at2 j))
-    → memory_bits bits2 at2 (slice_set words word v) ≡ copied (memory_bits bits at src) s (memory_bits bits2 at2 words) (word * bits2 + bit) count
+    → memory_bits bits2 at2 (slice_set words word v) ≡ list_with_copy (memory_bits bits at src) s (memory_bits bits2 at2 words) (word * bits2 + bit) count
 part_put bits bits2 at at2 src words s word bit count v some end inside has digits others =
     let m = length-memory_bits bits at src in
     let n = length-memory_bits bits2 at2 words in

@@ -9,7 +9,7 @@ use Rattle.std.proofs.lemmas.Nat.{div-add-mod'}
 use Rattle.std.proofs.Math.Nat.{mul-le-mul, mul-le-mul_left}
 use borrow.Author.Differences.{sum_is_lem, product_is}
 use Rattle.bitvec_ptr.specs.Place.{Ptr, place_at, place_of}
-use Rattle.bitvec_ptr.specs.Steps.{wrapped}
+use Rattle.bitvec_ptr.specs.Steps.{wrapped_ptr}
 
 -- the quotient and the remainder make up the number
 pub euclid_parts : (z : ℤ) (k : ℕ) → 0 < k → (int_div_euclid z (pos k) *ℤ pos k) +ℤ int_rem_euclid z (pos k) ≡ z
@@ -40,10 +40,10 @@ ok_if_fits (Ok x) P v h = (λ t. h.0, λ p. search rules)
 
 -- where a wrapping step ends, from its parts
 pub wrapped-from_parts : (bits : ℕ) (ptr : Ptr) (count far words word : ℤ) (next : ℕ) → far ≡ int_wrap w64 (pos ptr.bit +ℤ count) → words ≡ int_div_euclid far (pos bits) → pos next ≡ int_rem_euclid far (pos bits)
-    → word ≡ int_wrap w64 (ptr.word +ℤ words) → record { word = word; bit = next } ≡ wrapped bits ptr count
+    → word ≡ int_wrap w64 (ptr.word +ℤ words) → record { word = word; bit = next } ≡ wrapped_ptr bits ptr count
 wrapped-from_parts bits ptr count far words word next f q r w =
-    let wordly : word ≡ (wrapped bits ptr count).word = w ∙ ap (λ z. int_wrap w64 (ptr.word +ℤ z)) (q ∙ ap (λ z. int_div_euclid z (pos bits)) f) in
-    let bitly : next ≡ (wrapped bits ptr count).bit = ap nat_abs (r ∙ ap (λ z. int_rem_euclid z (pos bits)) f) in
+    let wordly : word ≡ (wrapped_ptr bits ptr count).word = w ∙ ap (λ z. int_wrap w64 (ptr.word +ℤ z)) (q ∙ ap (λ z. int_div_euclid z (pos bits)) f) in
+    let bitly : next ≡ (wrapped_ptr bits ptr count).bit = ap nat_abs (r ∙ ap (λ z. int_rem_euclid z (pos bits)) f) in
     λ i. record { word = wordly i; bit = bitly i }
 
 -- where a step ends, from its parts

@@ -6,7 +6,7 @@ pub mod PtrRange
 pub mod PtrRangeLemmas
 pub mod Shifts
 pub mod Steps
+pub mod WordWriter
 pub mod Writer
-pub mod WriterView
 pub use Rattle.bitvec_mem.specs.Digit
 pub use Rattle.bitvec_order.specs.Order

@@ -17,5 +17,5 @@ abbrev pub memory_bits : ℕ → (ℕ → ℕ) → List ℕ → List Bool
 memory_bits bits at words = tabulate (length words * bits) (bit_of bits at words)
 
 -- the target with its elements t, t + 1, .., `count` of them, replaced by the source's elements s, s + 1, ..
-abbrev pub copied : {A : Type 0} (source : List A) (s : ℕ) (target : List A) (t count : ℕ) → List A
-copied source s target t count = take t target ++ take count (drop s source) ++ drop (t + count) target
+abbrev pub list_with_copy : {A : Type 0} (source : List A) (s : ℕ) (target : List A) (t count : ℕ) → List A
+list_with_copy source s target t count = take t target ++ take count (drop s source) ++ drop (t + count) target

@@ -8,8 +8,8 @@ abbrev pub CanOffset : ℕ → Ptr → ℤ → Type 0
 CanOffset bits ptr count = FitsSigned w64 (pos ptr.bit +ℤ count) × FitsSigned w64 (ptr.word +ℤ int_div_euclid (pos ptr.bit +ℤ count) (pos bits))
 
 -- where a step by `count` bits ends that wraps: the sum of bit and count does, and so does that of the words
-abbrev pub wrapped : ℕ → Ptr → ℤ → Ptr
-wrapped bits ptr count =
+abbrev pub wrapped_ptr : ℕ → Ptr → ℤ → Ptr
+wrapped_ptr bits ptr count =
     let far = int_wrap w64 (pos ptr.bit +ℤ count) in
     record { word = int_wrap w64 (ptr.word +ℤ int_div_euclid far (pos bits)); bit = nat_abs (int_rem_euclid far (pos bits)) }
 
@@ -22,13 +22,13 @@ abbrev pub IsIn : Ptr → ℕ → Type 0
 IsIn ptr words = (pos 0 ≤ℤ ptr.word) × (ptr.word <ℤ pos words)
 
 -- the words that `count` bits from a pointer on meet are among the first `words` of a memory
-abbrev pub RunsIn : ℕ → Ptr → ℕ → ℕ → Type 0
-RunsIn bits ptr words count = (pos 0 ≤ℤ ptr.word) × (nat_abs ptr.word + words_met bits ptr.bit count ≤ words)
+abbrev pub RangeIsIn : ℕ → Ptr → ℕ → ℕ → Type 0
+RangeIsIn bits ptr words count = (pos 0 ≤ℤ ptr.word) × (nat_abs ptr.word + words_met bits ptr.bit count ≤ words)
 
 -- a place is one of the `count` places from a pointer on
-abbrev pub RunCovers : ℕ → Ptr → ℕ → ℤ → Type 0
-RunCovers bits ptr count place = (place_of bits ptr ≤ℤ place) × (place <ℤ (place_of bits ptr +ℤ pos count))
+abbrev pub RangeCovers : ℕ → Ptr → ℕ → ℤ → Type 0
+RangeCovers bits ptr count place = (place_of bits ptr ≤ℤ place) × (place <ℤ (place_of bits ptr +ℤ pos count))
 
 -- the `count` places from one pointer on and those from another have none in common
 abbrev pub AreApart : ℕ → Ptr → Ptr → ℕ → Type 0
-AreApart bits ptr other count = (place : ℤ) → RunCovers bits ptr count place → RunCovers bits other count place → ⊥
+AreApart bits ptr other count = (place : ℤ) → RangeCovers bits ptr count place → RangeCovers bits other count place → ⊥

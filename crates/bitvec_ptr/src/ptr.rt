@@ -1,4 +1,4 @@
-//! Pointers to bits, their ranges, and copies of runs of bits.
+//! Pointers to bits, their ranges, and copies of ranges of bits.
 
 pub mod copy;
 mod counted;

@@ -6,7 +6,9 @@
 
 ghost use Rattle.std.specs.Prelude.{◌≡◌, ⊤, ◌↔◌, ℕ, ◌<◌, ◌≤◌, OnOk, IsOk};
 ghost use Rattle.bitvec_order.specs.Order.{mask_start, mask_end};
-ghost use Rattle.bitvec_verify.specs.Scan.{candidate, IsLawful, is_repeated, masked, index_tests, start_tests, pair_tests, absent_tests, tests, fault_of, first_fault};
+ghost use Rattle.bitvec_verify.specs.Scan.{candidate, IsLawful, is_repeated, masked, index_tests};
+ghost use Rattle.bitvec_verify.specs.Scan.{start_tests, pair_tests, absent_tests, tests, fault_of};
+ghost use Rattle.bitvec_verify.specs.Scan.{first_fault};
 ghost use Rattle.bitvec_verify.specs.Verified.{fault_in, Candidates, Verifies};
 
 use bitvec_mem::mem::BitRegister;
@@ -14,7 +16,8 @@ use bitvec_order::index::{BitEnd, BitIdx, BitMask, BitPos, BitSel};
 use bitvec_order::order::{BitAt, OrderCandidate, plain_mask};
 use std::alloc::AllocError;
 
-/// Where a candidate is not a lawful order of a register: what it gave, and what it should have given.
+/// Where a candidate is not a lawful order of a register: what it gave, and what it should have
+/// given.
 ///
 /// Our own: the Rust crate panics there.
 #[derive(Copy, PartialEq, Eq, Debug)]
@@ -30,8 +33,8 @@ pub enum OrderFault<R: BitRegister> {
         index: BitIdx<R>,
         position: BitPos<R>,
     },
-    /// The mask of `from` to before `upto` is `got`, and `want` has the positions of the indices there;
-    /// a bound that the call left out is `None`.
+    /// The mask of `from` to before `upto` is `got`, and `want` has the positions of the indices
+    /// there; a bound that the call left out is `None`.
     Mask {
         from: Option<BitIdx<R>>,
         upto: Option<BitEnd<R>>,
@@ -189,8 +192,8 @@ fn scan<R: BitRegister, O: OrderCandidate<R>>() -> Result<(), OrderFault<R>>
 /// The scan tests each index in rising order, first its selector and then whether a lower index has
 /// its position; then the mask of each pair of present bounds, starts in rising order and for each
 /// the ends from there to the width; then both bounds absent, an absent end for each start, and an
-/// absent start for each end. The Rust crate panics at a fault, prints on demand and tests no absent
-/// bound.
+/// absent start for each end. The Rust crate panics at a fault, prints on demand and tests no
+/// absent bound.
 pub fn verify_for_type<R: BitRegister, O: OrderCandidate<R>>() -> Result<(), OrderFault<R>>
     ensures lawful { IsOk result ↔ IsLawful (candidate R.BITS O.at_of O.select_of O.mask_of) }
     ensures first { let c = candidate R.BITS O.at_of O.select_of O.mask_of in
@@ -213,12 +216,18 @@ where
         + OrderCandidate<u64>
         + OrderCandidate<u128>,
     ensures { let cs : Candidates = record {
-      at_u8 = candidate 8 ⟦<O as BitAt<u8>>⟧.at_of ⟦<O as OrderCandidate<u8>>⟧.select_of ⟦<O as OrderCandidate<u8>>⟧.mask_of;
-      at_u16 = candidate 16 ⟦<O as BitAt<u16>>⟧.at_of ⟦<O as OrderCandidate<u16>>⟧.select_of ⟦<O as OrderCandidate<u16>>⟧.mask_of;
-      at_u32 = candidate 32 ⟦<O as BitAt<u32>>⟧.at_of ⟦<O as OrderCandidate<u32>>⟧.select_of ⟦<O as OrderCandidate<u32>>⟧.mask_of;
-      at_usize = candidate 64 ⟦<O as BitAt<usize>>⟧.at_of ⟦<O as OrderCandidate<usize>>⟧.select_of ⟦<O as OrderCandidate<usize>>⟧.mask_of;
-      at_u64 = candidate 64 ⟦<O as BitAt<u64>>⟧.at_of ⟦<O as OrderCandidate<u64>>⟧.select_of ⟦<O as OrderCandidate<u64>>⟧.mask_of;
-      at_u128 = candidate 128 ⟦<O as BitAt<u128>>⟧.at_of ⟦<O as OrderCandidate<u128>>⟧.select_of ⟦<O as OrderCandidate<u128>>⟧.mask_of;
+      at_u8 = candidate 8 ⟦<O as BitAt<u8>>⟧.at_of
+          ⟦<O as OrderCandidate<u8>>⟧.select_of ⟦<O as OrderCandidate<u8>>⟧.mask_of;
+      at_u16 = candidate 16 ⟦<O as BitAt<u16>>⟧.at_of
+          ⟦<O as OrderCandidate<u16>>⟧.select_of ⟦<O as OrderCandidate<u16>>⟧.mask_of;
+      at_u32 = candidate 32 ⟦<O as BitAt<u32>>⟧.at_of
+          ⟦<O as OrderCandidate<u32>>⟧.select_of ⟦<O as OrderCandidate<u32>>⟧.mask_of;
+      at_usize = candidate 64 ⟦<O as BitAt<usize>>⟧.at_of
+          ⟦<O as OrderCandidate<usize>>⟧.select_of ⟦<O as OrderCandidate<usize>>⟧.mask_of;
+      at_u64 = candidate 64 ⟦<O as BitAt<u64>>⟧.at_of
+          ⟦<O as OrderCandidate<u64>>⟧.select_of ⟦<O as OrderCandidate<u64>>⟧.mask_of;
+      at_u128 = candidate 128 ⟦<O as BitAt<u128>>⟧.at_of
+          ⟦<O as OrderCandidate<u128>>⟧.select_of ⟦<O as OrderCandidate<u128>>⟧.mask_of;
     } in
         Verifies cs result }
 {

@@ -1,4 +1,5 @@
-//! What the programs read and write as text: numbers, memories, and the names of registers and orders.
+//! What the programs read and write as text: numbers, memories, and the names of registers and
+//! orders.
 #![tactic(auto)]
 
 pub mod hilo;

@@ -13,12 +13,12 @@ pub trait Call {
     type Answer;
 
     /// The answer.
-    fn answer<R: BitRegister, O: BitOrder<R>>(&self) -> Self::Answer;
+    fn at<R: BitRegister, O: BitOrder<R>>(&self) -> Self::Answer;
 }
 
-/// The answer of a call for the order and the register of these names, or `None` where one of them is
-/// no name.
-pub fn answer<C: Call>(order: &str, register: &str, call: &C) -> Option<C::Answer>
+/// The answer of a call for the order and the register of these names, or `None` where one of them
+/// is no name.
+pub fn answer_at<C: Call>(order: &str, register: &str, call: &C) -> Option<C::Answer>
     ensures { IsSome result ↔ IsOrderName order.now × IsRegisterName register.now }
 {
     match register {
@@ -36,9 +36,9 @@ fn under<R: BitRegister, C: Call>(order: &str, call: &C) -> Option<C::Answer>
     ensures { IsSome result ↔ IsOrderName order.now }
 {
     match order {
-        "lsb0" => Some(call.answer::<R, Lsb0>()),
-        "msb0" => Some(call.answer::<R, Msb0>()),
-        "hilo" => Some(call.answer::<R, HiLo>()),
+        "lsb0" => Some(call.at::<R, Lsb0>()),
+        "msb0" => Some(call.at::<R, Msb0>()),
+        "hilo" => Some(call.at::<R, HiLo>()),
         _ => None,
     }
 }

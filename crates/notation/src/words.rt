@@ -1,11 +1,12 @@
 //! Memories as text: hexadecimal numbers with commas between them, or `-` for none.
 
-ghost use Rattle.std.specs.Prelude.{◌≡◌, ℕ, List, ◌++◌, map, string_bytes, IfOk, MatchOption, OnOk, Some};
+ghost use Rattle.std.specs.Prelude.{◌≡◌, ℕ, List, ◌++◌, map, string_bytes, IfOk, MatchOption, OnOk};
+ghost use Rattle.std.specs.Prelude.{Some};
 ghost use Rattle.notation.specs.Words.{IsMemoryText, hexadecimal, memory_text};
 
 use crate::number::number;
 use bitvec::mem::BitRegister;
-use bitvec_mem::digits::write_numeral;
+use bitvec_mem::numeral::write_numeral;
 use std::alloc::{AllocError, Allocator};
 use std::fmt;
 
@@ -23,7 +24,8 @@ impl fmt::Display for Hexadecimal {
     }
 }
 
-/// The words of a text; `None` where it is no such list, or where a number does not fit the register.
+/// The words of a text; `None` where it is no such list, or where a number does not fit the
+/// register.
 pub fn words_of<'a, R: BitRegister, A: Allocator>(
     alloc: &'a A,
     text: &str,
@@ -53,7 +55,8 @@ pub fn write_words<R: BitRegister, A: Allocator>(
     text: &mut String<A>,
     memory: &[R],
 ) -> Result<(), AllocError>
-    ensures { OnOk result (string_bytes text.new ≡ string_bytes text.old ++ memory_text (map R.number memory.now)) }
+    ensures { OnOk result (string_bytes text.new
+        ≡ string_bytes text.old ++ memory_text (map R.number memory.now)) }
 {
     let Some((first, rest)) = memory.split_first() else {
         return text.push_str("-");

@@ -8,7 +8,7 @@ use Rattle.bitvec.specs.Order.{IsOneToOne}
 use Rattle.bitvec.specs.Memory.{bit_of}
 use Rattle.bitvec.specs.Span.{Span, Fits, list_of, element, word_of}
 use Rattle.bitvec.specs.Place.{words_met}
-use Rattle.bitvec.specs.Edit.{Slot, slot_of, EditsPart}
+use Rattle.bitvec.specs.Slot.{Slot, slot_of, EditsPart}
 use Rattle.bitvec.specs.Commands.{list_after}
 use Rattle.bitvec.specs.Run.{IsStep}
 use Rattle.bitvec.specs.declared.run.command.Command.TheVariants.{Store}

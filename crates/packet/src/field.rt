@@ -7,7 +7,8 @@ ghost use Rattle.std.specs.Prelude.{◌≡◌, ℕ, ◌+◌, ◌^◌, ◌<◌, �
 ghost use Rattle.bitvec.specs.BitSpan.{span_of};
 ghost use Rattle.bitvec.specs.Memory.{bit_of};
 ghost use Rattle.bitvec.specs.declared.run.command.Command.TheVariants.{Store};
-ghost use Rattle.packet.specs.Field.{HasNumber, IsSteady, field_span, lowest_of, number_in, shifted};
+ghost use Rattle.packet.specs.Field.{HasNumber, IsSteady, field_span, lowest_of, number_in};
+ghost use Rattle.packet.specs.Field.{shifted};
 
 use bitvec::index::BitIdx;
 use bitvec::order::BitOrder;
@@ -36,8 +37,8 @@ impl Field {
 
     // The position of the field's lowest digit in the word.
     //
-    // Under `Lsb0` positions rise with the indices, and the lowest is that of the first; under `Msb0`
-    // they fall, and it is that of the last.
+    // Under `Lsb0` positions rise with the indices, and the lowest is that of the first; under
+    // `Msb0` they fall, and it is that of the last.
     fn lowest<O: BitOrder<u32>>(self) -> u8
         ensures lowest { result ≡ lowest_of O.at_of self.start self.len }
         ensures in_word { result < 32 }
@@ -51,8 +52,8 @@ impl Field {
 
     /// The command that writes a number into the field.
     ///
-    /// A store shifts nothing: it takes each digit from where it shall stand. So the number is shifted up
-    /// to the field first. Digits that lie past the field are not written.
+    /// A store shifts nothing: it takes each digit from where it shall stand. So the number is
+    /// shifted up to the field first. Digits that lie past the field are not written.
     pub fn store<O: BitOrder<u32>>(self, number: u32) -> Command<u32>
         ensures { result ≡ Store 0 (shifted O.at_of self.start self.len number) }
     {
@@ -75,8 +76,8 @@ impl Field {
 
     /// The number in the field: its digits where they stand in the word, shifted down.
     ///
-    /// Under `Lsb0` and `Msb0` it is the number that was put there, if that has no more digits than the
-    /// field has bits.
+    /// Under `Lsb0` and `Msb0` it is the number that was put there, if that has no more digits than
+    /// the field has bits.
     pub fn get<O: BitOrder<u32>>(self, memory: &[u32]) -> u32
         requires { 1 ≤ length memory.now }
         ensures field { result ≡ number_in O.at_of self.start self.len memory.now }

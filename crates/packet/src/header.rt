@@ -44,13 +44,14 @@ fn to(span: usize, command: Command<u32>) -> Request<u32>
 
 /// Writes a header into the first word of a memory, each number through the span of its field.
 ///
-/// The spans share the word and no bit of it, which is what [`can_run`] tests, beside that they lie in
-/// the memory. Where it refuses, as of a memory without a word, the answer is `false`, and nothing is
-/// written.
+/// The spans share the word and no bit of it, which is what [`can_run`] tests, beside that they lie
+/// in the memory. Where it refuses, as of a memory without a word, the answer is `false`, and
+/// nothing is written.
 pub fn write<O: BitOrder<u32>>(header: &Header, memory: &mut [u32]) -> bool
     ensures room { IsTrue result ↔ 1 ≤ length memory.old }
     ensures written { 1 ≤ length memory.old → HasHeader O.at_of header.now memory.new }
-    ensures others { (place : ℕ) → 32 ≤ place → bit_of 32 O.at_of memory.new place ≡ bit_of 32 O.at_of memory.old place }
+    ensures others { (place : ℕ) → 32 ≤ place → bit_of 32 O.at_of memory.new place
+        ≡ bit_of 32 O.at_of memory.old place }
     ensures words { length memory.new ≡ length memory.old }
 {
     let spans = [
@@ -75,11 +76,13 @@ pub fn write<O: BitOrder<u32>>(header: &Header, memory: &mut [u32]) -> bool
 
 /// The header in the first word of a memory.
 ///
-/// Under `Lsb0` and `Msb0` it is the one that was written there, if each of its numbers fits its field.
+/// Under `Lsb0` and `Msb0` it is the one that was written there, if each of its numbers fits its
+/// field.
 pub fn read<O: BitOrder<u32>>(memory: &[u32]) -> Header
     requires { 1 ≤ length memory.now }
     ensures fields { result ≡ header_in O.at_of memory.now }
-    ensures header { (header : Header) → IsSteady O.at_of → IsInFields header → HasHeader O.at_of header memory.now → result ≡ header }
+    ensures header { (header : Header) → IsSteady O.at_of → IsInFields header
+        → HasHeader O.at_of header memory.now → result ≡ header }
 {
     Header {
         version: VERSION.get::<O>(memory),

@@ -22,7 +22,8 @@ fn main(rt: HostRuntime) -> io::Result<()> {
     show::<Msb0>(&rt, "Msb0")
 }
 
-// Writes the header under an order, then the flags alone, and prints the word and what is read back.
+// Writes the header under an order, then the flags alone, and prints the word and what is read
+// back.
 fn show<O: BitOrder<u32>>(rt: &impl Print, order: &str) -> io::Result<()> {
     let mut memory = [0];
     if !write::<O>(&HEADER, &mut memory) {

@@ -1,5 +1,5 @@
-//! Words of worked headers, by hand from the orders' definitions: index i is digit i under `Lsb0`, and
-//! digit 31 - i under `Msb0`.
+//! Words of worked headers, by hand from the orders' definitions: index i is digit i under `Lsb0`,
+//! and digit 31 - i under `Msb0`.
 
 mod two_spans;
 

@@ -20,8 +20,8 @@ use self::shown::Form;
 
 /// The answer to a question of a domain, or `None` where the words ask none.
 ///
-/// The kinds are `domain`, `back`, `mixed`, `bit_domain`, `domain_mut` and `text` of a span's domain,
-/// and `partial` of one part of a word.
+/// The kinds are `domain`, `back`, `mixed`, `bit_domain`, `domain_mut` and `text` of a span's
+/// domain, and `partial` of one part of a word.
 pub fn answer<'a, A: Allocator>(
     alloc: &'a A,
     kind: &str,
@@ -37,7 +37,7 @@ pub fn answer<'a, A: Allocator>(
                 edit,
                 argument,
             };
-            names::answer(order, register, &call).unwrap_or(Ok(None))
+            names::answer_at(order, register, &call).unwrap_or(Ok(None))
         }
         [order, register, memory, start, len, details @ ..] => {
             let Some(asked) = asked_of(kind, details) else {
@@ -50,7 +50,7 @@ pub fn answer<'a, A: Allocator>(
                 len,
                 asked,
             };
-            names::answer(order, register, &call).unwrap_or(Ok(None))
+            names::answer_at(order, register, &call).unwrap_or(Ok(None))
         }
         _ => Ok(None),
     }
@@ -102,7 +102,7 @@ struct DomainCall<'a, 't, A: Allocator> {
 impl<'a, A: Allocator> Call for DomainCall<'a, '_, A> {
     type Answer = Result<Option<String<&'a A>>, AllocError>;
 
-    fn answer<R: BitRegister, O: BitOrder<R>>(&self) -> Self::Answer {
+    fn at<R: BitRegister, O: BitOrder<R>>(&self) -> Self::Answer {
         let alloc = self.alloc;
         let Some(mut memory) = words_of::<R, A>(alloc, self.memory)? else {
             return Ok(None);

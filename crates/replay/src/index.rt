@@ -18,15 +18,15 @@ pub fn answer<'a, A: Allocator>(
     match words {
         [order, register, from, upto] if kind == "mask" => {
             let call = MaskCall { alloc, from, upto };
-            names::answer(order, register, &call).unwrap_or(Ok(None))
+            names::answer_at(order, register, &call).unwrap_or(Ok(None))
         }
         [register, shown] if kind == "index_text" => {
             let call = TextCall { alloc, shown };
-            names::answer("lsb0", register, &call).unwrap_or(Ok(None))
+            names::answer_at("lsb0", register, &call).unwrap_or(Ok(None))
         }
         [register, start] => {
             let call = StepCall { alloc, kind, start };
-            names::answer("lsb0", register, &call).unwrap_or(Ok(None))
+            names::answer_at("lsb0", register, &call).unwrap_or(Ok(None))
         }
         [register, start, far] => {
             let call = RunCall {
@@ -35,7 +35,7 @@ pub fn answer<'a, A: Allocator>(
                 start,
                 far,
             };
-            names::answer("lsb0", register, &call).unwrap_or(Ok(None))
+            names::answer_at("lsb0", register, &call).unwrap_or(Ok(None))
         }
         _ => Ok(None),
     }
@@ -52,7 +52,7 @@ struct MaskCall<'a, 't, A: Allocator> {
 impl<'a, A: Allocator> Call for MaskCall<'a, '_, A> {
     type Answer = Result<Option<String<&'a A>>, AllocError>;
 
-    fn answer<R: BitRegister, O: BitOrder<R>>(&self) -> Self::Answer {
+    fn at<R: BitRegister, O: BitOrder<R>>(&self) -> Self::Answer {
         let Some(mask) = mask_of::<R, O>(self.from, self.upto) else {
             return Ok(None);
         };
@@ -89,7 +89,7 @@ struct StepCall<'a, 't, A: Allocator> {
 impl<'a, A: Allocator> Call for StepCall<'a, '_, A> {
     type Answer = Result<Option<String<&'a A>>, AllocError>;
 
-    fn answer<R: BitRegister, O: BitOrder<R>>(&self) -> Self::Answer {
+    fn at<R: BitRegister, O: BitOrder<R>>(&self) -> Self::Answer {
         let Some((index, crossed)) = step_of::<R>(self.kind, self.start) else {
             return Ok(None);
         };
@@ -120,7 +120,7 @@ struct RunCall<'a, 't, A: Allocator> {
 impl<'a, A: Allocator> Call for RunCall<'a, '_, A> {
     type Answer = Result<Option<String<&'a A>>, AllocError>;
 
-    fn answer<R: BitRegister, O: BitOrder<R>>(&self) -> Self::Answer {
+    fn at<R: BitRegister, O: BitOrder<R>>(&self) -> Self::Answer {
         let alloc = self.alloc;
         if self.kind == "offset" {
             let Some((words, index)) = offset_of::<R>(self.start, self.far) else {
@@ -143,8 +143,8 @@ fn offset_of<R: BitRegister>(start: &str, by: &str) -> Option<(isize, BitIdx<R>)
     Some(start.offset(by.parse::<isize>().ok()?))
 }
 
-// The words that a run of bits meets, and its end in the last: from an index on, from an end on, or as
-// a span.
+// The words that a run of bits meets, and its end in the last: from an index on, from an end on, or
+// as a span.
 fn run_of<R: BitRegister, O: BitOrder<R>>(
     kind: &str,
     start: &str,
@@ -173,7 +173,7 @@ struct TextCall<'a, 't, A: Allocator> {
 impl<'a, A: Allocator> Call for TextCall<'a, '_, A> {
     type Answer = Result<Option<String<&'a A>>, AllocError>;
 
-    fn answer<R: BitRegister, O: BitOrder<R>>(&self) -> Self::Answer {
+    fn at<R: BitRegister, O: BitOrder<R>>(&self) -> Self::Answer {
         let alloc = self.alloc;
         let Some((name, number)) = value_of::<R>(self.shown) else {
             return Ok(None);

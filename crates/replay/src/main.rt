@@ -1,9 +1,9 @@
 //! The answers of the Rust crate's own code, asked of this library again.
 //!
-//! `replay FILE` goes over the lines of a file, each a question and the Rust crate's answer, asks the
-//! library the same question through its public calls, and counts the lines of each kind in which the
-//! two answers are the same text. No contract says that they agree: the stored output does, of the
-//! file that lies in `data/`.
+//! `replay FILE` goes over the lines of a file, each a question and the Rust crate's answer, asks
+//! the library the same question through its public calls, and counts the lines of each kind in
+//! which the two answers are the same text. No contract says that they agree: the stored output
+//! does, of the file that lies in `data/`.
 #![tactic(auto)]
 
 mod domains;
@@ -33,7 +33,8 @@ fn main(rt: HostRuntime) -> ExitCode {
     }
 }
 
-// Prints the report on the file that the first argument names, and tells whether all its lines agree.
+// Prints the report on the file that the first argument names, and tells whether all its lines
+// agree.
 fn replay<R: Env + Files + AllocGlobal + Print>(rt: &R) -> io::Result<bool> {
     let alloc = rt.alloc();
     let Some(path) = env::args(rt)?.nth(1) else {

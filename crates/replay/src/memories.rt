@@ -1,9 +1,9 @@
-//! Questions of one memory or two: a bit read, written or replaced, two bits exchanged, a run of bits
-//! copied.
+//! Questions of one memory or two: a bit read, written or replaced, two bits exchanged, a run of
+//! bits copied.
 
 ghost use Rattle.std.specs.Prelude.{IfSome};
 ghost use Rattle.bitvec.specs.BitPtr.{ptr_of};
-ghost use Rattle.bitvec.specs.Steps.{IsIn, RunsIn};
+ghost use Rattle.bitvec.specs.Steps.{IsIn, RangeIsIn};
 
 use bitvec::index::BitIdx;
 use bitvec::mem::BitRegister;
@@ -19,8 +19,8 @@ mod pairs;
 
 /// The answer to a question of a memory, or `None` where the words ask none.
 ///
-/// The kinds are `read`, `write`, `replace`, `swap` and `copy` of one memory, and `swap2` and `copy2` of
-/// two.
+/// The kinds are `read`, `write`, `replace`, `swap` and `copy` of one memory, and `swap2` and
+/// `copy2` of two.
 pub fn answer<'a, A: Allocator>(
     alloc: &'a A,
     kind: &str,
@@ -29,14 +29,14 @@ pub fn answer<'a, A: Allocator>(
     match words {
         [order, register, memory, numbers @ ..] => {
             let Some(access) = access_of(kind, numbers) else {
-                return pairs::answer(alloc, kind, words);
+                return pairs::answer_of_two(alloc, kind, words);
             };
             let call = MemoryCall {
                 alloc,
                 memory,
                 access,
             };
-            names::answer(order, register, &call).unwrap_or(Ok(None))
+            names::answer_at(order, register, &call).unwrap_or(Ok(None))
         }
         _ => Ok(None),
     }
@@ -95,7 +95,7 @@ struct MemoryCall<'a, 't, A: Allocator> {
 impl<'a, A: Allocator> Call for MemoryCall<'a, '_, A> {
     type Answer = Result<Option<String<&'a A>>, AllocError>;
 
-    fn answer<R: BitRegister, O: BitOrder<R>>(&self) -> Self::Answer {
+    fn at<R: BitRegister, O: BitOrder<R>>(&self) -> Self::Answer {
         let Some(mut memory) = words_of::<R, A>(self.alloc, self.memory)? else {
             return Ok(None);
         };
@@ -166,10 +166,10 @@ fn pointer_in<R: BitRegister, O>(words: usize, at: u64) -> Option<BitPtr<R, O>>
     }
 }
 
-// The pointer to the first place of a run in a memory of so many words, or `None` where the run passes
-// it.
+// The pointer to the first place of a run in a memory of so many words, or `None` where the run
+// passes it.
 fn run_in<R: BitRegister, O>(words: usize, at: u64, count: u64) -> Option<BitPtr<R, O>>
-    ensures { IfSome result (λ pointer. RunsIn R.BITS (ptr_of pointer) words count) }
+    ensures { IfSome result (λ pointer. RangeIsIn R.BITS (ptr_of pointer) words count) }
 {
     let pointer = pointer_at::<R, O>(at);
     if pointer.run_in(words, count as usize) {

@@ -23,7 +23,7 @@ pub fn answer<'a, A: Allocator>(
                 kind,
                 words: rest,
             };
-            names::answer("lsb0", register, &call).unwrap_or(Ok(None))
+            names::answer_at("lsb0", register, &call).unwrap_or(Ok(None))
         }
         [] => Ok(None),
     }
@@ -40,7 +40,7 @@ struct PointerCall<'a, 't, A: Allocator> {
 impl<'a, A: Allocator> Call for PointerCall<'a, '_, A> {
     type Answer = Result<Option<String<&'a A>>, AllocError>;
 
-    fn answer<R: BitRegister, O: BitOrder<R>>(&self) -> Self::Answer {
+    fn at<R: BitRegister, O: BitOrder<R>>(&self) -> Self::Answer {
         let alloc = self.alloc;
         match self.words {
             [word, head, len] if self.kind == "span_new" => {

@@ -87,7 +87,7 @@ fn write_difference<'a, A: Allocator>(
         writeln!(text, "unknown: {kind} {rest}")?;
         return Ok(false);
     };
-    match answer(alloc, kind, &line.question)? {
+    match reply(alloc, kind, &line.question)? {
         Some(ours) if ours.as_str() == line.answer => Ok(true),
         Some(ours) => {
             writeln!(text, "differs: {kind} {rest}")?;
@@ -103,7 +103,7 @@ fn write_difference<'a, A: Allocator>(
 }
 
 // The library's answer to a question, or `None` where it is none.
-fn answer<'a, A: Allocator>(
+fn reply<'a, A: Allocator>(
     alloc: &'a A,
     kind: &str,
     words: &[&str],

@@ -7,7 +7,7 @@ use Rattle.std.proofs.lemmas.Nat.{div-add-mod', mod_below}
 use Rattle.std.proofs.Math.Nat.{div-eq_of_lt-le}
 use borrow.Author.Differences.{product_is}
 use Rattle.bitvec.specs.Place.{Ptr}
-use Rattle.bitvec.specs.Steps.{wrapped}
+use Rattle.bitvec.specs.Steps.{wrapped_ptr}
 use Rattle.bitvec_ptr.proofs.PlaceLemmas.{floor_place}
 use Rattle.bitvec_ptr.proofs.StepLemmas.{euclid_parts}
 
@@ -31,7 +31,7 @@ rest_back bits bit q h =
     omega (arith, ints, parts_back, same)
 
 pub wrapped_back : (bits count : ℕ) (p : Ptr) → p.bit < bits → bits ≤ 128 → FitsSigned w64 p.word → p.bit + count ≤ 9223372036854775807
-    → wrapped bits (wrapped bits p (int_wrap w64 (pos count))) (int_wrap w64 (neg_ℤ (pos count))) ≡ p
+    → wrapped_ptr bits (wrapped_ptr bits p (int_wrap w64 (pos count))) (int_wrap w64 (neg_ℤ (pos count))) ≡ p
 wrapped_back bits count p h limit fits short =
     let some : 0 < bits = omega arith in
     let q = (p.bit + count) / bits in
@@ -39,10 +39,10 @@ wrapped_back bits count p h limit fits short =
     let parts = div-add-mod' (p.bit + count) bits in
     let rest = mod_below (p.bit + count) bits some in
     let far : int_wrap w64 (pos p.bit +ℤ int_wrap w64 (pos count)) ≡ pos (p.bit + count) = int_wrap-add_right w64 (pos p.bit) (pos count) ∙ int_wrap_fits w64 (pos (p.bit + count)) (omega (arith, ints)) in
-    let there : wrapped bits p (int_wrap w64 (pos count)) ≡ record { word = int_wrap w64 (p.word +ℤ pos q); bit = r } = ap (λ z. record { word = int_wrap w64 (p.word +ℤ int_div_euclid z (pos bits)); bit = nat_abs (int_rem_euclid z (pos bits)) }) far in
+    let there : wrapped_ptr bits p (int_wrap w64 (pos count)) ≡ record { word = int_wrap w64 (p.word +ℤ pos q); bit = r } = ap (λ z. record { word = int_wrap w64 (p.word +ℤ int_div_euclid z (pos bits)); bit = nat_abs (int_rem_euclid z (pos bits)) }) far in
     let less : pos r +ℤ neg_ℤ (pos count) ≡ pos p.bit -ℤ pos (q * bits) = omega (arith, ints, parts) in
     let back : int_wrap w64 (pos r +ℤ int_wrap w64 (neg_ℤ (pos count))) ≡ pos p.bit -ℤ pos (q * bits) = int_wrap-add_right w64 (pos r) (neg_ℤ (pos count)) ∙ int_wrap_fits w64 (pos r +ℤ neg_ℤ (pos count)) (omega (arith, ints)) ∙ less in
     let word : int_wrap w64 (int_wrap w64 (p.word +ℤ pos q) +ℤ neg_ℤ (pos q)) ≡ p.word = int_wrap-add_left w64 (p.word +ℤ pos q) (neg_ℤ (pos q)) ∙ ap (int_wrap w64) (let same : (p.word +ℤ pos q) +ℤ neg_ℤ (pos q) ≡ p.word = omega (arith, ints) in same) ∙ int_wrap_fits w64 p.word fits in
     let word_back : int_wrap w64 (int_wrap w64 (p.word +ℤ pos q) +ℤ int_div_euclid (int_wrap w64 (pos r +ℤ int_wrap w64 (neg_ℤ (pos count)))) (pos bits)) ≡ p.word = ap (λ z. int_wrap w64 (int_wrap w64 (p.word +ℤ pos q) +ℤ z)) (ap (λ z. int_div_euclid z (pos bits)) back ∙ quotient_back bits p.bit q h) ∙ word in
     let bit_back : nat_abs (int_rem_euclid (int_wrap w64 (pos r +ℤ int_wrap w64 (neg_ℤ (pos count)))) (pos bits)) ≡ p.bit = ap nat_abs (ap (λ z. int_rem_euclid z (pos bits)) back ∙ rest_back bits p.bit q h) in
-    ap (λ t. wrapped bits t (int_wrap w64 (neg_ℤ (pos count)))) there ∙ (λ i. record { word = word_back i; bit = bit_back i })
+    ap (λ t. wrapped_ptr bits t (int_wrap w64 (neg_ℤ (pos count)))) there ∙ (λ i. record { word = word_back i; bit = bit_back i })

@@ -76,7 +76,8 @@ fn words_copied<O: BitOrder<u16>, O2: BitOrder<u16>>(
     target
 }
 
-// 0x1234 and 0xABCD are copied from place 4 on to place 4 and to place 8, and from there to place 4.
+// 0x1234 and 0xABCD are copied from place 4 on to place 4 and to place 8, and from there to place
+// 4.
 #[test]
 fn copies_words_in_each_way(rt: HostRuntime) -> Result<(), Fail> {
     let source = [0x1234u16, 0xABCD];

@@ -1,7 +1,7 @@
 //! Pointers, ranges, spans and commands at the ends of the number types.
 //!
-//! Each condition at its edge is first known from the contracts alone, by a function that calls without
-//! a test or says what the test returns.
+//! Each condition at its edge is first known from the contracts alone, by a function that calls
+//! without a test or says what the test returns.
 
 ghost use Rattle.std.specs.Prelude.{◌≡◌, pos, ◌-ℤ◌, ◌<◌, IsTrue};
 ghost use Rattle.bitvec.specs.BitPtr.{ptr_of};

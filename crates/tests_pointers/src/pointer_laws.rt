@@ -1,11 +1,12 @@
-//! Laws of pointers and of the words of a span, read off the contracts of the calls that each names.
+//! Laws of pointers and of the words of a span, read off the contracts of the calls that each
+//! names.
 
 ghost use Rattle.std.specs.Prelude.{◌≡◌, ℤ, pos, neg_ℤ, ◌+◌, ◌+ℤ◌, ◌≤ℤ◌, ◌<ℤ◌, ◌↔◌, IsTrue};
 ghost use Rattle.std.specs.Ordering.{MatchOrdering};
 ghost use Rattle.std.specs.Int.{w64, int_wrap};
 ghost use Rattle.bitvec.specs.BitPtr.{ptr_of};
 ghost use Rattle.bitvec.specs.Place.{Ptr, place_of};
-ghost use Rattle.bitvec.specs.Steps.{CanOffset, distance, wrapped};
+ghost use Rattle.bitvec.specs.Steps.{CanOffset, distance, wrapped_ptr};
 ghost use Rattle.bitvec.specs.BitSpan.{span_of};
 ghost use Rattle.tests_pointers.specs.Elements.{HasBitIn};
 
@@ -28,16 +29,17 @@ fn offset_from_undoes_offset<R: BitRegister, O>(pointer: BitPtr<R, O>, count: is
     pointer.offset(count).offset_from(pointer)
 }
 
-/// A step that wraps and the same step back end where they began, where the bit and the count have a
-/// sum that is an `isize`.
+/// A step that wraps and the same step back end where they began, where the bit and the count have
+/// a sum that is an `isize`.
 fn wrapping_sub_undoes_wrapping_add<R: BitRegister, O>(
     pointer: BitPtr<R, O>,
     count: usize,
 ) -> BitPtr<R, O>
     requires { pos ((ptr_of pointer).bit + count) ≤ℤ isize.MAX }
     ensures answer { ptr_of result ≡ ptr_of pointer }
-    ensures law { wrapped R.BITS (wrapped R.BITS (ptr_of pointer) (int_wrap w64 (pos count))) (int_wrap w64 (neg_ℤ (pos count)))
-        ≡ ptr_of pointer }
+    ensures law { wrapped_ptr R.BITS
+        (wrapped_ptr R.BITS (ptr_of pointer) (int_wrap w64 (pos count)))
+        (int_wrap w64 (neg_ℤ (pos count))) ≡ ptr_of pointer }
 {
     pointer.wrapping_add(count).wrapping_sub(count)
 }
@@ -65,8 +67,8 @@ fn pointers_are_equal_at_one_place<R: BitRegister, O>(
     here == there
 }
 
-/// A span has a bit in a word exactly where the word is one of its `elements`, counted from its first
-/// word on.
+/// A span has a bit in a word exactly where the word is one of its `elements`, counted from its
+/// first word on.
 fn elements_are_the_words_with_a_bit<R: BitRegister, O>(span: BitSpan<R, O>, word: isize) -> bool
     ensures { IsTrue result ↔ HasBitIn R.BITS (span_of span) word }
 {

@@ -264,7 +264,7 @@ fn swaps_two_bits(rt: HostRuntime) {
     assert_eq!(rt; exchanged([1, 0], 0, [0], 0), Some(([0, 0], [0x8000])));
 }
 
-// A memory with a run of bits copied inside it, where it has both runs.
+// A memory with a range of bits copied inside it, where it has both ranges.
 fn copied_within<O: BitOrder<u8>, const N: usize>(
     memory: [u8; N],
     from: u16,
@@ -332,7 +332,7 @@ enum Call {
     FromNonoverlapping,
 }
 
-// The target memory after a run of bits is copied there, where both memories have theirs.
+// The target memory after a range of bits is copied there, where both memories have theirs.
 fn copied_across<R: BitRegister, O: BitOrder<R>, R2: BitRegister, O2: BitOrder<R2>, const N: usize>(
     call: Call,
     source: &[R],

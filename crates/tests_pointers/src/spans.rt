@@ -98,8 +98,8 @@ fn reads_one_part(rt: HostRuntime) -> Result<(), Fail> {
     Ok(())
 }
 
-// Why there is no span from the greatest word on, under a width that the text does not follow; empty
-// where there is one.
+// Why there is no span from the greatest word on, under a width that the text does not follow;
+// empty where there is one.
 fn refusal(alloc: Global, head: u8, bits: usize) -> Result<String, AllocError> {
     let Ok(head) = BitIdx::<u8>::new(head) else {
         return Ok(String::new(alloc));
@@ -167,8 +167,8 @@ fn names_the_case_of_a_refusal(rt: HostRuntime) -> Result<(), Fail> {
     Ok(())
 }
 
-// Whether these are the most words that a span can meet, and the most of a body that `into_bit_domain`
-// takes, where a span has at most 2305843009213693951 bits.
+// Whether these are the most words that a span can meet, and the most of a body that
+// `into_bit_domain` takes, where a span has at most 2305843009213693951 bits.
 fn has_limits<R: BitRegister>(words: usize, body: usize) -> bool {
     let bits = BitSpan::<R, Lsb0>::REGION_MAX_BITS;
     bits == 2305843009213693951

@@ -107,8 +107,8 @@ fn counts_what_is_left(rt: HostRuntime) -> Result<(), Fail> {
     Ok(())
 }
 
-// A region whose head and whose tail are the last four bits of a byte, round one whole word, and how
-// many items it has.
+// A region whose head and whose tail are the last four bits of a byte, round one whole word, and
+// how many items it has.
 fn twice_round<'a>(byte: &'a [u8], body: &'a [u8]) -> Option<(Domain<'a, u8, Lsb0>, usize)> {
     let span: BitSpan<u8, Lsb0> = span_at(4, 4)?;
     if !span.fits(byte.len()) || body.len() != 1 {
@@ -236,8 +236,8 @@ fn has_parts_of_three_words(rt: HostRuntime) -> Result<(), Fail> {
     Ok(())
 }
 
-// The head, the length and the number of words of the parts of a span's bits, behind whether they are
-// one run alone.
+// The head, the length and the number of words of the parts of a span's bits, behind whether they
+// are one run alone.
 fn runs<R: BitRegister, O: BitOrder<R>>(
     memory: &[R],
     start: u32,

@@ -8,7 +8,8 @@ ghost use Rattle.bitvec.specs.Span.{list_of};
 ghost use Rattle.bitvec.specs.Commands.{request_number, reply_number, own_replies};
 ghost use Rattle.bitvec.specs.Run.{CanRun, HaveSameOwnCommands, HaveSameOwnReplies};
 ghost use Rattle.tests_runs.specs.SameRuns.{OrderBetweenSpansDoesNotMatter};
-ghost use Rattle.bitvec.specs.Laws.{AreSameRequests, AreSameReplies, IsSameNumber, IsTurned, IsBitCommand};
+ghost use Rattle.bitvec.specs.Laws.{AreSameRequests, AreSameReplies, IsSameNumber, IsTurned};
+ghost use Rattle.bitvec.specs.Laws.{IsBitCommand};
 
 use bitvec::index::BitIdx;
 use bitvec::laws::{bit_commands, turned_orders};
@@ -33,16 +34,24 @@ fn run_bit_commands<R: BitRegister, O: BitOrder<R>, R2: BitRegister, O2: BitOrde
     requires other_can_run { CanRun R2.BITS span_of other_spans.now (length there.old) }
     requires room { length replies.old ≡ length requests.now }
     requires other_room { length other_replies.old ≡ length other_requests.now }
-    requires same_lists { AllZip (λ span other. list_of R.BITS O.at_of (span_of span) (map R.number here.old)
-        ≡ list_of R2.BITS O2.at_of (span_of other) (map R2.number there.old)) spans.now other_spans.now }
-    requires bit_commands { All (λ request. IsBitCommand request.command) (map (request_number R.number) requests.now) }
+    requires same_lists { AllZip
+        (λ span other. list_of R.BITS O.at_of (span_of span) (map R.number here.old)
+        ≡ list_of R2.BITS O2.at_of (span_of other) (map R2.number there.old)) spans.now
+        other_spans.now }
+    requires bit_commands { All (λ request. IsBitCommand request.command)
+        (map (request_number R.number) requests.now) }
     requires same_requests { AllZip (AreSameRequests IsSameNumber)
-        (map (request_number R.number) requests.now) (map (request_number R2.number) other_requests.now) }
-    ensures same_replies { (s : ℕ) → s < length spans.now → AllZip (AreSameReplies IsSameNumber)
-        (own_replies s (map (request_number R.number) requests.now) (map (reply_number R.number) replies.new))
-        (own_replies s (map (request_number R2.number) other_requests.now) (map (reply_number R2.number) other_replies.new)) }
-    ensures same_lists { AllZip (λ span other. list_of R.BITS O.at_of (span_of span) (map R.number here.new)
-        ≡ list_of R2.BITS O2.at_of (span_of other) (map R2.number there.new)) spans.now other_spans.now }
+        (map (request_number R.number) requests.now)
+        (map (request_number R2.number) other_requests.now) }
+    ensures same_replies { (s : ℕ) → s < length spans.now
+        → AllZip (AreSameReplies IsSameNumber)
+        (own_replies s (map (request_number R.number) requests.now)
+        (map (reply_number R.number) replies.new))
+        (own_replies s (map (request_number R2.number) other_requests.now)
+        (map (reply_number R2.number) other_replies.new)) }
+    ensures same_lists { AllZip (λ span other. list_of R.BITS O.at_of (span_of span)
+        (map R.number here.new) ≡ list_of R2.BITS O2.at_of (span_of other)
+        (map R2.number there.new)) spans.now other_spans.now }
 {
     bit_commands::<R, O, R2, O2>();
     run(spans, here, requests, replies);
@@ -67,14 +76,20 @@ fn run_turned<R: BitRegister, O: BitOrder<R>, O2: BitOrder<R>>(
     requires room { length replies.old ≡ length requests.now }
     requires other_room { length other_replies.old ≡ length other_requests.now }
     requires same_spans { map span_of spans.now ≡ map span_of other_spans.now }
-    requires same_bits { memory_bits R.BITS O.at_of (map R.number here.old) ≡ memory_bits R.BITS O2.at_of (map R.number there.old) }
+    requires same_bits { memory_bits R.BITS O.at_of (map R.number here.old)
+        ≡ memory_bits R.BITS O2.at_of (map R.number there.old) }
     requires same_requests { AllZip (AreSameRequests (IsTurned R.BITS O.at_of O2.at_of))
-        (map (request_number R.number) requests.now) (map (request_number R.number) other_requests.now) }
-    ensures same_replies { (s : ℕ) → s < length spans.now → AllZip (AreSameReplies (IsTurned R.BITS O.at_of O2.at_of))
-        (own_replies s (map (request_number R.number) requests.now) (map (reply_number R.number) replies.new))
-        (own_replies s (map (request_number R.number) other_requests.now) (map (reply_number R.number) other_replies.new)) }
-    ensures same_lists { AllZip (λ span other. list_of R.BITS O.at_of (span_of span) (map R.number here.new)
-        ≡ list_of R.BITS O2.at_of (span_of other) (map R.number there.new)) spans.now other_spans.now }
+        (map (request_number R.number) requests.now)
+        (map (request_number R.number) other_requests.now) }
+    ensures same_replies { (s : ℕ) → s < length spans.now
+        → AllZip (AreSameReplies (IsTurned R.BITS O.at_of O2.at_of))
+        (own_replies s (map (request_number R.number) requests.now)
+        (map (reply_number R.number) replies.new))
+        (own_replies s (map (request_number R.number) other_requests.now)
+        (map (reply_number R.number) other_replies.new)) }
+    ensures same_lists { AllZip (λ span other. list_of R.BITS O.at_of (span_of span)
+        (map R.number here.new) ≡ list_of R.BITS O2.at_of (span_of other) (map R.number there.new))
+        spans.now other_spans.now }
 {
     turned_orders::<R, O, O2>();
     run(spans, here, requests, replies);
@@ -87,7 +102,8 @@ fn order_between_spans_does_not_matter<R: BitRegister, O: BitOrder<R>>()
     ensures { OrderBetweenSpansDoesNotMatter R.BITS O.at_of }
 {}
 
-// The number of each word is one of the register's: `to_u128` says so of the word that it is called on.
+// The number of each word is one of the register's: `to_u128` says so of the word that it is called
+// on.
 fn numbers_are_below<R: BitRegister>(memory: &[R])
     ensures { All (λ word. R.number word < 2 ^ R.BITS) memory.now }
 {
@@ -112,10 +128,12 @@ fn run_in_two_orders<R: BitRegister, O: BitOrder<R>>(
     requires other_room { length other_replies.old ≡ length other_requests.now }
     requires same_memory { here.old ≡ there.old }
     requires same_commands { HaveSameOwnCommands (length spans.now)
-        (map (request_number R.number) requests.now) (map (request_number R.number) other_requests.now) }
+        (map (request_number R.number) requests.now)
+        (map (request_number R.number) other_requests.now) }
     ensures same_replies { HaveSameOwnReplies (length spans.now)
         (map (request_number R.number) requests.now) (map (reply_number R.number) replies.new)
-        (map (request_number R.number) other_requests.now) (map (reply_number R.number) other_replies.new) }
+        (map (request_number R.number) other_requests.now)
+        (map (reply_number R.number) other_replies.new) }
     ensures same_memory { here.new ≡ there.new }
 {
     order_between_spans_does_not_matter::<R, O>();
@@ -251,8 +269,8 @@ fn bit_commands_under_two_orders(rt: HostRuntime) {
     assert_eq!(rt; bit_commands_in_two_memories(), Some(want));
 }
 
-// The replies to stores of 0x0D under `Lsb0` and of 0xB0 under `Msb0` in a byte of zeros, and to the
-// loads after them.
+// The replies to stores of 0x0D under `Lsb0` and of 0xB0 under `Msb0` in a byte of zeros, and to
+// the loads after them.
 fn turned_in_two_memories() -> Option<([Reply<u8>; 2], [u8; 1], [Reply<u8>; 2], [u8; 1])> {
     let span: BitSpan<u8, Lsb0> = BitSpan::new(0, BitIdx::new_unchecked(0), 8).ok()?;
     let other: BitSpan<u8, Msb0> = BitSpan::new(0, BitIdx::new_unchecked(0), 8).ok()?;

@@ -152,7 +152,7 @@ fn jumps(rt: HostRuntime) {
     assert!(rt; jumps_to::<u128>(127, isize::MAX, -72_057_594_037_927_936, 126));
 }
 
-// Whether a run of bits from an index meets so many registers and ends there in the last.
+// Whether a range of bits from an index meets so many registers and ends there in the last.
 fn spans_to<R: BitRegister>(from: u8, len: usize, elements: usize, tail: u8) -> bool {
     let Ok(from) = BitIdx::<R>::new(from) else {
         return false;

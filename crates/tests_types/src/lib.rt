@@ -1,4 +1,5 @@
-//! Registers, indices, orders and what the traits of each type are, by the names that a user writes.
+//! Registers, indices, orders and what the traits of each type are, by the names that a user
+//! writes.
 #![tactic(auto)]
 
 #[cfg(test)]

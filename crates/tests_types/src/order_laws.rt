@@ -1,5 +1,5 @@
-//! Laws of masks and of the verifier's scan. Each function takes and returns nothing; its contract is
-//! the law.
+//! Laws of masks and of the verifier's scan. Each function takes and returns nothing; its contract
+//! is the law.
 
 ghost use Rattle.std.specs.Prelude.{◌≡◌, ℕ, ◌+◌, ◌*◌, length};
 ghost use Rattle.bitvec.specs.Masks.{HasDisjointMasks};

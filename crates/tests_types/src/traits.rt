@@ -1,8 +1,8 @@
 //! What equality, order, hash, copy and default of each type are, and what each name stands for.
 //!
-//! Each function does what its name says, and its contract is the promise: so a body of an impl that
-//! breaks it is refused, though no contract of the layer names it. That equal values have equal hashes
-//! is a law of `Hash` itself, which each impl shows.
+//! Each function does what its name says, and its contract is the promise: so a body of an impl
+//! that breaks it is refused, though no contract of the layer names it. That equal values have
+//! equal hashes is a law of `Hash` itself, which each impl shows.
 
 ghost use Rattle.std.specs.Prelude.{◌≡◌, ◌↔◌, ◌-◌, pos, IsTrue, Ok, codes};
 ghost use Rattle.std.specs.Ordering.{nat_cmp, int_cmp};
@@ -62,8 +62,8 @@ fn default_element<R: BitRegister>() -> BitElement<R>
     BitElement::default()
 }
 
-// An index, an end, a position, a selector, a mask and an index that was refused are compared, hashed
-// and copied as their numbers are, and a default is 0.
+// An index, an end, a position, a selector, a mask and an index that was refused are compared,
+// hashed and copied as their numbers are, and a default is 0.
 
 fn equal_indices<R: BitRegister>(here: BitIdx<R>, there: BitIdx<R>) -> bool
     ensures { IsTrue result ↔ (here ≡ there) }
@@ -309,7 +309,8 @@ fn copied_fault_of_a_register(fault: &VerifyFault) -> Result<VerifyFault, AllocE
     fault.clone()
 }
 
-// A pointer is its word and its bit, a range its two ends, a span its word, its head and its length.
+// A pointer is its word and its bit, a range its two ends, a span its word, its head and its
+// length.
 
 fn equal_pointers<R: BitRegister, O>(here: BitPtr<R, O>, there: BitPtr<R, O>) -> bool
     ensures { IsTrue result ↔ (ptr_of here ≡ ptr_of there) }
@@ -445,8 +446,8 @@ fn copied_refusal<R>(refusal: &BitSpanError<R>) -> Result<BitSpanError<R>, Alloc
     refusal.clone()
 }
 
-// Commands, requests and replies are their parts, where `==` of the register says which words are the
-// same.
+// Commands, requests and replies are their parts, where `==` of the register says which words are
+// the same.
 
 fn equal_commands<R: Eq>(here: &Command<R>, there: &Command<R>) -> bool
     ensures { ((a b : R) → IsTrue (R.eq a b) ↔ (a ≡ b)) → (IsTrue result ↔ (here.now ≡ there.now)) }

@@ -32,8 +32,8 @@ fn called(alloc: Global, args: &[String], first: u64, alone: bool) -> Outcome {
     }
 }
 
-// Whether each request for memory of a call, refused in turn, gives the line and the status of out of
-// memory, or the whole answer with its own status; and how many requests there are.
+// Whether each request for memory of a call, refused in turn, gives the line and the status of out
+// of memory, or the whole answer with its own status; and how many requests there are.
 fn stands(
     alloc: Global,
     line: &str,

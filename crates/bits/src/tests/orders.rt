@@ -1,6 +1,7 @@
 //! Orders and candidates that no crate of the layer knows of: what it returns under them.
 
-ghost use Rattle.std.specs.Prelude.{◌≡◌, ℕ, ◌+◌, ◌%◌, ◌^◌, ◌<◌, ◌≤◌, ◌==◌, ◌&&◌, ◌||◌, Bool, true, false, is_none, unwrap_or, if◌then◌else◌};
+ghost use Rattle.std.specs.Prelude.{◌≡◌, ℕ, ◌+◌, ◌%◌, ◌^◌, ◌<◌, ◌≤◌, ◌==◌, ◌&&◌, ◌||◌, Bool, true};
+ghost use Rattle.std.specs.Prelude.{false, is_none, unwrap_or, if◌then◌else◌};
 ghost use Rattle.bitvec.specs.Order.{mask_start, mask_end, plain_mask_of};
 ghost use Rattle.bits.specs.Orders.{rotated, rotated_one_to_one, tabled, tabled_one_to_one};
 
@@ -203,9 +204,11 @@ impl<const INDEX: u8, const TO: u8, const SELECTED: u8, const AS: u8> Positions<
 
 impl<const INDEX: u8, const TO: u8, const SELECTED: u8, const AS: u8> Numbers<u8>
     for Moved<INDEX, TO, SELECTED, AS> {
-    ghost select_of = { λ i. 2 ^ (if i == SELECTED then AS % 8 else (if i == INDEX then TO % 8 else i)) };
+    ghost select_of = { λ i. 2 ^ (if i == SELECTED then AS % 8
+        else (if i == INDEX then TO % 8 else i)) };
 
-    ghost mask_of = { λ from upto. plain_mask_of (λ i. if i == INDEX then TO % 8 else i) (mask_start from) (mask_end 8 upto) };
+    ghost mask_of = { λ from upto. plain_mask_of (λ i. if i == INDEX then TO % 8 else i)
+        (mask_start from) (mask_end 8 upto) };
 
     fn selector(index: u8) -> u8 {
         if index == SELECTED {

@@ -18,8 +18,8 @@ fn memory_text(alloc: Global, words: u32, first: &str, firsts: u32) -> Result<St
     Ok(text)
 }
 
-// The arguments of a run of nibbles: so many spans of four bits one behind the other from place 0 on,
-// each of which is given the byte 5a.
+// The arguments of a run of nibbles: so many spans of four bits one behind the other from place 0
+// on, each of which is given the byte 5a.
 fn nibbles(alloc: Global, words: u32, spans: u32) -> Result<Vec<String>, AllocError> {
     let mut places = String::new(alloc);
     let mut commands = String::new(alloc);

@@ -12,7 +12,11 @@ use crate::ptr::span::BitSpan;
 pub(crate) fn bit_pointer<R: BitRegister, O>(span: BitSpan<R, O>, index: usize) -> BitPtr<R, O>
     requires { index ≤ (span_of span).len }
     ensures { ptr_of result
-        ≡ record { word = (span_of span).word +ℤ pos (((span_of span).head + index) / R.BITS); bit = ((span_of span).head + index) % R.BITS } }
+        ≡ record {
+          word = (span_of span).word +ℤ pos (((span_of span).head + index) / R.BITS);
+          bit =
+              ((span_of span).head + index) % R.BITS;
+        } }
 {
     span.to_bitptr().add(index)
 }

@@ -2,15 +2,15 @@
 
 /// A command to one span. Our own.
 ///
-/// A `k` counts the words that the span meets, from 0 on; a bit is named by its place in the span, from
-/// 0 to before the span's length. Which commands are refused, [`Reply::PastEnd`] says.
+/// A `k` counts the words that the span meets, from 0 on; a bit is named by its place in the span,
+/// from 0 to before the span's length. Which commands are refused, [`Reply::PastEnd`] says.
 #[derive(Clone, Copy, PartialEq, Eq, Debug)]
 pub enum Command<R> {
     /// Returns the span's bits in its word `k`, each as the digit that it has there, and all others
     /// zero.
     Load(usize),
-    /// Puts the digits of the number in the places of the span's bits in its word `k`, and returns as
-    /// `Load` did before.
+    /// Puts the digits of the number in the places of the span's bits in its word `k`, and returns
+    /// as `Load` did before.
     Store(usize, R),
     /// Makes the span's bits in its word `k` one, and returns as `Load` did before.
     Set(usize),
@@ -53,9 +53,9 @@ pub enum Reply<R> {
     Bit(bool),
     /// To `Swap` and `Copy`.
     Done,
-    /// The command is refused and changes nothing: `k` is at least the number of words that the span
-    /// meets, a bit's place is at least the span's length, or `from + count` or `to + count`, as whole
-    /// numbers, passes the length.
+    /// The command is refused and changes nothing: `k` is at least the number of words that the
+    /// span meets, a bit's place is at least the span's length, or `from + count` or `to + count`,
+    /// as whole numbers, passes the length.
     PastEnd,
     /// There is no span of that number, and nothing is changed.
     NoSpan,

@@ -5,7 +5,9 @@ ghost use Rattle.bitvec_domain.specs.Span.{Fits};
 ghost use Rattle.bitvec_domain.specs.BitSpan.{span_of};
 ghost use Rattle.bitvec.specs.Commands.{command_number, reply_number};
 ghost use Rattle.bitvec.specs.Run.{IsStep};
-ghost use Rattle.bitvec.specs.declared.run.command.Command.TheVariants.{Load, Store, Set, Clear, Invert, Read, Replace, Swap, Copy};
+ghost use Rattle.bitvec.specs.declared.run.command.Command.TheVariants.{Load, Store, Set, Clear};
+ghost use Rattle.bitvec.specs.declared.run.command.Command.TheVariants.{Invert, Read, Replace};
+ghost use Rattle.bitvec.specs.declared.run.command.Command.TheVariants.{Swap, Copy};
 
 use crate::mem::BitRegister;
 use crate::order::BitOrder;
@@ -17,7 +19,8 @@ use crate::run::word;
 // Returns the value of a word of the span.
 fn load<R: BitRegister, O: BitOrder<R>>(span: BitSpan<R, O>, memory: &[R], k: usize) -> Reply<R>
     requires { Fits R.BITS (span_of span) (length memory.now) }
-    ensures { IsStep R.BITS O.at_of (span_of span) (map R.number memory.now) (Load k) (reply_number R.number result) (map R.number memory.now) }
+    ensures { IsStep R.BITS O.at_of (span_of span) (map R.number memory.now) (Load k)
+        (reply_number R.number result) (map R.number memory.now) }
 {
     if k < span.elements() {
         Reply::Word(span.part(memory, k).load_value())
@@ -34,7 +37,8 @@ fn store<R: BitRegister, O: BitOrder<R>>(
     value: R,
 ) -> Reply<R>
     requires { Fits R.BITS (span_of span) (length memory.old) }
-    ensures { IsStep R.BITS O.at_of (span_of span) (map R.number memory.old) (Store k (R.number value)) (reply_number R.number result) (map R.number memory.new) }
+    ensures { IsStep R.BITS O.at_of (span_of span) (map R.number memory.old)
+        (Store k (R.number value)) (reply_number R.number result) (map R.number memory.new) }
 {
     if k < span.elements() {
         Reply::Word(word::store(span, memory, k, value))
@@ -46,7 +50,8 @@ fn store<R: BitRegister, O: BitOrder<R>>(
 // Makes the span's bits in a word one.
 fn set<R: BitRegister, O: BitOrder<R>>(span: BitSpan<R, O>, memory: &mut [R], k: usize) -> Reply<R>
     requires { Fits R.BITS (span_of span) (length memory.old) }
-    ensures { IsStep R.BITS O.at_of (span_of span) (map R.number memory.old) (Set k) (reply_number R.number result) (map R.number memory.new) }
+    ensures { IsStep R.BITS O.at_of (span_of span) (map R.number memory.old) (Set k)
+        (reply_number R.number result) (map R.number memory.new) }
 {
     if k < span.elements() {
         Reply::Word(word::set(span, memory, k))
@@ -62,7 +67,8 @@ fn clear<R: BitRegister, O: BitOrder<R>>(
     k: usize,
 ) -> Reply<R>
     requires { Fits R.BITS (span_of span) (length memory.old) }
-    ensures { IsStep R.BITS O.at_of (span_of span) (map R.number memory.old) (Clear k) (reply_number R.number result) (map R.number memory.new) }
+    ensures { IsStep R.BITS O.at_of (span_of span) (map R.number memory.old) (Clear k)
+        (reply_number R.number result) (map R.number memory.new) }
 {
     if k < span.elements() {
         Reply::Word(word::clear(span, memory, k))
@@ -78,7 +84,8 @@ fn invert<R: BitRegister, O: BitOrder<R>>(
     k: usize,
 ) -> Reply<R>
     requires { Fits R.BITS (span_of span) (length memory.old) }
-    ensures { IsStep R.BITS O.at_of (span_of span) (map R.number memory.old) (Invert k) (reply_number R.number result) (map R.number memory.new) }
+    ensures { IsStep R.BITS O.at_of (span_of span) (map R.number memory.old) (Invert k)
+        (reply_number R.number result) (map R.number memory.new) }
 {
     if k < span.elements() {
         Reply::Word(word::invert(span, memory, k))
@@ -90,7 +97,8 @@ fn invert<R: BitRegister, O: BitOrder<R>>(
 // Returns a bit of the span.
 fn read<R: BitRegister, O: BitOrder<R>>(span: BitSpan<R, O>, memory: &[R], index: usize) -> Reply<R>
     requires { Fits R.BITS (span_of span) (length memory.now) }
-    ensures { IsStep R.BITS O.at_of (span_of span) (map R.number memory.now) (Read index) (reply_number R.number result) (map R.number memory.now) }
+    ensures { IsStep R.BITS O.at_of (span_of span) (map R.number memory.now) (Read index)
+        (reply_number R.number result) (map R.number memory.now) }
 {
     if index < span.len() {
         Reply::Bit(bit_pointer(span, index).read(memory))
@@ -107,7 +115,8 @@ fn replace<R: BitRegister, O: BitOrder<R>>(
     bit: bool,
 ) -> Reply<R>
     requires { Fits R.BITS (span_of span) (length memory.old) }
-    ensures { IsStep R.BITS O.at_of (span_of span) (map R.number memory.old) (Replace index bit) (reply_number R.number result) (map R.number memory.new) }
+    ensures { IsStep R.BITS O.at_of (span_of span) (map R.number memory.old) (Replace index bit)
+        (reply_number R.number result) (map R.number memory.new) }
 {
     if index < span.len() {
         Reply::Bit(bit_pointer(span, index).replace(memory, bit))
@@ -124,7 +133,8 @@ fn swap<R: BitRegister, O: BitOrder<R>>(
     with: usize,
 ) -> Reply<R>
     requires { Fits R.BITS (span_of span) (length memory.old) }
-    ensures { IsStep R.BITS O.at_of (span_of span) (map R.number memory.old) (Swap index with) (reply_number R.number result) (map R.number memory.new) }
+    ensures { IsStep R.BITS O.at_of (span_of span) (map R.number memory.old) (Swap index with)
+        (reply_number R.number result) (map R.number memory.new) }
 {
     let len = span.len();
     if index < len && with < len {
@@ -153,7 +163,8 @@ fn copy<R: BitRegister, O: BitOrder<R>>(
     count: usize,
 ) -> Reply<R>
     requires { Fits R.BITS (span_of span) (length memory.old) }
-    ensures { IsStep R.BITS O.at_of (span_of span) (map R.number memory.old) (Copy from to count) (reply_number R.number result) (map R.number memory.new) }
+    ensures { IsStep R.BITS O.at_of (span_of span) (map R.number memory.old) (Copy from to count)
+        (reply_number R.number result) (map R.number memory.new) }
 {
     let len = span.len();
     if can_copy(len, from, to, count) {
@@ -173,7 +184,8 @@ pub(crate) fn step<R: BitRegister, O: BitOrder<R>>(
     command: Command<R>,
 ) -> Reply<R>
     requires { Fits R.BITS (span_of span) (length memory.old) }
-    ensures { IsStep R.BITS O.at_of (span_of span) (map R.number memory.old) (command_number R.number command) (reply_number R.number result) (map R.number memory.new) }
+    ensures { IsStep R.BITS O.at_of (span_of span) (map R.number memory.old)
+        (command_number R.number command) (reply_number R.number result) (map R.number memory.new) }
 {
     match command {
         Command::Load(k) => load(span, memory, k),

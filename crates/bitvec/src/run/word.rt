@@ -1,10 +1,11 @@
 //! The edits of one word through a span, with what the whole memory is when the loan has ended.
 
-ghost use Rattle.std.specs.Prelude.{◌≡◌, ℕ, ◌<◌, ◌≤◌, Bool, true, false, not, length, map, slice_index};
+ghost use Rattle.std.specs.Prelude.{◌≡◌, ℕ, ◌<◌, ◌≤◌, Bool, true, false, not, length, map};
+ghost use Rattle.std.specs.Prelude.{slice_index};
 ghost use Rattle.bitvec_mem.specs.Digit.{digit};
 ghost use Rattle.bitvec_ptr.specs.Place.{words_met};
 ghost use Rattle.bitvec_domain.specs.Span.{Fits};
-ghost use Rattle.bitvec_domain.specs.Edit.{slot_of, EditsPart};
+ghost use Rattle.bitvec_domain.specs.Slot.{slot_of, EditsPart};
 ghost use Rattle.bitvec_domain.specs.BitSpan.{span_of};
 
 use crate::mem::BitRegister;
@@ -20,8 +21,9 @@ pub(crate) fn store<R: BitRegister, O: BitOrder<R>>(
 ) -> R
     requires fits { Fits R.BITS (span_of span) (length memory.old) }
     requires met { k < words_met R.BITS (span_of span).head (span_of span).len }
-    ensures { EditsPart R.BITS O.at_of (slot_of R.BITS (span_of span) k) (λ i. digit (R.number value) (O.at_of i))
-        (map R.number memory.old) (map R.number memory.new) (R.number result) }
+    ensures { EditsPart R.BITS O.at_of (slot_of R.BITS (span_of span) k)
+        (λ i. digit (R.number value) (O.at_of i)) (map R.number memory.old)
+        (map R.number memory.new) (R.number result) }
 {
     let mut part = span.part_mut(memory, k);
     part.store_value(value)
@@ -36,8 +38,9 @@ pub(crate) fn invert<R: BitRegister, O: BitOrder<R>>(
     requires fits { Fits R.BITS (span_of span) (length memory.old) }
     requires met { k < words_met R.BITS (span_of span).head (span_of span).len }
     ensures { EditsPart R.BITS O.at_of (slot_of R.BITS (span_of span) k)
-        (λ i. not (digit (slice_index (map R.number memory.old) (slot_of R.BITS (span_of span) k).word) (O.at_of i)))
-        (map R.number memory.old) (map R.number memory.new) (R.number result) }
+        (λ i. not
+        (digit (slice_index (map R.number memory.old) (slot_of R.BITS (span_of span) k).word)
+        (O.at_of i))) (map R.number memory.old) (map R.number memory.new) (R.number result) }
 {
     let mut part = span.part_mut(memory, k);
     part.invert()

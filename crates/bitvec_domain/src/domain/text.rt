@@ -1,18 +1,18 @@
 //! The texts of domains: their items in a base, without leading zeros, a comma and a space between
 //! them, in square brackets.
 //!
-//! They are those of the Rust crate without flags, and none follows the caller's flags. The contracts say
-//! what is written where a call succeeds and the formatter indents nothing.
+//! They are those of the Rust crate without flags, and none follows the caller's flags. The
+//! contracts say what is written where a call succeeds and the formatter indents nothing.
 
 ghost use Rattle.std.specs.Prelude.{◌≡◌, ◌≤◌, ◌++◌, Some, codes, true, false};
 ghost use Rattle.std.specs.Fmt.{WritesStyledOnOk, WritesOnOk};
-ghost use Rattle.bitvec_domain.specs.Domain.{items};
+ghost use Rattle.bitvec_domain.specs.Parts.{items};
 ghost use Rattle.bitvec_domain.specs.ItemText.{list_text, rest_text};
-ghost use Rattle.bitvec_domain.specs.DomainView.{domain_parts};
+ghost use Rattle.bitvec_domain.specs.Domain.{domain_parts};
 
 use crate::domain::Domain;
-use bitvec_mem::digits::write_numeral;
 use bitvec_mem::mem::BitRegister;
+use bitvec_mem::numeral::write_numeral;
 use bitvec_order::order::BitOrder;
 use std::fmt;
 
@@ -25,7 +25,8 @@ fn write_rest<'a, R: BitRegister, O: BitOrder<R>, W: fmt::Write>(
 ) -> fmt::Result
     requires low { 2 ≤ base }
     requires high { base ≤ 16 }
-    ensures { WritesStyledOnOk W.write_str_gives f.old result (rest_text base upper (items R.BITS O.at_of (domain_parts R.number rest.entry))) f.new }
+    ensures { WritesStyledOnOk W.write_str_gives f.old result
+        (rest_text base upper (items R.BITS O.at_of (domain_parts R.number rest.entry))) f.new }
 {
     for word in rest {
         f.write_str(", ")?;
@@ -43,8 +44,10 @@ fn write_items<'a, R: BitRegister, O: BitOrder<R>, W: fmt::Write>(
 ) -> fmt::Result
     requires low { 2 ≤ base }
     requires high { base ≤ 16 }
-    ensures styled { WritesStyledOnOk W.write_str_gives f.old result (list_text base upper (items R.BITS O.at_of (domain_parts R.number domain.now))) f.new }
-    ensures writes { WritesOnOk W.write_str_gives f.old result (list_text base upper (items R.BITS O.at_of (domain_parts R.number domain.now))) f.new }
+    ensures styled { WritesStyledOnOk W.write_str_gives f.old result
+        (list_text base upper (items R.BITS O.at_of (domain_parts R.number domain.now))) f.new }
+    ensures writes { WritesOnOk W.write_str_gives f.old result
+        (list_text base upper (items R.BITS O.at_of (domain_parts R.number domain.now))) f.new }
 {
     let mut rest = *domain;
     let Some(first) = rest.next() else {
@@ -59,13 +62,15 @@ fn write_items<'a, R: BitRegister, O: BitOrder<R>, W: fmt::Write>(
 /// The items in decimal.
 impl<'a, R: BitRegister, O: BitOrder<R>> fmt::Display for Domain<'a, R, O> {
     ghost use Rattle.std.specs.Prelude.{Some, false};
-    ghost use Rattle.bitvec_domain.specs.Domain.{items};
+    ghost use Rattle.bitvec_domain.specs.Parts.{items};
     ghost use Rattle.bitvec_domain.specs.ItemText.{list_text};
-    ghost use Rattle.bitvec_domain.specs.DomainView.{domain_parts};
+    ghost use Rattle.bitvec_domain.specs.Domain.{domain_parts};
 
-    ghost output = { λ d. Some (list_text 10 false (items R.BITS O.at_of (domain_parts R.number d))) };
+    ghost output = { λ d. Some
+        (list_text 10 false (items R.BITS O.at_of (domain_parts R.number d))) };
 
-    ghost styled_output = { λ d _. Some (list_text 10 false (items R.BITS O.at_of (domain_parts R.number d))) };
+    ghost styled_output = { λ d _. Some
+        (list_text 10 false (items R.BITS O.at_of (domain_parts R.number d))) };
 
     fn fmt<W: fmt::Write>(&self, f: &mut fmt::Formatter<W>) -> fmt::Result {
         write_items(self, f, 10, false)
@@ -74,11 +79,13 @@ impl<'a, R: BitRegister, O: BitOrder<R>> fmt::Display for Domain<'a, R, O> {
 
 /// The items in binary.
 impl<'a, R: BitRegister, O: BitOrder<R>> fmt::Binary for Domain<'a, R, O> {
-    ghost use Rattle.bitvec_domain.specs.DomainView.{domain_parts};
+    ghost use Rattle.bitvec_domain.specs.Domain.{domain_parts};
 
     fn fmt<W: fmt::Write>(&self, f: &mut fmt::Formatter<W>) -> fmt::Result
-        ensures writes { WritesOnOk W.write_str_gives f.old result (list_text 2 false (items R.BITS O.at_of (domain_parts R.number self.now))) f.new }
-        ensures styled { WritesStyledOnOk W.write_str_gives f.old result (list_text 2 false (items R.BITS O.at_of (domain_parts R.number self.now))) f.new }
+        ensures writes { WritesOnOk W.write_str_gives f.old result
+            (list_text 2 false (items R.BITS O.at_of (domain_parts R.number self.now))) f.new }
+        ensures styled { WritesStyledOnOk W.write_str_gives f.old result
+            (list_text 2 false (items R.BITS O.at_of (domain_parts R.number self.now))) f.new }
     {
         write_items(self, f, 2, false)
     }
@@ -86,11 +93,13 @@ impl<'a, R: BitRegister, O: BitOrder<R>> fmt::Binary for Domain<'a, R, O> {
 
 /// The items in octal.
 impl<'a, R: BitRegister, O: BitOrder<R>> fmt::Octal for Domain<'a, R, O> {
-    ghost use Rattle.bitvec_domain.specs.DomainView.{domain_parts};
+    ghost use Rattle.bitvec_domain.specs.Domain.{domain_parts};
 
     fn fmt<W: fmt::Write>(&self, f: &mut fmt::Formatter<W>) -> fmt::Result
-        ensures writes { WritesOnOk W.write_str_gives f.old result (list_text 8 false (items R.BITS O.at_of (domain_parts R.number self.now))) f.new }
-        ensures styled { WritesStyledOnOk W.write_str_gives f.old result (list_text 8 false (items R.BITS O.at_of (domain_parts R.number self.now))) f.new }
+        ensures writes { WritesOnOk W.write_str_gives f.old result
+            (list_text 8 false (items R.BITS O.at_of (domain_parts R.number self.now))) f.new }
+        ensures styled { WritesStyledOnOk W.write_str_gives f.old result
+            (list_text 8 false (items R.BITS O.at_of (domain_parts R.number self.now))) f.new }
     {
         write_items(self, f, 8, false)
     }
@@ -98,11 +107,13 @@ impl<'a, R: BitRegister, O: BitOrder<R>> fmt::Octal for Domain<'a, R, O> {
 
 /// The items in hexadecimal, with small letters.
 impl<'a, R: BitRegister, O: BitOrder<R>> fmt::LowerHex for Domain<'a, R, O> {
-    ghost use Rattle.bitvec_domain.specs.DomainView.{domain_parts};
+    ghost use Rattle.bitvec_domain.specs.Domain.{domain_parts};
 
     fn fmt<W: fmt::Write>(&self, f: &mut fmt::Formatter<W>) -> fmt::Result
-        ensures writes { WritesOnOk W.write_str_gives f.old result (list_text 16 false (items R.BITS O.at_of (domain_parts R.number self.now))) f.new }
-        ensures styled { WritesStyledOnOk W.write_str_gives f.old result (list_text 16 false (items R.BITS O.at_of (domain_parts R.number self.now))) f.new }
+        ensures writes { WritesOnOk W.write_str_gives f.old result
+            (list_text 16 false (items R.BITS O.at_of (domain_parts R.number self.now))) f.new }
+        ensures styled { WritesStyledOnOk W.write_str_gives f.old result
+            (list_text 16 false (items R.BITS O.at_of (domain_parts R.number self.now))) f.new }
     {
         write_items(self, f, 16, false)
     }
@@ -110,11 +121,13 @@ impl<'a, R: BitRegister, O: BitOrder<R>> fmt::LowerHex for Domain<'a, R, O> {
 
 /// The items in hexadecimal, with capital letters.
 impl<'a, R: BitRegister, O: BitOrder<R>> fmt::UpperHex for Domain<'a, R, O> {
-    ghost use Rattle.bitvec_domain.specs.DomainView.{domain_parts};
+    ghost use Rattle.bitvec_domain.specs.Domain.{domain_parts};
 
     fn fmt<W: fmt::Write>(&self, f: &mut fmt::Formatter<W>) -> fmt::Result
-        ensures writes { WritesOnOk W.write_str_gives f.old result (list_text 16 true (items R.BITS O.at_of (domain_parts R.number self.now))) f.new }
-        ensures styled { WritesStyledOnOk W.write_str_gives f.old result (list_text 16 true (items R.BITS O.at_of (domain_parts R.number self.now))) f.new }
+        ensures writes { WritesOnOk W.write_str_gives f.old result
+            (list_text 16 true (items R.BITS O.at_of (domain_parts R.number self.now))) f.new }
+        ensures styled { WritesStyledOnOk W.write_str_gives f.old result
+            (list_text 16 true (items R.BITS O.at_of (domain_parts R.number self.now))) f.new }
     {
         write_items(self, f, 16, true)
     }

@@ -1,15 +1,17 @@
-//! Lists of bits written into spans, by the runs of bits that a memory is lent as.
+//! Lists of bits written into spans, by the stretches of bits that a memory is lent as.
 
-ghost use Rattle.std.specs.Prelude.{◌≡◌, ℕ, pos, nat_abs, ◌+◌, ◌*◌, ◌≤◌, IfSome, Some, None, if◌then◌else◌, length, map};
+ghost use Rattle.std.specs.Prelude.{◌≡◌, ℕ, pos, nat_abs, ◌+◌, ◌*◌, ◌≤◌, IfSome, Some, None};
+ghost use Rattle.std.specs.Prelude.{if◌then◌else◌, length, map};
 ghost use Rattle.bitvec_ptr.specs.Memory.{bit_of};
 ghost use Rattle.bitvec_domain.specs.Span.{Covers, Fits, list_of};
 ghost use Rattle.bitvec_domain.specs.Loans.{has_head, has_tail};
 ghost use Rattle.bitvec_domain.specs.Lending.{name_of};
 ghost use Rattle.bitvec_domain.specs.Pieces.{names_of};
 ghost use Rattle.bitvec_domain.specs.BitLoans.{names_if};
-ghost use Rattle.bitvec_domain.specs.Written.{IsWritten, RunIsWritten, body_place, tail_place};
-ghost use Rattle.bitvec_domain.specs.WordsMutView.{words_memory, stretch_in};
-ghost use Rattle.bitvec_domain.specs.BitLoansView.{run_names, run_places, run_words};
+ghost use Rattle.bitvec_domain.specs.Written.{IsWritten, StretchIsWritten, body_place, tail_place};
+ghost use Rattle.bitvec_domain.specs.BitWordsMut.{words_memory, stretch_in};
+ghost use Rattle.bitvec_domain.specs.BitDomainMut.{bit_loan_names, bit_loan_stretches};
+ghost use Rattle.bitvec_domain.specs.BitDomainMut.{bit_loan_words};
 
 use crate::domain::{BitDomainMut, BitWordsMut};
 use crate::lend::Pieces;
@@ -21,9 +23,11 @@ impl<'a, R: BitRegister, O: BitOrder<R>> BitWordsMut<'a, R, O> {
     // Makes its bits those of a list from the element `from` on.
     fn write_from(&mut self, bits: &[bool], from: usize)
         requires { from + (stretch_in self.old).len ≤ length bits.now }
-        ensures reference { (words_memory self.new).ghost_name ≡ (words_memory self.old).ghost_name }
+        ensures reference { (words_memory self.new).ghost_name
+            ≡ (words_memory self.old).ghost_name }
         ensures stretch { stretch_in self.new ≡ stretch_in self.old }
-        ensures written { RunIsWritten R.BITS O.at_of bits.now from (stretch_in self.old) (map R.number (words_memory self.old).now) (map R.number (words_memory self.new).now) }
+        ensures written { StretchIsWritten R.BITS O.at_of bits.now from (stretch_in self.old)
+            (map R.number (words_memory self.old).now) (map R.number (words_memory self.new).now) }
     {
         for i in 0..self.len() {
             self.replace(i, bits[from + i]);
@@ -31,59 +35,73 @@ impl<'a, R: BitRegister, O: BitOrder<R>> BitWordsMut<'a, R, O> {
     }
 }
 
-// Makes the bits of a run those of a list from an element on, and gives the words that it borrows.
-fn write_run<'a, R: BitRegister, O: BitOrder<R>>(
-    run: BitWordsMut<'a, R, O>,
+// Makes the bits of a stretch those of a list from an element on, and gives the words that it
+// borrows.
+fn write_stretch<'a, R: BitRegister, O: BitOrder<R>>(
+    stretch: BitWordsMut<'a, R, O>,
     bits: &[bool],
     from: usize,
 ) -> &'a mut [R]
-    requires { from + (stretch_in run).len ≤ length bits.now }
-    ensures reference { result.ghost_name ≡ (words_memory run.entry).ghost_name }
-    ensures written { RunIsWritten R.BITS O.at_of bits.now from (stretch_in run.entry) (map R.number (words_memory run.entry).now) (map R.number result.now) }
+    requires { from + (stretch_in stretch).len ≤ length bits.now }
+    ensures reference { result.ghost_name ≡ (words_memory stretch.entry).ghost_name }
+    ensures written { StretchIsWritten R.BITS O.at_of bits.now from (stretch_in stretch.entry)
+        (map R.number (words_memory stretch.entry).now) (map R.number result.now) }
 {
-    let mut run = run;
-    run.write_from(bits, from);
-    run.into_memory()
+    let mut stretch = stretch;
+    stretch.write_from(bits, from);
+    stretch.into_memory()
 }
 
-// The same of a run that is in the memory; another is let go.
-fn write_run_if<'a, R: BitRegister, O: BitOrder<R>>(
-    run: BitWordsMut<'a, R, O>,
+// The same of a stretch that is in the memory; another is let go.
+fn write_stretch_if<'a, R: BitRegister, O: BitOrder<R>>(
+    stretch: BitWordsMut<'a, R, O>,
     bits: &[bool],
     from: usize,
     present: bool,
 ) -> Option<&'a mut [R]>
-    requires { from + (stretch_in run).len ≤ length bits.now }
-    ensures reference { name_of result ≡ (if present then Some (words_memory run.entry).ghost_name else None) }
-    ensures written { IfSome result (λ r. RunIsWritten R.BITS O.at_of bits.now from (stretch_in run.entry) (map R.number (words_memory run.entry).now) (map R.number r.now)) }
+    requires { from + (stretch_in stretch).len ≤ length bits.now }
+    ensures reference { name_of result
+        ≡ (if present then Some (words_memory stretch.entry).ghost_name else None) }
+    ensures written { IfSome result
+        (λ r. StretchIsWritten R.BITS O.at_of bits.now from (stretch_in stretch.entry)
+        (map R.number (words_memory stretch.entry).now) (map R.number r.now)) }
 {
     if present {
-        Some(write_run(run, bits, from))
+        Some(write_stretch(stretch, bits, from))
     } else {
         None
     }
 }
 
-// Makes the bits of a domain those of a list, and gives the words that it borrows. `head` and `tail`
-// say whether those runs are in the memory.
+// Makes the bits of a domain those of a list, and gives the words that it borrows. `head` and
+// `tail` say whether those stretches are in the memory.
 fn write_domain<'a, R: BitRegister, O: BitOrder<R>>(
     domain: BitDomainMut<'a, R, O>,
     bits: &[bool],
     head: bool,
     tail: bool,
 ) -> Pieces<'a, R>
-    requires { (run_places domain).0.len + ((body_place (run_places domain)).len + (tail_place (run_places domain)).len) ≤ length bits.now }
-    ensures names { names_of result ≡ names_if head tail (run_names domain.entry) }
-    ensures front { IfSome result.front (λ r. RunIsWritten R.BITS O.at_of bits.now 0 (run_places domain.entry).0
-        (map R.number (run_words domain.entry).0) (map R.number r.now)) }
-    ensures body { IfSome result.body (λ r. RunIsWritten R.BITS O.at_of bits.now (run_places domain.entry).0.len (body_place (run_places domain.entry))
-        (map R.number (run_words domain.entry).1) (map R.number r.now)) }
-    ensures back { IfSome result.back (λ r. RunIsWritten R.BITS O.at_of bits.now ((run_places domain.entry).0.len + (body_place (run_places domain.entry)).len) (tail_place (run_places domain.entry))
-        (map R.number (run_words domain.entry).2) (map R.number r.now)) }
+    requires { (bit_loan_stretches domain).0.len +
+        ((body_place (bit_loan_stretches domain)).len +
+        (tail_place (bit_loan_stretches domain)).len) ≤ length bits.now }
+    ensures names { names_of result ≡ names_if head tail (bit_loan_names domain.entry) }
+    ensures front { IfSome result.front
+        (λ r. StretchIsWritten R.BITS O.at_of bits.now 0 (bit_loan_stretches domain.entry).0
+        (map R.number (bit_loan_words domain.entry).0) (map R.number r.now)) }
+    ensures body { IfSome result.body
+        (λ r. StretchIsWritten R.BITS O.at_of bits.now (bit_loan_stretches domain.entry).0.len
+        (body_place (bit_loan_stretches domain.entry))
+        (map R.number (bit_loan_words domain.entry).1) (map R.number r.now)) }
+    ensures back { IfSome result.back
+        (λ r. StretchIsWritten R.BITS O.at_of bits.now
+        ((bit_loan_stretches domain.entry).0.len +
+        (body_place (bit_loan_stretches domain.entry)).len)
+        (tail_place (bit_loan_stretches domain.entry))
+        (map R.number (bit_loan_words domain.entry).2) (map R.number r.now)) }
 {
     match domain {
-        BitDomainMut::Enclave(run) => Pieces {
-            front: Some(write_run(run, bits, 0)),
+        BitDomainMut::Enclave(stretch) => Pieces {
+            front: Some(write_stretch(stretch, bits, 0)),
             body: None,
             back: None,
         },
@@ -94,9 +112,9 @@ fn write_domain<'a, R: BitRegister, O: BitOrder<R>>(
         } => {
             let before = first.len();
             let upto = before + middle.len();
-            let front = write_run_if(first, bits, 0, head);
-            let body = Some(write_run(middle, bits, before));
-            let back = write_run_if(last, bits, upto, tail);
+            let front = write_stretch_if(first, bits, 0, head);
+            let body = Some(write_stretch(middle, bits, before));
+            let back = write_stretch_if(last, bits, upto, tail);
             Pieces { front, body, back }
         }
     }
@@ -105,13 +123,14 @@ fn write_domain<'a, R: BitRegister, O: BitOrder<R>>(
 impl<R: BitRegister, O: BitOrder<R>> BitSpan<R, O> {
     ghost use Rattle.bitvec_domain.specs.BitSpan.{span_of};
 
-    // Makes the bits of the span in a memory those of a list, by the runs that the memory is lent as.
-    // `head` and `tail` say whether those runs are in the memory.
+    // Makes the bits of the span in a memory those of a list, by the stretches that the memory is
+    // lent as. `head` and `tail` say whether those stretches are in the memory.
     fn write_pieces(self, memory: &mut [R], bits: &[bool], head: bool, tail: bool)
         requires { Fits R.BITS (span_of self) (length memory.old)
             × ((length bits.now ≡ (span_of self).len)
             × ((head ≡ has_head (span_of self)) × (tail ≡ has_tail R.BITS (span_of self)))) }
-        ensures { IsWritten R.BITS O.at_of bits.now 0 (nat_abs (span_of self).word * R.BITS + (span_of self).head) (span_of self).len
+        ensures { IsWritten R.BITS O.at_of bits.now 0
+            (nat_abs (span_of self).word * R.BITS + (span_of self).head) (span_of self).len
             (map R.number memory.old) (map R.number memory.new) }
     {
         let domain = self.bit_domain_mut(memory);
@@ -122,8 +141,8 @@ impl<R: BitRegister, O: BitOrder<R>> BitSpan<R, O> {
         } = write_domain(domain, bits, head, tail);
     }
 
-    /// Makes the bits of the span in a memory those of a list of as many, and leaves every other bit
-    /// as it is.
+    /// Makes the bits of the span in a memory those of a list of as many, and leaves every other
+    /// bit as it is.
     ///
     /// Requires a span that [`fits`](BitSpan::fits). Our own, for the Rust crate's
     /// `BitSlice::clone_from_bitslice`.
@@ -132,7 +151,8 @@ impl<R: BitRegister, O: BitOrder<R>> BitSpan<R, O> {
         requires len { length bits.now ≡ (span_of self).len }
         ensures list { list_of R.BITS O.at_of (span_of self) (map R.number memory.new) ≡ bits.now }
         ensures others { (place : ℕ) → ¬ Covers R.BITS (span_of self) (pos place)
-            → bit_of R.BITS O.at_of (map R.number memory.new) place ≡ bit_of R.BITS O.at_of (map R.number memory.old) place }
+            → bit_of R.BITS O.at_of (map R.number memory.new) place
+            ≡ bit_of R.BITS O.at_of (map R.number memory.old) place }
         ensures words { length memory.new ≡ length memory.old }
     {
         let head = self.has_head();

@@ -1,16 +1,19 @@
 //! Spans of bits: the interval of places from a bit of a word on.
 
-ghost use Rattle.std.specs.Prelude.{◌≡◌, ⊤, ℕ, ℤ, pos, ◌+◌, ◌-◌, ◌*◌, ◌/◌, ◌%◌, ◌==◌, if◌then◌else◌, ◌+ℤ◌, ◌≤ℤ◌, ◌<ℤ◌, ◌<◌, ◌≤◌, ◌↔◌, IsTrue, IsOk, IfOk, ◌++◌, codes, Some};
+ghost use Rattle.std.specs.Prelude.{◌≡◌, ⊤, ℕ, ℤ, pos, ◌+◌, ◌-◌, ◌*◌, ◌/◌, ◌%◌, ◌==◌};
+ghost use Rattle.std.specs.Prelude.{if◌then◌else◌, ◌+ℤ◌, ◌≤ℤ◌, ◌<ℤ◌, ◌<◌, ◌≤◌, ◌↔◌, IsTrue, IsOk};
+ghost use Rattle.std.specs.Prelude.{IfOk, ◌++◌, codes, Some};
 ghost use Rattle.std.specs.Int.{int_div_euclid};
 ghost use Rattle.std.specs.Fmt.{DisplaysOnOk, WritesStyledOnOk};
 ghost use Rattle.bitvec_ptr.specs.Place.{place_at, place_of, words_met, tail_of};
 ghost use Rattle.bitvec_ptr.specs.Steps.{CanOffset, IsIn};
 ghost use Rattle.bitvec_domain.specs.Span.{region_max_bits, Fits, AreDisjoint, span_places};
 ghost use Rattle.bitvec_domain.specs.SpanText.{case_text};
-ghost use Rattle.bitvec_domain.specs.Refusals.{signed_text, too_long_text, too_high_text, error_name, too_long_case, too_high_case};
+ghost use Rattle.bitvec_domain.specs.Refusals.{signed_text, too_long_text, too_high_text};
+ghost use Rattle.bitvec_domain.specs.Refusals.{error_name, too_long_case, too_high_case};
 
-use bitvec_mem::digits::write_numeral;
 use bitvec_mem::mem::BitRegister;
+use bitvec_mem::numeral::write_numeral;
 use bitvec_order::index::{BitEnd, BitIdx};
 use bitvec_order::order::Lsb0;
 use bitvec_ptr::ptr::range::BitPtrRange;
@@ -127,8 +130,10 @@ impl<R: BitRegister> fmt::Debug for BitSpanError<R> {
     ghost debug_output = { λ e. Some (refusal_debug_text R.name e) };
 
     fn fmt<W: fmt::Write>(&self, f: &mut fmt::Formatter<W>) -> fmt::Result
-        ensures writes { DisplaysOnOk W.write_str_gives f.old result (Some (refusal_debug_text R.name self.now)) f.new }
-        ensures styled { WritesStyledOnOk W.write_str_gives f.old result (refusal_debug_text R.name self.now) f.new }
+        ensures writes { DisplaysOnOk W.write_str_gives f.old result
+            (Some (refusal_debug_text R.name self.now)) f.new }
+        ensures styled { WritesStyledOnOk W.write_str_gives f.old result
+            (refusal_debug_text R.name self.now) f.new }
     {
         write_error_name::<R, W>(f)?;
         write_case::<R, W>(f, *self)
@@ -149,7 +154,8 @@ pub struct BitSpan<R: BitRegister = usize, O = Lsb0> {
     of: PhantomData<(R, O)>,
     pub ghost in_word: { head ≤ R.BITS - 1 },
     pub ghost short: { len ≤ region_max_bits },
-    pub ghost low: { int_div_euclid (place_at R.BITS word head +ℤ pos len) (pos R.BITS) ≤ℤ pos 9223372036854775807 },
+    pub ghost low: { int_div_euclid (place_at R.BITS word head +ℤ pos len) (pos R.BITS) ≤ℤ pos
+        9223372036854775807 },
 }
 
 impl<R: BitRegister, O> Clone for BitSpan<R, O> {
@@ -164,8 +170,8 @@ impl<R: BitRegister, O> Clone for BitSpan<R, O> {
 
 /// The span of no bits, and how many bits and words a span can meet.
 ///
-/// `BitSpan::EMPTY` and the like are read with this trait in scope: a constant of a generic type can
-/// say its value in a contract only as the item of a trait.
+/// `BitSpan::EMPTY` and the like are read with this trait in scope: a constant of a generic type
+/// can say its value in a contract only as the item of a trait.
 pub trait SpanLimits: Sized {
     /// No bits, from the first bit of the first word on.
     const EMPTY: Self;
@@ -213,7 +219,8 @@ impl<R: BitRegister, O> SpanLimits for BitSpan<R, O> {
 
     ghost REGION_MAX_BITS = { region_max_bits };
 
-    ghost REGION_MAX_ELTS = { region_max_bits / R.BITS + (if region_max_bits % R.BITS == 0 then 0 else 1) + 1 };
+    ghost REGION_MAX_ELTS = { region_max_bits / R.BITS +
+        (if region_max_bits % R.BITS == 0 then 0 else 1) + 1 };
 }
 
 impl<R: BitRegister, O> BitSpan<R, O> {
@@ -224,16 +231,19 @@ impl<R: BitRegister, O> BitSpan<R, O> {
 
     /// The span of `bits` bits from the bit `head` of a word on.
     ///
-    /// It refuses, in this order: `TooLong(bits)` where there are more than 2305843009213693951, and
-    /// `TooHigh(word)` where the word in which the span ends passes the greatest `isize`. The bounds
-    /// are the Rust crate's; there the second is an address that wraps.
+    /// It refuses, in this order: `TooLong(bits)` where there are more than 2305843009213693951,
+    /// and `TooHigh(word)` where the word in which the span ends passes the greatest `isize`. The
+    /// bounds are the Rust crate's; there the second is an address that wraps.
     pub fn new(word: isize, head: BitIdx<R>, bits: usize) -> Result<Self, BitSpanError<R>>
         ensures accepted { IsOk result
-            ↔ ((bits ≤ region_max_bits) × (int_div_euclid (place_at R.BITS word head +ℤ pos bits) (pos R.BITS) ≤ℤ isize.MAX)) }
+            ↔ ((bits ≤ region_max_bits)
+            × (int_div_euclid (place_at R.BITS word head +ℤ pos bits) (pos R.BITS) ≤ℤ isize.MAX)) }
         ensures too_long { (result ≡ Err (BitSpanError.TooLong bits)) ↔ (region_max_bits < bits) }
         ensures too_high { (result ≡ Err (BitSpanError.TooHigh word (record {})))
-            ↔ ((bits ≤ region_max_bits) × (isize.MAX <ℤ int_div_euclid (place_at R.BITS word head +ℤ pos bits) (pos R.BITS))) }
-        ensures span { IfOk result (λ s. span_of s ≡ record { word = word; head = head; len = bits }) }
+            ↔ ((bits ≤ region_max_bits)
+            × (isize.MAX <ℤ int_div_euclid (place_at R.BITS word head +ℤ pos bits) (pos R.BITS))) }
+        ensures span { IfOk result (λ s. span_of s
+            ≡ record { word = word; head = head; len = bits }) }
     {
         if bits > MAX_BITS {
             return Err(BitSpanError::TooLong(bits));
@@ -251,17 +261,22 @@ impl<R: BitRegister, O> BitSpan<R, O> {
         })
     }
 
-    /// The span of `bits` bits from a pointer on, refused as [`new`](BitSpan::new) of its word and bit
-    /// is.
+    /// The span of `bits` bits from a pointer on, refused as [`new`](BitSpan::new) of its word and
+    /// bit is.
     ///
     /// Our own, for the Rust crate's private `BitPtr::span`.
     pub fn from_bitptr(pointer: BitPtr<R, O>, bits: usize) -> Result<Self, BitSpanError<R>>
         ensures accepted { IsOk result
-            ↔ ((bits ≤ region_max_bits) × (int_div_euclid (place_of R.BITS (ptr_of pointer) +ℤ pos bits) (pos R.BITS) ≤ℤ isize.MAX)) }
+            ↔ ((bits ≤ region_max_bits)
+            × (int_div_euclid (place_of R.BITS (ptr_of pointer) +ℤ pos bits) (pos R.BITS)
+            ≤ℤ isize.MAX)) }
         ensures too_long { (result ≡ Err (BitSpanError.TooLong bits)) ↔ (region_max_bits < bits) }
         ensures too_high { (result ≡ Err (BitSpanError.TooHigh (ptr_of pointer).word (record {})))
-            ↔ ((bits ≤ region_max_bits) × (isize.MAX <ℤ int_div_euclid (place_of R.BITS (ptr_of pointer) +ℤ pos bits) (pos R.BITS))) }
-        ensures span { IfOk result (λ s. span_of s ≡ record { word = (ptr_of pointer).word; head = (ptr_of pointer).bit; len = bits }) }
+            ↔ ((bits ≤ region_max_bits)
+            × (isize.MAX <ℤ int_div_euclid (place_of R.BITS (ptr_of pointer) +ℤ pos bits)
+            (pos R.BITS))) }
+        ensures span { IfOk result (λ s. span_of s
+            ≡ record { word = (ptr_of pointer).word; head = (ptr_of pointer).bit; len = bits }) }
     {
         Self::new(pointer.address(), pointer.bit(), bits)
     }
@@ -308,10 +323,14 @@ impl<R: BitRegister, O> BitSpan<R, O> {
     /// It may be moved on by up to the span's length, and by less than that it lies in each memory
     /// that the span [`fits`](BitSpan::fits).
     pub fn to_bitptr(self) -> BitPtr<R, O>
-        ensures pointer { ptr_of result ≡ record { word = (span_of self).word; bit = (span_of self).head } }
-        ensures steps { (index : ℕ) → index ≤ (span_of self).len → CanOffset R.BITS (ptr_of result) (pos index) }
-        ensures inside { (index words bit : ℕ) (word : ℤ) → place_at R.BITS word bit ≡ place_of R.BITS (ptr_of result) +ℤ pos index
-            → index < (span_of self).len → bit ≤ R.BITS - 1 → Fits R.BITS (span_of self) words → IsIn (record { word = word; bit = bit }) words }
+        ensures pointer { ptr_of result
+            ≡ record { word = (span_of self).word; bit = (span_of self).head } }
+        ensures steps { (index : ℕ) → index ≤ (span_of self).len
+            → CanOffset R.BITS (ptr_of result) (pos index) }
+        ensures inside { (index words bit : ℕ) (word : ℤ) → place_at R.BITS word bit
+            ≡ place_of R.BITS (ptr_of result) +ℤ pos index → index < (span_of self).len
+            → bit ≤ R.BITS - 1 → Fits R.BITS (span_of self) words
+            → IsIn (record { word = word; bit = bit }) words }
     {
         BitPtr::new(self.word, self.head())
     }
@@ -322,16 +341,20 @@ impl<R: BitRegister, O> BitSpan<R, O> {
     /// [`fits`](BitSpan::fits). Our own.
     pub fn bitptr(self, index: usize) -> BitPtr<R, O>
         requires { index < (span_of self).len }
-        ensures place { place_of R.BITS (ptr_of result) ≡ place_at R.BITS (span_of self).word (span_of self).head +ℤ pos index }
-        ensures inside { (words : ℕ) → Fits R.BITS (span_of self) words → IsIn (ptr_of result) words }
+        ensures place { place_of R.BITS (ptr_of result)
+            ≡ place_at R.BITS (span_of self).word (span_of self).head +ℤ pos index }
+        ensures inside { (words : ℕ) → Fits R.BITS (span_of self) words
+            → IsIn (ptr_of result) words }
     {
         self.to_bitptr().add(index)
     }
 
     /// The pointers to the span's bits, in order.
     pub fn to_bitptr_range(self) -> BitPtrRange<R, O>
-        ensures start { (range_of result).start ≡ record { word = (span_of self).word; bit = (span_of self).head } }
-        ensures end { place_of R.BITS (range_of result).end ≡ place_at R.BITS (span_of self).word (span_of self).head +ℤ pos (span_of self).len }
+        ensures start { (range_of result).start
+            ≡ record { word = (span_of self).word; bit = (span_of self).head } }
+        ensures end { place_of R.BITS (range_of result).end
+            ≡ place_at R.BITS (span_of self).word (span_of self).head +ℤ pos (span_of self).len }
         ensures places { places_of R.BITS (range_of result) ≡ span_places R.BITS (span_of self) }
     {
         self.to_bitptr().range(self.len)
@@ -355,8 +378,8 @@ impl<R: BitRegister, O> BitSpan<R, O> {
     }
 
     /// Whether the words that the span meets are among the first `words` of a memory. For an empty
-    /// span, which meets no word, it is whether its word is from 0 to `words`, so that the place behind
-    /// the last word is let in. Our own.
+    /// span, which meets no word, it is whether its word is from 0 to `words`, so that the place
+    /// behind the last word is let in. Our own.
     pub fn fits(&self, words: usize) -> bool
         ensures { IsTrue result ↔ Fits R.BITS (span_of self.now) words }
     {

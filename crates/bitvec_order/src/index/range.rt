@@ -1,7 +1,7 @@
 //! The iterators over a register's indices, ends, positions and selectors.
 //!
-//! Each gives its items in rising order. Taken from both ends in any mixture it gives each item once,
-//! and then `None` for good. The Rust crate has them as unnamed types.
+//! Each gives its items in rising order. Taken from both ends in any mixture it gives each item
+//! once, and then `None` for good. The Rust crate has them as unnamed types.
 
 ghost use Rattle.std.specs.Prelude.{◌≡◌, ◌+◌, ◌≤◌, length};
 ghost use Rattle.bitvec_order.specs.Index.{numbers_between, powers_between};

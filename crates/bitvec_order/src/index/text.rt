@@ -1,7 +1,8 @@
 //! The texts of indices, ends, positions, selectors, masks and the error of an index.
 //!
-//! They are those of the Rust crate without flags, and none follows the caller's flags, as a width or
-//! a fill. The contracts say what is written where a call succeeds and the formatter indents nothing.
+//! They are those of the Rust crate without flags, and none follows the caller's flags, as a width
+//! or a fill. The contracts say what is written where a call succeeds and the formatter indents
+//! nothing.
 
 ghost use Rattle.std.specs.Prelude.{◌≡◌, ◌⊎◌, ◌+◌, ◌≤◌, false, Some, codes};
 ghost use Rattle.std.specs.Fmt.{DisplaysOnOk, WritesOnOk, WritesStyledOnOk};
@@ -9,8 +10,8 @@ ghost use Rattle.bitvec_mem.specs.Numeral.{numeral};
 ghost use Rattle.bitvec_order.specs.Text.{binary_text, decimal_text, debug_text, too_large_text};
 
 use crate::index::{BitEnd, BitIdx, BitIdxError, BitMask, BitPos, BitSel};
-use bitvec_mem::digits::write_numeral;
 use bitvec_mem::mem::BitRegister;
+use bitvec_mem::numeral::write_numeral;
 use std::error::Error;
 use std::fmt;
 
@@ -40,8 +41,10 @@ fn write_debug<R: BitRegister, W: fmt::Write>(
 /// The number in binary, to as many digits as an index of the register needs.
 impl<R: BitRegister> fmt::Binary for BitIdx<R> {
     fn fmt<W: fmt::Write>(&self, f: &mut fmt::Formatter<W>) -> fmt::Result
-        ensures writes { WritesOnOk W.write_str_gives f.old result (binary_text R.INDX self.now) f.new }
-        ensures styled { WritesStyledOnOk W.write_str_gives f.old result (binary_text R.INDX self.now) f.new }
+        ensures writes { WritesOnOk W.write_str_gives f.old result (binary_text R.INDX self.now)
+            f.new }
+        ensures styled { WritesStyledOnOk W.write_str_gives f.old result
+            (binary_text R.INDX self.now) f.new }
     {
         let index = u128::from(self.into_inner());
         write_numeral(f, index, 2, false, usize::from(R::INDX))
@@ -106,8 +109,10 @@ impl<R: BitRegister> Error for BitIdxError<R> {}
 /// The number in binary, to one digit more than an index, so that the width fits.
 impl<R: BitRegister> fmt::Binary for BitEnd<R> {
     fn fmt<W: fmt::Write>(&self, f: &mut fmt::Formatter<W>) -> fmt::Result
-        ensures writes { WritesOnOk W.write_str_gives f.old result (binary_text (R.INDX + 1) self.now) f.new }
-        ensures styled { WritesStyledOnOk W.write_str_gives f.old result (binary_text (R.INDX + 1) self.now) f.new }
+        ensures writes { WritesOnOk W.write_str_gives f.old result
+            (binary_text (R.INDX + 1) self.now) f.new }
+        ensures styled { WritesStyledOnOk W.write_str_gives f.old result
+            (binary_text (R.INDX + 1) self.now) f.new }
     {
         let end = u128::from(self.into_inner());
         write_numeral(f, end, 2, false, usize::from(R::INDX) + 1)
@@ -125,7 +130,8 @@ impl<R: BitRegister> fmt::Display for BitEnd<R> {
 }
 
 impl<R: BitRegister> fmt::Debug for BitEnd<R> {
-    ghost debug_output = { λ e. Some (debug_text (codes "BitEnd") R.name (binary_text (R.INDX + 1) e)) };
+    ghost debug_output = { λ e. Some
+        (debug_text (codes "BitEnd") R.name (binary_text (R.INDX + 1) e)) };
 
     fn fmt<W: fmt::Write>(&self, f: &mut fmt::Formatter<W>) -> fmt::Result
         ensures writes { DisplaysOnOk W.write_str_gives f.old result
@@ -141,8 +147,10 @@ impl<R: BitRegister> fmt::Debug for BitEnd<R> {
 /// The number in binary, to as many digits as an index of the register needs.
 impl<R: BitRegister> fmt::Binary for BitPos<R> {
     fn fmt<W: fmt::Write>(&self, f: &mut fmt::Formatter<W>) -> fmt::Result
-        ensures writes { WritesOnOk W.write_str_gives f.old result (binary_text R.INDX self.now) f.new }
-        ensures styled { WritesStyledOnOk W.write_str_gives f.old result (binary_text R.INDX self.now) f.new }
+        ensures writes { WritesOnOk W.write_str_gives f.old result (binary_text R.INDX self.now)
+            f.new }
+        ensures styled { WritesStyledOnOk W.write_str_gives f.old result
+            (binary_text R.INDX self.now) f.new }
     {
         let position = u128::from(self.into_inner());
         write_numeral(f, position, 2, false, usize::from(R::INDX))
@@ -176,8 +184,10 @@ impl<R: BitRegister> fmt::Debug for BitPos<R> {
 /// The number in binary, to as many digits as the register has.
 impl<R: BitRegister> fmt::Binary for BitSel<R> {
     fn fmt<W: fmt::Write>(&self, f: &mut fmt::Formatter<W>) -> fmt::Result
-        ensures writes { WritesOnOk W.write_str_gives f.old result (binary_text R.BITS self.now) f.new }
-        ensures styled { WritesStyledOnOk W.write_str_gives f.old result (binary_text R.BITS self.now) f.new }
+        ensures writes { WritesOnOk W.write_str_gives f.old result (binary_text R.BITS self.now)
+            f.new }
+        ensures styled { WritesStyledOnOk W.write_str_gives f.old result
+            (binary_text R.BITS self.now) f.new }
     {
         let selector = self.into_inner().to_u128();
         write_numeral(f, selector, 2, false, usize::from(R::BITS))
@@ -211,8 +221,10 @@ impl<R: BitRegister> fmt::Debug for BitSel<R> {
 /// The number in binary, to as many digits as the register has.
 impl<R: BitRegister> fmt::Binary for BitMask<R> {
     fn fmt<W: fmt::Write>(&self, f: &mut fmt::Formatter<W>) -> fmt::Result
-        ensures writes { WritesOnOk W.write_str_gives f.old result (binary_text R.BITS self.now) f.new }
-        ensures styled { WritesStyledOnOk W.write_str_gives f.old result (binary_text R.BITS self.now) f.new }
+        ensures writes { WritesOnOk W.write_str_gives f.old result (binary_text R.BITS self.now)
+            f.new }
+        ensures styled { WritesStyledOnOk W.write_str_gives f.old result
+            (binary_text R.BITS self.now) f.new }
     {
         let mask = self.into_inner().to_u128();
         write_numeral(f, mask, 2, false, usize::from(R::BITS))

@@ -1,12 +1,13 @@
-//! Copies of runs of bits, between two memories and inside one.
+//! Copies of ranges of bits, between two memories and inside one.
 
-ghost use Rattle.std.specs.Prelude.{◌≡◌, ℕ, ℤ, pos, nat_abs, ◌+◌, ◌*◌, ◌<◌, ◌≤◌, ◌+ℤ◌, ◌≤ℤ◌, true, false, length, map};
+ghost use Rattle.std.specs.Prelude.{◌≡◌, ℕ, ℤ, pos, nat_abs, ◌+◌, ◌*◌, ◌<◌, ◌≤◌, ◌+ℤ◌, ◌≤ℤ◌, true};
+ghost use Rattle.std.specs.Prelude.{false, length, map};
 ghost use Rattle.std.specs.Int.{int_div_euclid};
 ghost use Rattle.bitvec_ptr.specs.BitPtr.{ptr_of};
-ghost use Rattle.bitvec_ptr.specs.Memory.{memory_bits, copied};
+ghost use Rattle.bitvec_ptr.specs.Memory.{memory_bits, list_with_copy};
 ghost use Rattle.bitvec_ptr.specs.Place.{place_of, index_of, words_met};
-ghost use Rattle.bitvec_ptr.specs.Steps.{RunsIn, AreApart};
-ghost use Rattle.bitvec_ptr.specs.WriterView.{writer_memory, writer_of};
+ghost use Rattle.bitvec_ptr.specs.Steps.{RangeIsIn, AreApart};
+ghost use Rattle.bitvec_ptr.specs.WordWriter.{writer_memory, writer_of};
 
 use crate::ptr::counted::{copy_across, move_across};
 use crate::ptr::cursor::Cursor;
@@ -19,11 +20,11 @@ impl<R: BitRegister, O: BitOrder<R>> BitPtr<R, O> {
     /// Copies `count` bits of `memory`, from this pointer on, to those from `dest` on of the memory
     /// that the writer borrows, and puts each word that they meet once and no other word.
     ///
-    /// Requires that [`run_in`](BitPtr::run_in) holds of each run, and, where there are bits to copy,
-    /// that the mark stands at the target: before its first word if the writer is a rising one, after
-    /// its last if it is a falling one. Then the mark stands at the target's other edge, and
-    /// [`writes`](WordWriter::writes) has grown by the number of words that the target meets. With
-    /// count 0 the writer stays as it is. Our own.
+    /// Requires that [`run_in`](BitPtr::run_in) holds of each range, and, where there are bits to
+    /// copy, that the mark stands at the target: before its first word if the writer is a rising
+    /// one, after its last if it is a falling one. Then the mark stands at the target's other edge,
+    /// and [`writes`](WordWriter::writes) has grown by the number of words that the target meets.
+    /// With count 0 the writer stays as it is. Our own.
     #[inline(always)]
     pub fn copy_through<R2: BitRegister, O2: BitOrder<R2>>(
         self,
@@ -32,23 +33,30 @@ impl<R: BitRegister, O: BitOrder<R>> BitPtr<R, O> {
         writer: &mut WordWriter<R2>,
         count: usize,
     )
-        requires from_in { RunsIn R.BITS (ptr_of self) (length memory.now) count }
-        requires to_in { RunsIn R2.BITS (ptr_of dest) (length (writer_of writer.old).words) count }
+        requires from_in { RangeIsIn R.BITS (ptr_of self) (length memory.now) count }
+        requires to_in { RangeIsIn R2.BITS (ptr_of dest) (length (writer_of writer.old).words)
+            count }
         requires rising { 0 < count → (writer_of writer.old).rising ≡ true
             → (writer_of writer.old).mark ≡ nat_abs (ptr_of dest).word }
         requires falling { 0 < count → (writer_of writer.old).rising ≡ false
-            → (writer_of writer.old).mark ≡ nat_abs (ptr_of dest).word + words_met R2.BITS (ptr_of dest).bit count }
-        ensures reference { (writer_memory writer.new).ghost_name ≡ (writer_memory writer.old).ghost_name }
+            → (writer_of writer.old).mark
+            ≡ nat_abs (ptr_of dest).word + words_met R2.BITS (ptr_of dest).bit count }
+        ensures reference { (writer_memory writer.new).ghost_name
+            ≡ (writer_memory writer.old).ghost_name }
         ensures direction { (writer_of writer.new).rising ≡ (writer_of writer.old).rising }
         ensures len { length (writer_of writer.new).words ≡ length (writer_of writer.old).words }
-        ensures writes { (writer_of writer.new).writes ≡ (writer_of writer.old).writes + words_met R2.BITS (ptr_of dest).bit count }
+        ensures writes { (writer_of writer.new).writes
+            ≡ (writer_of writer.old).writes + words_met R2.BITS (ptr_of dest).bit count }
         ensures rising_mark { 0 < count → (writer_of writer.old).rising ≡ true
-            → (writer_of writer.new).mark ≡ nat_abs (ptr_of dest).word + words_met R2.BITS (ptr_of dest).bit count }
+            → (writer_of writer.new).mark
+            ≡ nat_abs (ptr_of dest).word + words_met R2.BITS (ptr_of dest).bit count }
         ensures falling_mark { 0 < count → (writer_of writer.old).rising ≡ false
             → (writer_of writer.new).mark ≡ nat_abs (ptr_of dest).word }
         ensures bits { memory_bits R2.BITS O2.at_of (map R2.number (writer_of writer.new).words)
-            ≡ copied (memory_bits R.BITS O.at_of (map R.number memory.now)) (index_of R.BITS (ptr_of self))
-            (memory_bits R2.BITS O2.at_of (map R2.number (writer_of writer.old).words)) (index_of R2.BITS (ptr_of dest)) count }
+            ≡ list_with_copy (memory_bits R.BITS O.at_of (map R.number memory.now))
+            (index_of R.BITS (ptr_of self))
+            (memory_bits R2.BITS O2.at_of (map R2.number (writer_of writer.old).words))
+            (index_of R2.BITS (ptr_of dest)) count }
         ensures none { count ≡ 0 → writer_of writer.new ≡ writer_of writer.old }
     {
         if count == 0 {
@@ -57,36 +65,45 @@ impl<R: BitRegister, O: BitOrder<R>> BitPtr<R, O> {
         copy_across::<R, O, R2, O2>(memory, Cursor::at(self), writer, Cursor::at(dest), count);
     }
 
-    /// Copies `count` bits inside the memory that the writer borrows, from this pointer on, to those
-    /// from `dest` on, and puts each word that they meet once and no other word.
+    /// Copies `count` bits inside the memory that the writer borrows, from this pointer on, to
+    /// those from `dest` on, and puts each word that they meet once and no other word.
     ///
-    /// The two runs may overlap, and what is copied is what was there before the call. Requires what
-    /// [`copy_through`](BitPtr::copy_through) does, and, where there are bits to copy, a rising writer
-    /// where `dest` is at or before this pointer and a falling one otherwise. Mark and writes move as
-    /// there. Our own.
+    /// The two ranges may overlap, and what is copied is what was there before the call. Requires
+    /// what [`copy_through`](BitPtr::copy_through) does, and, where there are bits to copy, a
+    /// rising writer where `dest` is at or before this pointer and a falling one otherwise. Mark
+    /// and writes move as there. Our own.
     #[inline(always)]
     pub fn copy_within_through(self, dest: Self, writer: &mut WordWriter<R>, count: usize)
-        requires from_in { RunsIn R.BITS (ptr_of self) (length (writer_of writer.old).words) count }
-        requires to_in { RunsIn R.BITS (ptr_of dest) (length (writer_of writer.old).words) count }
+        requires from_in { RangeIsIn R.BITS (ptr_of self) (length (writer_of writer.old).words)
+            count }
+        requires to_in { RangeIsIn R.BITS (ptr_of dest) (length (writer_of writer.old).words)
+            count }
         requires rising { 0 < count → (writer_of writer.old).rising ≡ true
             → (writer_of writer.old).mark ≡ nat_abs (ptr_of dest).word }
         requires falling { 0 < count → (writer_of writer.old).rising ≡ false
-            → (writer_of writer.old).mark ≡ nat_abs (ptr_of dest).word + words_met R.BITS (ptr_of dest).bit count }
-        requires downwards { 0 < count → index_of R.BITS (ptr_of dest) ≤ index_of R.BITS (ptr_of self)
+            → (writer_of writer.old).mark
+            ≡ nat_abs (ptr_of dest).word + words_met R.BITS (ptr_of dest).bit count }
+        requires downwards { 0 < count
+            → index_of R.BITS (ptr_of dest) ≤ index_of R.BITS (ptr_of self)
             → (writer_of writer.old).rising ≡ true }
         requires upwards { 0 < count → index_of R.BITS (ptr_of self) < index_of R.BITS (ptr_of dest)
             → (writer_of writer.old).rising ≡ false }
-        ensures reference { (writer_memory writer.new).ghost_name ≡ (writer_memory writer.old).ghost_name }
+        ensures reference { (writer_memory writer.new).ghost_name
+            ≡ (writer_memory writer.old).ghost_name }
         ensures direction { (writer_of writer.new).rising ≡ (writer_of writer.old).rising }
         ensures len { length (writer_of writer.new).words ≡ length (writer_of writer.old).words }
-        ensures writes { (writer_of writer.new).writes ≡ (writer_of writer.old).writes + words_met R.BITS (ptr_of dest).bit count }
+        ensures writes { (writer_of writer.new).writes
+            ≡ (writer_of writer.old).writes + words_met R.BITS (ptr_of dest).bit count }
         ensures rising_mark { 0 < count → (writer_of writer.old).rising ≡ true
-            → (writer_of writer.new).mark ≡ nat_abs (ptr_of dest).word + words_met R.BITS (ptr_of dest).bit count }
+            → (writer_of writer.new).mark
+            ≡ nat_abs (ptr_of dest).word + words_met R.BITS (ptr_of dest).bit count }
         ensures falling_mark { 0 < count → (writer_of writer.old).rising ≡ false
             → (writer_of writer.new).mark ≡ nat_abs (ptr_of dest).word }
-        ensures bits { let old = memory_bits R.BITS O.at_of (map R.number (writer_of writer.old).words) in
-            memory_bits R.BITS O.at_of (map R.number (writer_of writer.new).words)
-            ≡ copied old (index_of R.BITS (ptr_of self)) old (index_of R.BITS (ptr_of dest)) count }
+        ensures bits { let old = memory_bits R.BITS O.at_of
+            (map R.number (writer_of writer.old).words)
+            in memory_bits R.BITS O.at_of (map R.number (writer_of writer.new).words)
+            ≡ list_with_copy old (index_of R.BITS (ptr_of self)) old (index_of R.BITS (ptr_of dest))
+            count }
         ensures none { count ≡ 0 → writer_of writer.new ≡ writer_of writer.old }
     {
         if count == 0 {
@@ -95,11 +112,11 @@ impl<R: BitRegister, O: BitOrder<R>> BitPtr<R, O> {
         move_across::<R, O>(Cursor::at(self), writer, Cursor::at(dest), count);
     }
 
-    /// Copies `count` bits of `memory`, from this pointer on, to those of `target` from `dest` on, and
-    /// changes no other bit: [`run_in`](BitPtr::run_in) is the test of each run.
+    /// Copies `count` bits of `memory`, from this pointer on, to those of `target` from `dest` on,
+    /// and changes no other bit: [`run_in`](BitPtr::run_in) is the test of each range.
     ///
-    /// Bit j of the one run becomes bit j of the other, whatever their registers and orders are. As in
-    /// the Rust crate, but for two memories that are handed in, and for any two registers.
+    /// Bit j of the one range becomes bit j of the other, whatever their registers and orders are.
+    /// As in the Rust crate, but for two memories that are handed in, and for any two registers.
     pub fn copy_to<R2: BitRegister, O2: BitOrder<R2>>(
         self,
         memory: &[R],
@@ -107,11 +124,13 @@ impl<R: BitRegister, O: BitOrder<R>> BitPtr<R, O> {
         target: &mut [R2],
         count: usize,
     )
-        requires from_in { RunsIn R.BITS (ptr_of self) (length memory.now) count }
-        requires to_in { RunsIn R2.BITS (ptr_of dest) (length target.old) count }
+        requires from_in { RangeIsIn R.BITS (ptr_of self) (length memory.now) count }
+        requires to_in { RangeIsIn R2.BITS (ptr_of dest) (length target.old) count }
         ensures bits { memory_bits R2.BITS O2.at_of (map R2.number target.new)
-            ≡ copied (memory_bits R.BITS O.at_of (map R.number memory.now)) (index_of R.BITS (ptr_of self))
-            (memory_bits R2.BITS O2.at_of (map R2.number target.old)) (index_of R2.BITS (ptr_of dest)) count }
+            ≡ list_with_copy (memory_bits R.BITS O.at_of (map R.number memory.now))
+            (index_of R.BITS (ptr_of self))
+            (memory_bits R2.BITS O2.at_of (map R2.number target.old))
+            (index_of R2.BITS (ptr_of dest)) count }
         ensures words { length target.new ≡ length target.old }
     {
         let to = Cursor::at(dest);
@@ -128,18 +147,20 @@ impl<R: BitRegister, O: BitOrder<R>> BitPtr<R, O> {
         target: &mut [R2],
         count: usize,
     )
-        requires from_in { RunsIn R.BITS (ptr_of self) (length memory.now) count }
-        requires to_in { RunsIn R2.BITS (ptr_of dest) (length target.old) count }
+        requires from_in { RangeIsIn R.BITS (ptr_of self) (length memory.now) count }
+        requires to_in { RangeIsIn R2.BITS (ptr_of dest) (length target.old) count }
         ensures bits { memory_bits R2.BITS O2.at_of (map R2.number target.new)
-            ≡ copied (memory_bits R.BITS O.at_of (map R.number memory.now)) (index_of R.BITS (ptr_of self))
-            (memory_bits R2.BITS O2.at_of (map R2.number target.old)) (index_of R2.BITS (ptr_of dest)) count }
+            ≡ list_with_copy (memory_bits R.BITS O.at_of (map R.number memory.now))
+            (index_of R.BITS (ptr_of self))
+            (memory_bits R2.BITS O2.at_of (map R2.number target.old))
+            (index_of R2.BITS (ptr_of dest)) count }
         ensures words { length target.new ≡ length target.old }
     {
         self.copy_to(memory, dest, target, count);
     }
 
-    /// Copies `count` bits of `source`, from `src` on, to those of `memory` from this pointer on, and
-    /// changes no other bit: [`run_in`](BitPtr::run_in) is the test of each run.
+    /// Copies `count` bits of `source`, from `src` on, to those of `memory` from this pointer on,
+    /// and changes no other bit: [`run_in`](BitPtr::run_in) is the test of each range.
     ///
     /// It is [`copy_to`](BitPtr::copy_to) with the two sides in each other's place, as in the Rust
     /// crate.
@@ -150,18 +171,19 @@ impl<R: BitRegister, O: BitOrder<R>> BitPtr<R, O> {
         source: &[R2],
         count: usize,
     )
-        requires from_in { RunsIn R2.BITS (ptr_of src) (length source.now) count }
-        requires to_in { RunsIn R.BITS (ptr_of self) (length memory.old) count }
+        requires from_in { RangeIsIn R2.BITS (ptr_of src) (length source.now) count }
+        requires to_in { RangeIsIn R.BITS (ptr_of self) (length memory.old) count }
         ensures bits { memory_bits R.BITS O.at_of (map R.number memory.new)
-            ≡ copied (memory_bits R2.BITS O2.at_of (map R2.number source.now)) (index_of R2.BITS (ptr_of src))
-            (memory_bits R.BITS O.at_of (map R.number memory.old)) (index_of R.BITS (ptr_of self)) count }
+            ≡ list_with_copy (memory_bits R2.BITS O2.at_of (map R2.number source.now))
+            (index_of R2.BITS (ptr_of src)) (memory_bits R.BITS O.at_of (map R.number memory.old))
+            (index_of R.BITS (ptr_of self)) count }
         ensures words { length memory.new ≡ length memory.old }
     {
         src.copy_to(source, self, memory, count);
     }
 
-    /// Another name of [`copy_from`](BitPtr::copy_from), since two memories never overlap. As in the
-    /// Rust crate.
+    /// Another name of [`copy_from`](BitPtr::copy_from), since two memories never overlap. As in
+    /// the Rust crate.
     pub fn copy_from_nonoverlapping<R2: BitRegister, O2: BitOrder<R2>>(
         self,
         memory: &mut [R],
@@ -169,27 +191,29 @@ impl<R: BitRegister, O: BitOrder<R>> BitPtr<R, O> {
         source: &[R2],
         count: usize,
     )
-        requires from_in { RunsIn R2.BITS (ptr_of src) (length source.now) count }
-        requires to_in { RunsIn R.BITS (ptr_of self) (length memory.old) count }
+        requires from_in { RangeIsIn R2.BITS (ptr_of src) (length source.now) count }
+        requires to_in { RangeIsIn R.BITS (ptr_of self) (length memory.old) count }
         ensures bits { memory_bits R.BITS O.at_of (map R.number memory.new)
-            ≡ copied (memory_bits R2.BITS O2.at_of (map R2.number source.now)) (index_of R2.BITS (ptr_of src))
-            (memory_bits R.BITS O.at_of (map R.number memory.old)) (index_of R.BITS (ptr_of self)) count }
+            ≡ list_with_copy (memory_bits R2.BITS O2.at_of (map R2.number source.now))
+            (index_of R2.BITS (ptr_of src)) (memory_bits R.BITS O.at_of (map R.number memory.old))
+            (index_of R.BITS (ptr_of self)) count }
         ensures words { length memory.new ≡ length memory.old }
     {
         self.copy_from(memory, src, source, count);
     }
 
-    /// Copies `count` bits of a memory, from this pointer on, to those from `dest` on, and changes no
-    /// other bit: [`run_in`](BitPtr::run_in) is the test of each run.
+    /// Copies `count` bits of a memory, from this pointer on, to those from `dest` on, and changes
+    /// no other bit: [`run_in`](BitPtr::run_in) is the test of each range.
     ///
-    /// The two runs may overlap, and what is copied is what was there before the call. Our own, for the
-    /// Rust crate's `copy_to` where both pointers are into one memory.
+    /// The two ranges may overlap, and what is copied is what was there before the call. Our own,
+    /// for the Rust crate's `copy_to` where both pointers are into one memory.
     pub fn copy_within(self, memory: &mut [R], dest: Self, count: usize)
-        requires from_in { RunsIn R.BITS (ptr_of self) (length memory.old) count }
-        requires to_in { RunsIn R.BITS (ptr_of dest) (length memory.old) count }
-        ensures bits { let old = memory_bits R.BITS O.at_of (map R.number memory.old) in
-            memory_bits R.BITS O.at_of (map R.number memory.new)
-            ≡ copied old (index_of R.BITS (ptr_of self)) old (index_of R.BITS (ptr_of dest)) count }
+        requires from_in { RangeIsIn R.BITS (ptr_of self) (length memory.old) count }
+        requires to_in { RangeIsIn R.BITS (ptr_of dest) (length memory.old) count }
+        ensures bits { let old = memory_bits R.BITS O.at_of (map R.number memory.old)
+            in memory_bits R.BITS O.at_of (map R.number memory.new)
+            ≡ list_with_copy old (index_of R.BITS (ptr_of self)) old (index_of R.BITS (ptr_of dest))
+            count }
         ensures words { length memory.new ≡ length memory.old }
     {
         let to = Cursor::at(dest);
@@ -199,38 +223,42 @@ impl<R: BitRegister, O: BitOrder<R>> BitPtr<R, O> {
         self.copy_within_through(dest, &mut writer, count);
     }
 
-    /// Copies `count` bits of a memory, from `src` on, to those from this pointer on, and changes no
-    /// other bit: [`run_in`](BitPtr::run_in) is the test of each run.
+    /// Copies `count` bits of a memory, from `src` on, to those from this pointer on, and changes
+    /// no other bit: [`run_in`](BitPtr::run_in) is the test of each range.
     ///
-    /// It is [`copy_within`](BitPtr::copy_within) with the two sides in each other's place. Our own, for
-    /// the Rust crate's `copy_from` where both pointers are into one memory.
+    /// It is [`copy_within`](BitPtr::copy_within) with the two sides in each other's place. Our
+    /// own, for the Rust crate's `copy_from` where both pointers are into one memory.
     pub fn copy_from_within(self, memory: &mut [R], src: Self, count: usize)
-        requires from_in { RunsIn R.BITS (ptr_of src) (length memory.old) count }
-        requires to_in { RunsIn R.BITS (ptr_of self) (length memory.old) count }
-        ensures bits { let old = memory_bits R.BITS O.at_of (map R.number memory.old) in
-            memory_bits R.BITS O.at_of (map R.number memory.new)
-            ≡ copied old (index_of R.BITS (ptr_of src)) old (index_of R.BITS (ptr_of self)) count }
+        requires from_in { RangeIsIn R.BITS (ptr_of src) (length memory.old) count }
+        requires to_in { RangeIsIn R.BITS (ptr_of self) (length memory.old) count }
+        ensures bits { let old = memory_bits R.BITS O.at_of (map R.number memory.old)
+            in memory_bits R.BITS O.at_of (map R.number memory.new)
+            ≡ list_with_copy old (index_of R.BITS (ptr_of src)) old (index_of R.BITS (ptr_of self))
+            count }
         ensures words { length memory.new ≡ length memory.old }
     {
         src.copy_within(memory, self, count);
     }
 
-    /// Copies as [`copy_within`](BitPtr::copy_within) does, between two runs that have no place in
-    /// common.
+    /// Copies as [`copy_within`](BitPtr::copy_within) does, between two ranges that have no place
+    /// in common.
     ///
-    /// Each is to be short enough for a span: at most 2305843009213693951 bits, and an `isize` for the
-    /// word of the place after the last. Our own, for the Rust crate's `copy_to_nonoverlapping` where
-    /// both pointers are into one memory.
+    /// Each is to be short enough for a span: at most 2305843009213693951 bits, and an `isize` for
+    /// the word of the place after the last. Our own, for the Rust crate's `copy_to_nonoverlapping`
+    /// where both pointers are into one memory.
     pub fn copy_within_nonoverlapping(self, memory: &mut [R], dest: Self, count: usize)
-        requires from_in { RunsIn R.BITS (ptr_of self) (length memory.old) count }
-        requires to_in { RunsIn R.BITS (ptr_of dest) (length memory.old) count }
+        requires from_in { RangeIsIn R.BITS (ptr_of self) (length memory.old) count }
+        requires to_in { RangeIsIn R.BITS (ptr_of dest) (length memory.old) count }
         requires short { count ≤ 2305843009213693951 }
-        requires from_low { int_div_euclid (place_of R.BITS (ptr_of self) +ℤ pos count) (pos R.BITS) ≤ℤ isize.MAX }
-        requires to_low { int_div_euclid (place_of R.BITS (ptr_of dest) +ℤ pos count) (pos R.BITS) ≤ℤ isize.MAX }
+        requires from_low { int_div_euclid (place_of R.BITS (ptr_of self) +ℤ pos count) (pos R.BITS)
+            ≤ℤ isize.MAX }
+        requires to_low { int_div_euclid (place_of R.BITS (ptr_of dest) +ℤ pos count) (pos R.BITS)
+            ≤ℤ isize.MAX }
         requires apart { AreApart R.BITS (ptr_of self) (ptr_of dest) count }
-        ensures bits { let old = memory_bits R.BITS O.at_of (map R.number memory.old) in
-            memory_bits R.BITS O.at_of (map R.number memory.new)
-            ≡ copied old (index_of R.BITS (ptr_of self)) old (index_of R.BITS (ptr_of dest)) count }
+        ensures bits { let old = memory_bits R.BITS O.at_of (map R.number memory.old)
+            in memory_bits R.BITS O.at_of (map R.number memory.new)
+            ≡ list_with_copy old (index_of R.BITS (ptr_of self)) old (index_of R.BITS (ptr_of dest))
+            count }
         ensures words { length memory.new ≡ length memory.old }
     {
         self.copy_within(memory, dest, count);

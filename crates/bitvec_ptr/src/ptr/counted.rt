@@ -1,14 +1,15 @@
 //! Copies through a writer: each word of the target is gathered and put once.
 //!
-//! The functions that loop over a writer are inlined as far as the function that makes the writer, so
-//! that its mark and count are kept in registers.
+//! The functions that loop over a writer are inlined as far as the function that makes the writer,
+//! so that its mark and count are kept in registers.
 
-ghost use Rattle.std.specs.Prelude.{◌≡◌, ℕ, ◌+◌, ◌-◌, ◌*◌, ◌<◌, ◌≤◌, ◌⊎◌, true, false, length, map, slice_index};
+ghost use Rattle.std.specs.Prelude.{◌≡◌, ℕ, ◌+◌, ◌-◌, ◌*◌, ◌<◌, ◌≤◌, ◌⊎◌, true, false, length, map};
+ghost use Rattle.std.specs.Prelude.{slice_index};
 ghost use Rattle.bitvec_mem.specs.Digit.{digit};
-ghost use Rattle.bitvec_ptr.specs.Memory.{bit_of, memory_bits, copied};
+ghost use Rattle.bitvec_ptr.specs.Memory.{bit_of, memory_bits, list_with_copy};
 ghost use Rattle.bitvec_ptr.specs.Place.{words_met};
 ghost use Rattle.bitvec_ptr.specs.Shifts.{Allows};
-ghost use Rattle.bitvec_ptr.specs.WriterView.{writer_memory, writer_of};
+ghost use Rattle.bitvec_ptr.specs.WordWriter.{writer_memory, writer_of};
 
 use crate::ptr::cursor::Cursor;
 use crate::ptr::shift::{Way, gathered, piece, way_of};
@@ -47,14 +48,16 @@ fn gathered_far<R: BitRegister, O: BitOrder<R>, R2: BitRegister, O2: BitOrder<R2
     gathered
 }
 
-// The two words of a memory that have `count` bits from a place on; the first twice where it has all.
+// The two words of a memory that have `count` bits from a place on; the first twice where it has
+// all.
 #[inline(always)]
 fn pair_from<R: BitRegister>(source: &[R], from: Cursor<R>, count: u8) -> (R, R)
     requires some { 0 < count }
     requires most { count ≤ R.BITS }
     requires from_in { from.word * R.BITS + from.bit + count ≤ length source.now * R.BITS }
     ensures low { R.number result.0 ≡ slice_index (map R.number source.now) from.word }
-    ensures high { R.BITS < from.bit + count → R.number result.1 ≡ slice_index (map R.number source.now) (from.word + 1) }
+    ensures high { R.BITS < from.bit + count → R.number result.1
+        ≡ slice_index (map R.number source.now) (from.word + 1) }
 {
     let low = source[from.word];
     if from.bit + count > R::BITS {
@@ -68,9 +71,12 @@ fn pair_from<R: BitRegister>(source: &[R], from: Cursor<R>, count: u8) -> (R, R)
 fn pair_in<R: BitRegister>(writer: &WordWriter<R>, from: Cursor<R>, count: u8) -> (R, R)
     requires some { 0 < count }
     requires most { count ≤ R.BITS }
-    requires from_in { from.word * R.BITS + from.bit + count ≤ length (writer_of writer.now).words * R.BITS }
-    ensures low { R.number result.0 ≡ slice_index (map R.number (writer_of writer.now).words) from.word }
-    ensures high { R.BITS < from.bit + count → R.number result.1 ≡ slice_index (map R.number (writer_of writer.now).words) (from.word + 1) }
+    requires from_in { from.word * R.BITS + from.bit + count ≤ length (writer_of writer.now).words *
+        R.BITS }
+    ensures low { R.number result.0 ≡ slice_index (map R.number (writer_of writer.now).words)
+        from.word }
+    ensures high { R.BITS < from.bit + count → R.number result.1
+        ≡ slice_index (map R.number (writer_of writer.now).words) (from.word + 1) }
 {
     let low = writer.get(from.word);
     if from.bit + count > R::BITS {
@@ -124,15 +130,20 @@ fn put_bits<R: BitRegister, O: BitOrder<R>, R2: BitRegister, O2: BitOrder<R2>>(
     requires to_in { to < length (writer_of writer.old).words }
     requires rising { (writer_of writer.old).rising ≡ true → (writer_of writer.old).mark ≤ to }
     requires falling { (writer_of writer.old).rising ≡ false → to < (writer_of writer.old).mark }
-    ensures reference { (writer_memory writer.new).ghost_name ≡ (writer_memory writer.old).ghost_name }
+    ensures reference { (writer_memory writer.new).ghost_name
+        ≡ (writer_memory writer.old).ghost_name }
     ensures direction { (writer_of writer.new).rising ≡ (writer_of writer.old).rising }
     ensures len { length (writer_of writer.new).words ≡ length (writer_of writer.old).words }
     ensures writes { (writer_of writer.new).writes ≡ (writer_of writer.old).writes + 1 }
-    ensures rising_mark { (writer_of writer.old).rising ≡ true → (writer_of writer.new).mark ≡ to + 1 }
-    ensures falling_mark { (writer_of writer.old).rising ≡ false → (writer_of writer.new).mark ≡ to }
+    ensures rising_mark { (writer_of writer.old).rising ≡ true → (writer_of writer.new).mark
+        ≡ to + 1 }
+    ensures falling_mark { (writer_of writer.old).rising ≡ false → (writer_of writer.new).mark
+        ≡ to }
     ensures bits { memory_bits R2.BITS O2.at_of (map R2.number (writer_of writer.new).words)
-        ≡ copied (memory_bits R.BITS O.at_of (map R.number source.now)) (from.word * R.BITS + from.bit)
-        (memory_bits R2.BITS O2.at_of (map R2.number (writer_of writer.old).words)) (to * R2.BITS + bit) count }
+        ≡ list_with_copy (memory_bits R.BITS O.at_of (map R.number source.now))
+        (from.word * R.BITS + from.bit)
+        (memory_bits R2.BITS O2.at_of (map R2.number (writer_of writer.old).words))
+        (to * R2.BITS + bit) count }
 {
     let old = writer.get(to);
     let word = gathered_from::<R, O, R2, O2>(way, source, from, old, bit, count);
@@ -152,19 +163,23 @@ fn move_bits<R: BitRegister, O: BitOrder<R>>(
     requires some { 0 < count }
     requires bit_in { bit + count ≤ R.BITS }
     requires way { Allows way R.BITS O.at_of R.BITS O.at_of from.bit bit }
-    requires from_in { from.word * R.BITS + from.bit + count ≤ length (writer_of writer.old).words * R.BITS }
+    requires from_in { from.word * R.BITS + from.bit + count ≤ length (writer_of writer.old).words *
+        R.BITS }
     requires to_in { to < length (writer_of writer.old).words }
     requires rising { (writer_of writer.old).rising ≡ true → (writer_of writer.old).mark ≤ to }
     requires falling { (writer_of writer.old).rising ≡ false → to < (writer_of writer.old).mark }
-    ensures reference { (writer_memory writer.new).ghost_name ≡ (writer_memory writer.old).ghost_name }
+    ensures reference { (writer_memory writer.new).ghost_name
+        ≡ (writer_memory writer.old).ghost_name }
     ensures direction { (writer_of writer.new).rising ≡ (writer_of writer.old).rising }
     ensures len { length (writer_of writer.new).words ≡ length (writer_of writer.old).words }
     ensures writes { (writer_of writer.new).writes ≡ (writer_of writer.old).writes + 1 }
-    ensures rising_mark { (writer_of writer.old).rising ≡ true → (writer_of writer.new).mark ≡ to + 1 }
-    ensures falling_mark { (writer_of writer.old).rising ≡ false → (writer_of writer.new).mark ≡ to }
-    ensures bits { let old = memory_bits R.BITS O.at_of (map R.number (writer_of writer.old).words) in
-        memory_bits R.BITS O.at_of (map R.number (writer_of writer.new).words)
-        ≡ copied old (from.word * R.BITS + from.bit) old (to * R.BITS + bit) count }
+    ensures rising_mark { (writer_of writer.old).rising ≡ true → (writer_of writer.new).mark
+        ≡ to + 1 }
+    ensures falling_mark { (writer_of writer.old).rising ≡ false → (writer_of writer.new).mark
+        ≡ to }
+    ensures bits { let old = memory_bits R.BITS O.at_of (map R.number (writer_of writer.old).words)
+        in memory_bits R.BITS O.at_of (map R.number (writer_of writer.new).words)
+        ≡ list_with_copy old (from.word * R.BITS + from.bit) old (to * R.BITS + bit) count }
 {
     let old = writer.get(to);
     let (low, high) = pair_in(writer, from, count);
@@ -184,18 +199,22 @@ fn put_row<R: BitRegister, O: BitOrder<R>, R2: BitRegister, O2: BitOrder<R2>>(
 )
     requires way { Allows way R.BITS O.at_of R2.BITS O2.at_of from.bit 0 }
     requires short { count * R2.BITS ≤ usize.MAX }
-    requires from_in { from.word * R.BITS + from.bit + count * R2.BITS ≤ length source.now * R.BITS }
+    requires from_in { from.word * R.BITS + from.bit + count * R2.BITS ≤ length source.now *
+        R.BITS }
     requires to_in { to + count ≤ length (writer_of writer.old).words }
     requires upwards { (writer_of writer.old).rising ≡ true }
     requires stands { (writer_of writer.old).mark ≡ to }
-    ensures reference { (writer_memory writer.new).ghost_name ≡ (writer_memory writer.old).ghost_name }
+    ensures reference { (writer_memory writer.new).ghost_name
+        ≡ (writer_memory writer.old).ghost_name }
     ensures direction { (writer_of writer.new).rising ≡ true }
     ensures len { length (writer_of writer.new).words ≡ length (writer_of writer.old).words }
     ensures writes { (writer_of writer.new).writes ≡ (writer_of writer.old).writes + count }
     ensures mark { (writer_of writer.new).mark ≡ to + count }
     ensures bits { memory_bits R2.BITS O2.at_of (map R2.number (writer_of writer.new).words)
-        ≡ copied (memory_bits R.BITS O.at_of (map R.number source.now)) (from.word * R.BITS + from.bit)
-        (memory_bits R2.BITS O2.at_of (map R2.number (writer_of writer.old).words)) (to * R2.BITS) (count * R2.BITS) }
+        ≡ list_with_copy (memory_bits R.BITS O.at_of (map R.number source.now))
+        (from.word * R.BITS + from.bit)
+        (memory_bits R2.BITS O2.at_of (map R2.number (writer_of writer.old).words)) (to * R2.BITS)
+        (count * R2.BITS) }
 {
     for k in 0..count {
         let read = from.words_on::<R2>(k);
@@ -215,18 +234,22 @@ fn put_row_down<R: BitRegister, O: BitOrder<R>, R2: BitRegister, O2: BitOrder<R2
 )
     requires way { Allows way R.BITS O.at_of R2.BITS O2.at_of from.bit 0 }
     requires short { count * R2.BITS ≤ usize.MAX }
-    requires from_in { from.word * R.BITS + from.bit + count * R2.BITS ≤ length source.now * R.BITS }
+    requires from_in { from.word * R.BITS + from.bit + count * R2.BITS ≤ length source.now *
+        R.BITS }
     requires to_in { to + count ≤ length (writer_of writer.old).words }
     requires downwards { (writer_of writer.old).rising ≡ false }
     requires stands { (writer_of writer.old).mark ≡ to + count }
-    ensures reference { (writer_memory writer.new).ghost_name ≡ (writer_memory writer.old).ghost_name }
+    ensures reference { (writer_memory writer.new).ghost_name
+        ≡ (writer_memory writer.old).ghost_name }
     ensures direction { (writer_of writer.new).rising ≡ false }
     ensures len { length (writer_of writer.new).words ≡ length (writer_of writer.old).words }
     ensures writes { (writer_of writer.new).writes ≡ (writer_of writer.old).writes + count }
     ensures mark { (writer_of writer.new).mark ≡ to }
     ensures bits { memory_bits R2.BITS O2.at_of (map R2.number (writer_of writer.new).words)
-        ≡ copied (memory_bits R.BITS O.at_of (map R.number source.now)) (from.word * R.BITS + from.bit)
-        (memory_bits R2.BITS O2.at_of (map R2.number (writer_of writer.old).words)) (to * R2.BITS) (count * R2.BITS) }
+        ≡ list_with_copy (memory_bits R.BITS O.at_of (map R.number source.now))
+        (from.word * R.BITS + from.bit)
+        (memory_bits R2.BITS O2.at_of (map R2.number (writer_of writer.old).words)) (to * R2.BITS)
+        (count * R2.BITS) }
 {
     for done in 0..count {
         let k = count - 1 - done;
@@ -246,19 +269,21 @@ fn move_row<R: BitRegister, O: BitOrder<R>>(
 )
     requires way { Allows way R.BITS O.at_of R.BITS O.at_of from.bit 0 }
     requires short { count * R.BITS ≤ usize.MAX }
-    requires from_in { from.word * R.BITS + from.bit + count * R.BITS ≤ length (writer_of writer.old).words * R.BITS }
+    requires from_in { from.word * R.BITS + from.bit + count * R.BITS ≤ length
+        (writer_of writer.old).words * R.BITS }
     requires to_in { to + count ≤ length (writer_of writer.old).words }
     requires before { to * R.BITS ≤ from.word * R.BITS + from.bit }
     requires upwards { (writer_of writer.old).rising ≡ true }
     requires stands { (writer_of writer.old).mark ≡ to }
-    ensures reference { (writer_memory writer.new).ghost_name ≡ (writer_memory writer.old).ghost_name }
+    ensures reference { (writer_memory writer.new).ghost_name
+        ≡ (writer_memory writer.old).ghost_name }
     ensures direction { (writer_of writer.new).rising ≡ true }
     ensures len { length (writer_of writer.new).words ≡ length (writer_of writer.old).words }
     ensures writes { (writer_of writer.new).writes ≡ (writer_of writer.old).writes + count }
     ensures mark { (writer_of writer.new).mark ≡ to + count }
-    ensures bits { let old = memory_bits R.BITS O.at_of (map R.number (writer_of writer.old).words) in
-        memory_bits R.BITS O.at_of (map R.number (writer_of writer.new).words)
-        ≡ copied old (from.word * R.BITS + from.bit) old (to * R.BITS) (count * R.BITS) }
+    ensures bits { let old = memory_bits R.BITS O.at_of (map R.number (writer_of writer.old).words)
+        in memory_bits R.BITS O.at_of (map R.number (writer_of writer.new).words)
+        ≡ list_with_copy old (from.word * R.BITS + from.bit) old (to * R.BITS) (count * R.BITS) }
 {
     for k in 0..count {
         let read = from.words_on::<R>(k);
@@ -277,19 +302,21 @@ fn move_row_down<R: BitRegister, O: BitOrder<R>>(
 )
     requires way { Allows way R.BITS O.at_of R.BITS O.at_of from.bit 0 }
     requires short { count * R.BITS ≤ usize.MAX }
-    requires from_in { from.word * R.BITS + from.bit + count * R.BITS ≤ length (writer_of writer.old).words * R.BITS }
+    requires from_in { from.word * R.BITS + from.bit + count * R.BITS ≤ length
+        (writer_of writer.old).words * R.BITS }
     requires to_in { to + count ≤ length (writer_of writer.old).words }
     requires behind { from.word * R.BITS + from.bit ≤ to * R.BITS }
     requires downwards { (writer_of writer.old).rising ≡ false }
     requires stands { (writer_of writer.old).mark ≡ to + count }
-    ensures reference { (writer_memory writer.new).ghost_name ≡ (writer_memory writer.old).ghost_name }
+    ensures reference { (writer_memory writer.new).ghost_name
+        ≡ (writer_memory writer.old).ghost_name }
     ensures direction { (writer_of writer.new).rising ≡ false }
     ensures len { length (writer_of writer.new).words ≡ length (writer_of writer.old).words }
     ensures writes { (writer_of writer.new).writes ≡ (writer_of writer.old).writes + count }
     ensures mark { (writer_of writer.new).mark ≡ to }
-    ensures bits { let old = memory_bits R.BITS O.at_of (map R.number (writer_of writer.old).words) in
-        memory_bits R.BITS O.at_of (map R.number (writer_of writer.new).words)
-        ≡ copied old (from.word * R.BITS + from.bit) old (to * R.BITS) (count * R.BITS) }
+    ensures bits { let old = memory_bits R.BITS O.at_of (map R.number (writer_of writer.old).words)
+        in memory_bits R.BITS O.at_of (map R.number (writer_of writer.new).words)
+        ≡ list_with_copy old (from.word * R.BITS + from.bit) old (to * R.BITS) (count * R.BITS) }
 {
     for done in 0..count {
         let k = count - 1 - done;
@@ -312,8 +339,8 @@ fn is_in_one_word<R: BitRegister>(bit: u8, count: usize) -> bool
     true
 }
 
-// How many whole words `count` bits meet between the first word, which they enter at an index, and the
-// last; and how many of them lie in the last.
+// How many whole words `count` bits meet between the first word, which they enter at an index, and
+// the last; and how many of them lie in the last.
 fn whole_and_last<R: BitRegister>(bit: u8, count: usize) -> (usize, u8)
     requires bit_in { bit < R.BITS }
     requires more { R.BITS < bit + count }
@@ -341,17 +368,22 @@ pub(super) fn copy_up<R: BitRegister, O: BitOrder<R>, R2: BitRegister, O2: BitOr
     requires some { 0 < count }
     requires way { Allows way R.BITS O.at_of R2.BITS O2.at_of from.bit to.bit }
     requires from_in { from.word * R.BITS + from.bit + count ≤ length source.now * R.BITS }
-    requires to_in { to.word + words_met R2.BITS to.bit count ≤ length (writer_of writer.old).words }
+    requires to_in { to.word + words_met R2.BITS to.bit count ≤ length
+        (writer_of writer.old).words }
     requires direction { (writer_of writer.old).rising ≡ true }
     requires stands { (writer_of writer.old).mark ≡ to.word }
-    ensures reference { (writer_memory writer.new).ghost_name ≡ (writer_memory writer.old).ghost_name }
+    ensures reference { (writer_memory writer.new).ghost_name
+        ≡ (writer_memory writer.old).ghost_name }
     ensures direction { (writer_of writer.new).rising ≡ true }
     ensures len { length (writer_of writer.new).words ≡ length (writer_of writer.old).words }
-    ensures writes { (writer_of writer.new).writes ≡ (writer_of writer.old).writes + words_met R2.BITS to.bit count }
+    ensures writes { (writer_of writer.new).writes
+        ≡ (writer_of writer.old).writes + words_met R2.BITS to.bit count }
     ensures mark { (writer_of writer.new).mark ≡ to.word + words_met R2.BITS to.bit count }
     ensures bits { memory_bits R2.BITS O2.at_of (map R2.number (writer_of writer.new).words)
-        ≡ copied (memory_bits R.BITS O.at_of (map R.number source.now)) (from.word * R.BITS + from.bit)
-        (memory_bits R2.BITS O2.at_of (map R2.number (writer_of writer.old).words)) (to.word * R2.BITS + to.bit) count }
+        ≡ list_with_copy (memory_bits R.BITS O.at_of (map R.number source.now))
+        (from.word * R.BITS + from.bit)
+        (memory_bits R2.BITS O2.at_of (map R2.number (writer_of writer.old).words))
+        (to.word * R2.BITS + to.bit) count }
 {
     if is_in_one_word::<R2>(to.bit, count) {
         put_bits::<R, O, R2, O2>(way, source, from, writer, to.word, to.bit, count as u8);
@@ -381,17 +413,22 @@ pub(super) fn copy_down<R: BitRegister, O: BitOrder<R>, R2: BitRegister, O2: Bit
     requires some { 0 < count }
     requires way { Allows way R.BITS O.at_of R2.BITS O2.at_of from.bit to.bit }
     requires from_in { from.word * R.BITS + from.bit + count ≤ length source.now * R.BITS }
-    requires to_in { to.word + words_met R2.BITS to.bit count ≤ length (writer_of writer.old).words }
+    requires to_in { to.word + words_met R2.BITS to.bit count ≤ length
+        (writer_of writer.old).words }
     requires direction { (writer_of writer.old).rising ≡ false }
     requires stands { (writer_of writer.old).mark ≡ to.word + words_met R2.BITS to.bit count }
-    ensures reference { (writer_memory writer.new).ghost_name ≡ (writer_memory writer.old).ghost_name }
+    ensures reference { (writer_memory writer.new).ghost_name
+        ≡ (writer_memory writer.old).ghost_name }
     ensures direction { (writer_of writer.new).rising ≡ false }
     ensures len { length (writer_of writer.new).words ≡ length (writer_of writer.old).words }
-    ensures writes { (writer_of writer.new).writes ≡ (writer_of writer.old).writes + words_met R2.BITS to.bit count }
+    ensures writes { (writer_of writer.new).writes
+        ≡ (writer_of writer.old).writes + words_met R2.BITS to.bit count }
     ensures mark { (writer_of writer.new).mark ≡ to.word }
     ensures bits { memory_bits R2.BITS O2.at_of (map R2.number (writer_of writer.new).words)
-        ≡ copied (memory_bits R.BITS O.at_of (map R.number source.now)) (from.word * R.BITS + from.bit)
-        (memory_bits R2.BITS O2.at_of (map R2.number (writer_of writer.old).words)) (to.word * R2.BITS + to.bit) count }
+        ≡ list_with_copy (memory_bits R.BITS O.at_of (map R.number source.now))
+        (from.word * R.BITS + from.bit)
+        (memory_bits R2.BITS O2.at_of (map R2.number (writer_of writer.old).words))
+        (to.word * R2.BITS + to.bit) count }
 {
     if is_in_one_word::<R2>(to.bit, count) {
         put_bits::<R, O, R2, O2>(way, source, from, writer, to.word, to.bit, count as u8);
@@ -419,19 +456,22 @@ pub(super) fn move_down<R: BitRegister, O: BitOrder<R>>(
 )
     requires some { 0 < count }
     requires way { Allows way R.BITS O.at_of R.BITS O.at_of from.bit to.bit }
-    requires from_in { from.word * R.BITS + from.bit + count ≤ length (writer_of writer.old).words * R.BITS }
+    requires from_in { from.word * R.BITS + from.bit + count ≤ length (writer_of writer.old).words *
+        R.BITS }
     requires to_in { to.word + words_met R.BITS to.bit count ≤ length (writer_of writer.old).words }
     requires before { to.word * R.BITS + to.bit ≤ from.word * R.BITS + from.bit }
     requires direction { (writer_of writer.old).rising ≡ true }
     requires stands { (writer_of writer.old).mark ≡ to.word }
-    ensures reference { (writer_memory writer.new).ghost_name ≡ (writer_memory writer.old).ghost_name }
+    ensures reference { (writer_memory writer.new).ghost_name
+        ≡ (writer_memory writer.old).ghost_name }
     ensures direction { (writer_of writer.new).rising ≡ true }
     ensures len { length (writer_of writer.new).words ≡ length (writer_of writer.old).words }
-    ensures writes { (writer_of writer.new).writes ≡ (writer_of writer.old).writes + words_met R.BITS to.bit count }
+    ensures writes { (writer_of writer.new).writes
+        ≡ (writer_of writer.old).writes + words_met R.BITS to.bit count }
     ensures mark { (writer_of writer.new).mark ≡ to.word + words_met R.BITS to.bit count }
-    ensures bits { let old = memory_bits R.BITS O.at_of (map R.number (writer_of writer.old).words) in
-        memory_bits R.BITS O.at_of (map R.number (writer_of writer.new).words)
-        ≡ copied old (from.word * R.BITS + from.bit) old (to.word * R.BITS + to.bit) count }
+    ensures bits { let old = memory_bits R.BITS O.at_of (map R.number (writer_of writer.old).words)
+        in memory_bits R.BITS O.at_of (map R.number (writer_of writer.new).words)
+        ≡ list_with_copy old (from.word * R.BITS + from.bit) old (to.word * R.BITS + to.bit) count }
 {
     if is_in_one_word::<R>(to.bit, count) {
         move_bits::<R, O>(way, from, writer, to.word, to.bit, count as u8);
@@ -459,19 +499,22 @@ pub(super) fn move_up<R: BitRegister, O: BitOrder<R>>(
 )
     requires some { 0 < count }
     requires way { Allows way R.BITS O.at_of R.BITS O.at_of from.bit to.bit }
-    requires from_in { from.word * R.BITS + from.bit + count ≤ length (writer_of writer.old).words * R.BITS }
+    requires from_in { from.word * R.BITS + from.bit + count ≤ length (writer_of writer.old).words *
+        R.BITS }
     requires to_in { to.word + words_met R.BITS to.bit count ≤ length (writer_of writer.old).words }
     requires behind { from.word * R.BITS + from.bit ≤ to.word * R.BITS + to.bit }
     requires direction { (writer_of writer.old).rising ≡ false }
     requires stands { (writer_of writer.old).mark ≡ to.word + words_met R.BITS to.bit count }
-    ensures reference { (writer_memory writer.new).ghost_name ≡ (writer_memory writer.old).ghost_name }
+    ensures reference { (writer_memory writer.new).ghost_name
+        ≡ (writer_memory writer.old).ghost_name }
     ensures direction { (writer_of writer.new).rising ≡ false }
     ensures len { length (writer_of writer.new).words ≡ length (writer_of writer.old).words }
-    ensures writes { (writer_of writer.new).writes ≡ (writer_of writer.old).writes + words_met R.BITS to.bit count }
+    ensures writes { (writer_of writer.new).writes
+        ≡ (writer_of writer.old).writes + words_met R.BITS to.bit count }
     ensures mark { (writer_of writer.new).mark ≡ to.word }
-    ensures bits { let old = memory_bits R.BITS O.at_of (map R.number (writer_of writer.old).words) in
-        memory_bits R.BITS O.at_of (map R.number (writer_of writer.new).words)
-        ≡ copied old (from.word * R.BITS + from.bit) old (to.word * R.BITS + to.bit) count }
+    ensures bits { let old = memory_bits R.BITS O.at_of (map R.number (writer_of writer.old).words)
+        in memory_bits R.BITS O.at_of (map R.number (writer_of writer.new).words)
+        ≡ list_with_copy old (from.word * R.BITS + from.bit) old (to.word * R.BITS + to.bit) count }
 {
     if is_in_one_word::<R>(to.bit, count) {
         move_bits::<R, O>(way, from, writer, to.word, to.bit, count as u8);
@@ -501,18 +544,26 @@ fn copy_one_way<R: BitRegister, O: BitOrder<R>, R2: BitRegister, O2: BitOrder<R2
     requires some { 0 < count }
     requires way { Allows way R.BITS O.at_of R2.BITS O2.at_of from.bit to.bit }
     requires from_in { from.word * R.BITS + from.bit + count ≤ length source.now * R.BITS }
-    requires to_in { to.word + words_met R2.BITS to.bit count ≤ length (writer_of writer.old).words }
+    requires to_in { to.word + words_met R2.BITS to.bit count ≤ length
+        (writer_of writer.old).words }
     requires rising { (writer_of writer.old).rising ≡ true → (writer_of writer.old).mark ≡ to.word }
-    requires falling { (writer_of writer.old).rising ≡ false → (writer_of writer.old).mark ≡ to.word + words_met R2.BITS to.bit count }
-    ensures reference { (writer_memory writer.new).ghost_name ≡ (writer_memory writer.old).ghost_name }
+    requires falling { (writer_of writer.old).rising ≡ false → (writer_of writer.old).mark
+        ≡ to.word + words_met R2.BITS to.bit count }
+    ensures reference { (writer_memory writer.new).ghost_name
+        ≡ (writer_memory writer.old).ghost_name }
     ensures direction { (writer_of writer.new).rising ≡ (writer_of writer.old).rising }
     ensures len { length (writer_of writer.new).words ≡ length (writer_of writer.old).words }
-    ensures writes { (writer_of writer.new).writes ≡ (writer_of writer.old).writes + words_met R2.BITS to.bit count }
-    ensures rising_mark { (writer_of writer.old).rising ≡ true → (writer_of writer.new).mark ≡ to.word + words_met R2.BITS to.bit count }
-    ensures falling_mark { (writer_of writer.old).rising ≡ false → (writer_of writer.new).mark ≡ to.word }
+    ensures writes { (writer_of writer.new).writes
+        ≡ (writer_of writer.old).writes + words_met R2.BITS to.bit count }
+    ensures rising_mark { (writer_of writer.old).rising ≡ true → (writer_of writer.new).mark
+        ≡ to.word + words_met R2.BITS to.bit count }
+    ensures falling_mark { (writer_of writer.old).rising ≡ false → (writer_of writer.new).mark
+        ≡ to.word }
     ensures bits { memory_bits R2.BITS O2.at_of (map R2.number (writer_of writer.new).words)
-        ≡ copied (memory_bits R.BITS O.at_of (map R.number source.now)) (from.word * R.BITS + from.bit)
-        (memory_bits R2.BITS O2.at_of (map R2.number (writer_of writer.old).words)) (to.word * R2.BITS + to.bit) count }
+        ≡ list_with_copy (memory_bits R.BITS O.at_of (map R.number source.now))
+        (from.word * R.BITS + from.bit)
+        (memory_bits R2.BITS O2.at_of (map R2.number (writer_of writer.old).words))
+        (to.word * R2.BITS + to.bit) count }
 {
     if writer.is_rising() {
         copy_up::<R, O, R2, O2>(way, source, from, writer, to, count);
@@ -534,18 +585,26 @@ pub(super) fn copy_across<R: BitRegister, O: BitOrder<R>, R2: BitRegister, O2: B
 )
     requires some { 0 < count }
     requires from_in { from.word * R.BITS + from.bit + count ≤ length source.now * R.BITS }
-    requires to_in { to.word + words_met R2.BITS to.bit count ≤ length (writer_of writer.old).words }
+    requires to_in { to.word + words_met R2.BITS to.bit count ≤ length
+        (writer_of writer.old).words }
     requires rising { (writer_of writer.old).rising ≡ true → (writer_of writer.old).mark ≡ to.word }
-    requires falling { (writer_of writer.old).rising ≡ false → (writer_of writer.old).mark ≡ to.word + words_met R2.BITS to.bit count }
-    ensures reference { (writer_memory writer.new).ghost_name ≡ (writer_memory writer.old).ghost_name }
+    requires falling { (writer_of writer.old).rising ≡ false → (writer_of writer.old).mark
+        ≡ to.word + words_met R2.BITS to.bit count }
+    ensures reference { (writer_memory writer.new).ghost_name
+        ≡ (writer_memory writer.old).ghost_name }
     ensures direction { (writer_of writer.new).rising ≡ (writer_of writer.old).rising }
     ensures len { length (writer_of writer.new).words ≡ length (writer_of writer.old).words }
-    ensures writes { (writer_of writer.new).writes ≡ (writer_of writer.old).writes + words_met R2.BITS to.bit count }
-    ensures rising_mark { (writer_of writer.old).rising ≡ true → (writer_of writer.new).mark ≡ to.word + words_met R2.BITS to.bit count }
-    ensures falling_mark { (writer_of writer.old).rising ≡ false → (writer_of writer.new).mark ≡ to.word }
+    ensures writes { (writer_of writer.new).writes
+        ≡ (writer_of writer.old).writes + words_met R2.BITS to.bit count }
+    ensures rising_mark { (writer_of writer.old).rising ≡ true → (writer_of writer.new).mark
+        ≡ to.word + words_met R2.BITS to.bit count }
+    ensures falling_mark { (writer_of writer.old).rising ≡ false → (writer_of writer.new).mark
+        ≡ to.word }
     ensures bits { memory_bits R2.BITS O2.at_of (map R2.number (writer_of writer.new).words)
-        ≡ copied (memory_bits R.BITS O.at_of (map R.number source.now)) (from.word * R.BITS + from.bit)
-        (memory_bits R2.BITS O2.at_of (map R2.number (writer_of writer.old).words)) (to.word * R2.BITS + to.bit) count }
+        ≡ list_with_copy (memory_bits R.BITS O.at_of (map R.number source.now))
+        (from.word * R.BITS + from.bit)
+        (memory_bits R2.BITS O2.at_of (map R2.number (writer_of writer.old).words))
+        (to.word * R2.BITS + to.bit) count }
 {
     match way_of::<R, O, R2, O2>(from.bit, to.bit) {
         Way::Whole => {
@@ -576,21 +635,29 @@ fn move_one_way<R: BitRegister, O: BitOrder<R>>(
 )
     requires some { 0 < count }
     requires way { Allows way R.BITS O.at_of R.BITS O.at_of from.bit to.bit }
-    requires from_in { from.word * R.BITS + from.bit + count ≤ length (writer_of writer.old).words * R.BITS }
+    requires from_in { from.word * R.BITS + from.bit + count ≤ length (writer_of writer.old).words *
+        R.BITS }
     requires to_in { to.word + words_met R.BITS to.bit count ≤ length (writer_of writer.old).words }
-    requires before { (writer_of writer.old).rising ≡ true → to.word * R.BITS + to.bit ≤ from.word * R.BITS + from.bit }
-    requires behind { (writer_of writer.old).rising ≡ false → from.word * R.BITS + from.bit ≤ to.word * R.BITS + to.bit }
+    requires before { (writer_of writer.old).rising ≡ true
+        → to.word * R.BITS + to.bit ≤ from.word * R.BITS + from.bit }
+    requires behind { (writer_of writer.old).rising ≡ false
+        → from.word * R.BITS + from.bit ≤ to.word * R.BITS + to.bit }
     requires rising { (writer_of writer.old).rising ≡ true → (writer_of writer.old).mark ≡ to.word }
-    requires falling { (writer_of writer.old).rising ≡ false → (writer_of writer.old).mark ≡ to.word + words_met R.BITS to.bit count }
-    ensures reference { (writer_memory writer.new).ghost_name ≡ (writer_memory writer.old).ghost_name }
+    requires falling { (writer_of writer.old).rising ≡ false → (writer_of writer.old).mark
+        ≡ to.word + words_met R.BITS to.bit count }
+    ensures reference { (writer_memory writer.new).ghost_name
+        ≡ (writer_memory writer.old).ghost_name }
     ensures direction { (writer_of writer.new).rising ≡ (writer_of writer.old).rising }
     ensures len { length (writer_of writer.new).words ≡ length (writer_of writer.old).words }
-    ensures writes { (writer_of writer.new).writes ≡ (writer_of writer.old).writes + words_met R.BITS to.bit count }
-    ensures rising_mark { (writer_of writer.old).rising ≡ true → (writer_of writer.new).mark ≡ to.word + words_met R.BITS to.bit count }
-    ensures falling_mark { (writer_of writer.old).rising ≡ false → (writer_of writer.new).mark ≡ to.word }
-    ensures bits { let old = memory_bits R.BITS O.at_of (map R.number (writer_of writer.old).words) in
-        memory_bits R.BITS O.at_of (map R.number (writer_of writer.new).words)
-        ≡ copied old (from.word * R.BITS + from.bit) old (to.word * R.BITS + to.bit) count }
+    ensures writes { (writer_of writer.new).writes
+        ≡ (writer_of writer.old).writes + words_met R.BITS to.bit count }
+    ensures rising_mark { (writer_of writer.old).rising ≡ true → (writer_of writer.new).mark
+        ≡ to.word + words_met R.BITS to.bit count }
+    ensures falling_mark { (writer_of writer.old).rising ≡ false → (writer_of writer.new).mark
+        ≡ to.word }
+    ensures bits { let old = memory_bits R.BITS O.at_of (map R.number (writer_of writer.old).words)
+        in memory_bits R.BITS O.at_of (map R.number (writer_of writer.new).words)
+        ≡ list_with_copy old (from.word * R.BITS + from.bit) old (to.word * R.BITS + to.bit) count }
 {
     if writer.is_rising() {
         move_down::<R, O>(way, from, writer, to, count);
@@ -610,21 +677,29 @@ pub(super) fn move_across<R: BitRegister, O: BitOrder<R>>(
     count: usize,
 )
     requires some { 0 < count }
-    requires from_in { from.word * R.BITS + from.bit + count ≤ length (writer_of writer.old).words * R.BITS }
+    requires from_in { from.word * R.BITS + from.bit + count ≤ length (writer_of writer.old).words *
+        R.BITS }
     requires to_in { to.word + words_met R.BITS to.bit count ≤ length (writer_of writer.old).words }
-    requires before { (writer_of writer.old).rising ≡ true → to.word * R.BITS + to.bit ≤ from.word * R.BITS + from.bit }
-    requires behind { (writer_of writer.old).rising ≡ false → from.word * R.BITS + from.bit ≤ to.word * R.BITS + to.bit }
+    requires before { (writer_of writer.old).rising ≡ true
+        → to.word * R.BITS + to.bit ≤ from.word * R.BITS + from.bit }
+    requires behind { (writer_of writer.old).rising ≡ false
+        → from.word * R.BITS + from.bit ≤ to.word * R.BITS + to.bit }
     requires rising { (writer_of writer.old).rising ≡ true → (writer_of writer.old).mark ≡ to.word }
-    requires falling { (writer_of writer.old).rising ≡ false → (writer_of writer.old).mark ≡ to.word + words_met R.BITS to.bit count }
-    ensures reference { (writer_memory writer.new).ghost_name ≡ (writer_memory writer.old).ghost_name }
+    requires falling { (writer_of writer.old).rising ≡ false → (writer_of writer.old).mark
+        ≡ to.word + words_met R.BITS to.bit count }
+    ensures reference { (writer_memory writer.new).ghost_name
+        ≡ (writer_memory writer.old).ghost_name }
     ensures direction { (writer_of writer.new).rising ≡ (writer_of writer.old).rising }
     ensures len { length (writer_of writer.new).words ≡ length (writer_of writer.old).words }
-    ensures writes { (writer_of writer.new).writes ≡ (writer_of writer.old).writes + words_met R.BITS to.bit count }
-    ensures rising_mark { (writer_of writer.old).rising ≡ true → (writer_of writer.new).mark ≡ to.word + words_met R.BITS to.bit count }
-    ensures falling_mark { (writer_of writer.old).rising ≡ false → (writer_of writer.new).mark ≡ to.word }
-    ensures bits { let old = memory_bits R.BITS O.at_of (map R.number (writer_of writer.old).words) in
-        memory_bits R.BITS O.at_of (map R.number (writer_of writer.new).words)
-        ≡ copied old (from.word * R.BITS + from.bit) old (to.word * R.BITS + to.bit) count }
+    ensures writes { (writer_of writer.new).writes
+        ≡ (writer_of writer.old).writes + words_met R.BITS to.bit count }
+    ensures rising_mark { (writer_of writer.old).rising ≡ true → (writer_of writer.new).mark
+        ≡ to.word + words_met R.BITS to.bit count }
+    ensures falling_mark { (writer_of writer.old).rising ≡ false → (writer_of writer.new).mark
+        ≡ to.word }
+    ensures bits { let old = memory_bits R.BITS O.at_of (map R.number (writer_of writer.old).words)
+        in memory_bits R.BITS O.at_of (map R.number (writer_of writer.new).words)
+        ≡ list_with_copy old (from.word * R.BITS + from.bit) old (to.word * R.BITS + to.bit) count }
 {
     match way_of::<R, O, R, O>(from.bit, to.bit) {
         Way::Whole => {

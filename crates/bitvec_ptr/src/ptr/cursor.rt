@@ -1,6 +1,7 @@
 //! Places in a memory that the copies go over.
 
-ghost use Rattle.std.specs.Prelude.{◌≡◌, ⊤, ℕ, pos, nat_abs, ◌+◌, ◌-◌, ◌*◌, ◌<◌, ◌≤◌, ◌≤ℤ◌, true, false, length, map};
+ghost use Rattle.std.specs.Prelude.{◌≡◌, ⊤, ℕ, pos, nat_abs, ◌+◌, ◌-◌, ◌*◌, ◌<◌, ◌≤◌, ◌≤ℤ◌, true};
+ghost use Rattle.std.specs.Prelude.{false, length, map};
 ghost use Rattle.bitvec_ptr.specs.BitPtr.{ptr_of};
 ghost use Rattle.bitvec_ptr.specs.Memory.{bit_of};
 ghost use Rattle.bitvec_ptr.specs.Place.{index_of};
@@ -83,8 +84,10 @@ impl<R: BitRegister> Cursor<R> {
     #[inline(always)]
     pub(super) fn words_on<R2: BitRegister>(self, count: usize) -> Self
         requires short { count * R2.BITS ≤ usize.MAX }
-        requires inside { self.word * R.BITS + self.bit + count * R2.BITS < 18446744073709551616 * R.BITS }
-        ensures place { result.word * R.BITS + result.bit ≡ self.word * R.BITS + self.bit + count * R2.BITS }
+        requires inside { self.word * R.BITS + self.bit + count * R2.BITS < 18446744073709551616 *
+            R.BITS }
+        ensures place { result.word * R.BITS + result.bit
+            ≡ self.word * R.BITS + self.bit + count * R2.BITS }
         ensures bit { R.BITS ≡ R2.BITS → result.bit ≡ self.bit }
     {
         if R::BITS == R2::BITS {
@@ -98,8 +101,10 @@ impl<R: BitRegister> Cursor<R> {
 
     // Whether the place is at or before another.
     pub(super) fn is_at_most(self, other: Self) -> bool
-        ensures yes { result ≡ true → self.word * R.BITS + self.bit ≤ other.word * R.BITS + other.bit }
-        ensures no { result ≡ false → other.word * R.BITS + other.bit < self.word * R.BITS + self.bit }
+        ensures yes { result ≡ true → self.word * R.BITS + self.bit ≤ other.word * R.BITS +
+            other.bit }
+        ensures no { result ≡ false → other.word * R.BITS + other.bit < self.word * R.BITS +
+            self.bit }
     {
         if self.word == other.word {
             return self.bit <= other.bit;
@@ -110,7 +115,8 @@ impl<R: BitRegister> Cursor<R> {
     // The bit at the place.
     pub(super) fn read<O: BitOrder<R>>(self, memory: &[R]) -> bool
         requires { self.word < length memory.now }
-        ensures { result ≡ bit_of R.BITS O.at_of (map R.number memory.now) (self.word * R.BITS + self.bit) }
+        ensures { result ≡ bit_of R.BITS O.at_of (map R.number memory.now)
+            (self.word * R.BITS + self.bit) }
     {
         bit_at::<R, O>(memory[self.word], BitIdx::new_unchecked(self.bit))
     }

@@ -1,6 +1,7 @@
 //! Ranges of bit pointers: the places from a start to before an end.
 
-ghost use Rattle.std.specs.Prelude.{◌≡◌, ⊤, ℕ, ℤ, pos, ◌+◌, ◌-◌, ◌<◌, ◌≤◌, ◌+ℤ◌, ◌≤ℤ◌, ◌<ℤ◌, ◌↔◌, IsTrue, MatchOption, []};
+ghost use Rattle.std.specs.Prelude.{◌≡◌, ⊤, ℕ, ℤ, pos, ◌+◌, ◌-◌, ◌<◌, ◌≤◌, ◌+ℤ◌, ◌≤ℤ◌, ◌<ℤ◌, ◌↔◌};
+ghost use Rattle.std.specs.Prelude.{IsTrue, MatchOption, []};
 ghost use Rattle.std.specs.Iterator.{YieldsFirstBy, YieldsLastBy, MakesProgress, item_count};
 ghost use Rattle.std.specs.Range.Bound.{bound_map};
 ghost use Rattle.std.specs.declared.ops.Bound.TheVariants.{Included, Excluded};
@@ -150,7 +151,8 @@ impl<R: BitRegister, O> BitPtrRange<R, O> {
     pub fn nth(&mut self, n: usize) -> Option<BitPtr<R, O>>
         ensures end { (range_of self.new).end ≡ (range_of self.old).end }
         ensures item { MatchOption result
-            ((count_of R.BITS (range_of self.old) ≤ n) × ((range_of self.new).start ≡ (range_of self.old).end))
+            ((count_of R.BITS (range_of self.old) ≤ n)
+            × ((range_of self.new).start ≡ (range_of self.old).end))
             (λ p. (n < count_of R.BITS (range_of self.old))
             × (place_of R.BITS (ptr_of p) ≡ place_of R.BITS (range_of self.old).start +ℤ pos n)
             × (place_of R.BITS (range_of self.new).start ≡ place_of R.BITS (ptr_of p) +ℤ pos 1)) }
@@ -170,7 +172,8 @@ impl<R: BitRegister, O> BitPtrRange<R, O> {
     pub fn nth_back(&mut self, n: usize) -> Option<BitPtr<R, O>>
         ensures start { (range_of self.new).start ≡ (range_of self.old).start }
         ensures item { MatchOption result
-            ((count_of R.BITS (range_of self.old) ≤ n) × ((range_of self.new).end ≡ (range_of self.old).start))
+            ((count_of R.BITS (range_of self.old) ≤ n)
+            × ((range_of self.new).end ≡ (range_of self.old).start))
             (λ p. (n < count_of R.BITS (range_of self.old))
             × (place_of R.BITS (range_of self.old).end ≡ place_of R.BITS (ptr_of p) +ℤ pos (n + 1))
             × ((range_of self.new).end ≡ ptr_of p)) }
@@ -195,7 +198,8 @@ impl<R: BitRegister, O> BitPtr<R, O> {
         requires count { pos count ≤ℤ isize.MAX }
         requires inside { CanOffset R.BITS (ptr_of self) (pos count) }
         ensures start { (range_of result).start ≡ ptr_of self }
-        ensures end { place_of R.BITS (range_of result).end ≡ place_of R.BITS (ptr_of self) +ℤ pos count }
+        ensures end { place_of R.BITS (range_of result).end
+            ≡ place_of R.BITS (ptr_of self) +ℤ pos count }
         ensures count { count_of R.BITS (range_of result) ≡ count }
     {
         let end = self.add(count);
@@ -221,7 +225,8 @@ impl<R: BitRegister, O> Default for BitPtrRange<R, O> {
 impl<R: BitRegister, O> From<BitPtrRange<R, O>> for Range<BitPtr<R, O>> {
     ghost use Rattle.bitvec_ptr.specs.BitPtrRange.{range_of};
 
-    ghost from_gives = { λ r range. (ptr_of range.start ≡ (range_of r).start) × (ptr_of range.end ≡ (range_of r).end) };
+    ghost from_gives = { λ r range. (ptr_of range.start ≡ (range_of r).start)
+        × (ptr_of range.end ≡ (range_of r).end) };
 
     fn from(range: BitPtrRange<R, O>) -> Self {
         range.into_range()
@@ -233,18 +238,22 @@ impl<R: BitRegister, O> Iterator for BitPtrRange<R, O> {
 
     ghost use Rattle.bitvec_ptr.specs.BitPtrRange.{range_of};
 
-    ghost next_gives = { YieldsFirstBy (λ p. place_of R.BITS (ptr_of p)) (λ r. places_of R.BITS (range_of r)) };
+    ghost next_gives = { YieldsFirstBy (λ p. place_of R.BITS (ptr_of p))
+        (λ r. places_of R.BITS (range_of r)) };
 
     ghost remaining = { item_count (λ r. places_of R.BITS (range_of r)) };
 
     fn next(&mut self) -> Option<BitPtr<R, O>>
-        ensures steps { YieldsFirstBy (λ p. place_of R.BITS (ptr_of p)) (λ r. places_of R.BITS (range_of r)) self.old result self.new }
-        ensures goes { MakesProgress (λ _. ⊤) (item_count (λ r. places_of R.BITS (range_of r))) self.old result self.new }
+        ensures steps { YieldsFirstBy (λ p. place_of R.BITS (ptr_of p))
+            (λ r. places_of R.BITS (range_of r)) self.old result self.new }
+        ensures goes { MakesProgress (λ _. ⊤) (item_count (λ r. places_of R.BITS (range_of r)))
+            self.old result self.new }
         ensures end { (range_of self.new).end ≡ (range_of self.old).end }
         ensures start { MatchOption result
             ((range_of self.new).start ≡ (range_of self.old).start)
             (λ p. place_of R.BITS (range_of self.new).start ≡ place_of R.BITS (ptr_of p) +ℤ pos 1) }
-        ensures last { count_of R.BITS (range_of self.old) ≡ 1 → (range_of self.new).start ≡ (range_of self.old).end }
+        ensures last { count_of R.BITS (range_of self.old) ≡ 1 → (range_of self.new).start
+            ≡ (range_of self.old).end }
     {
         self.nth(0)
     }
@@ -253,16 +262,20 @@ impl<R: BitRegister, O> Iterator for BitPtrRange<R, O> {
 impl<R: BitRegister, O> DoubleEndedIterator for BitPtrRange<R, O> {
     ghost use Rattle.bitvec_ptr.specs.BitPtrRange.{range_of};
 
-    ghost next_back_gives = { YieldsLastBy (λ p. place_of R.BITS (ptr_of p)) (λ r. places_of R.BITS (range_of r)) };
+    ghost next_back_gives = { YieldsLastBy (λ p. place_of R.BITS (ptr_of p))
+        (λ r. places_of R.BITS (range_of r)) };
 
     fn next_back(&mut self) -> Option<BitPtr<R, O>>
-        ensures steps { YieldsLastBy (λ p. place_of R.BITS (ptr_of p)) (λ r. places_of R.BITS (range_of r)) self.old result self.new }
-        ensures goes { MakesProgress (λ _. ⊤) (item_count (λ r. places_of R.BITS (range_of r))) self.old result self.new }
+        ensures steps { YieldsLastBy (λ p. place_of R.BITS (ptr_of p))
+            (λ r. places_of R.BITS (range_of r)) self.old result self.new }
+        ensures goes { MakesProgress (λ _. ⊤) (item_count (λ r. places_of R.BITS (range_of r)))
+            self.old result self.new }
         ensures start { (range_of self.new).start ≡ (range_of self.old).start }
         ensures end { MatchOption result
             ((range_of self.new).end ≡ (range_of self.old).end)
             (λ p. (range_of self.new).end ≡ ptr_of p) }
-        ensures last { count_of R.BITS (range_of self.old) ≡ 1 → (range_of self.new).end ≡ (range_of self.old).start }
+        ensures last { count_of R.BITS (range_of self.old) ≡ 1 → (range_of self.new).end
+            ≡ (range_of self.old).start }
     {
         self.nth_back(0)
     }

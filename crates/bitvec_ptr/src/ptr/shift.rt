@@ -1,7 +1,8 @@
 //! How the bits of one word of a copy are gathered: from the word at the same index, from
 //! neighbouring words by shifts, or bit by bit.
 
-ghost use Rattle.std.specs.Prelude.{◌≡◌, ◌↔◌, ℕ, ◌+◌, ◌-◌, ◌*◌, ◌^◌, ◌<◌, ◌≤◌, ◌⊎◌, IsTrue, true, false, length, map};
+ghost use Rattle.std.specs.Prelude.{◌≡◌, ◌↔◌, ℕ, ◌+◌, ◌-◌, ◌*◌, ◌^◌, ◌<◌, ◌≤◌, ◌⊎◌, IsTrue, true};
+ghost use Rattle.std.specs.Prelude.{false, length, map};
 ghost use Rattle.bitvec_mem.specs.Digit.{digit};
 ghost use Rattle.bitvec_order.specs.Order.{IsMaskOf};
 ghost use Rattle.bitvec_ptr.specs.Memory.{bit_of};
@@ -70,8 +71,8 @@ fn are_same<R: BitRegister, O: BitAt<R>, R2: BitRegister, O2: BitAt<R2>>() -> bo
     true
 }
 
-// The best way to gather the words of a copy whose two sides start at the indices `from` and `to` of
-// words.
+// The best way to gather the words of a copy whose two sides start at the indices `from` and `to`
+// of words.
 #[inline(always)]
 pub(super) fn way_of<R: BitRegister, O: BitAt<R>, R2: BitRegister, O2: BitAt<R2>>(
     from: u8,
@@ -96,8 +97,10 @@ fn merged<R: BitRegister>(low: R, high: R, shift: u8) -> R
     requires some { 0 < shift }
     requires most { shift < R.BITS }
     ensures below { R.number result < 2 ^ R.BITS }
-    ensures low { (p : ℕ) → shift + p < R.BITS → digit (R.number result) p ≡ digit (R.number low) (shift + p) }
-    ensures high { (p : ℕ) → p < shift → digit (R.number result) (R.BITS - shift + p) ≡ digit (R.number high) p }
+    ensures low { (p : ℕ) → shift + p < R.BITS → digit (R.number result) p
+        ≡ digit (R.number low) (shift + p) }
+    ensures high { (p : ℕ) → p < shift → digit (R.number result) (R.BITS - shift + p)
+        ≡ digit (R.number high) p }
 {
     low.shr(shift).or(high.shl(R::BITS - shift))
 }
@@ -132,8 +135,8 @@ fn taken<R: BitRegister, O: BitAt<R>, R2: BitRegister, O2: BitAt<R2>>(
     requires falling { rising ≡ false → IsFalling R.BITS O.at_of × IsFalling R2.BITS O2.at_of }
     ensures low { (j : ℕ) → shift + j < R.BITS
         → digit (R2.number result) (O2.at_of j) ≡ digit (R.number low) (O.at_of (shift + j)) }
-    ensures high { (j : ℕ) → j < shift
-        → digit (R2.number result) (O2.at_of (R.BITS - shift + j)) ≡ digit (R.number high) (O.at_of j) }
+    ensures high { (j : ℕ) → j < shift → digit (R2.number result) (O2.at_of (R.BITS - shift + j))
+        ≡ digit (R.number high) (O.at_of j) }
 {
     let word = if rising {
         merged(low, high, shift)
@@ -157,9 +160,11 @@ fn lined_up<R: BitRegister, O: BitAt<R>, R2: BitRegister, O2: BitAt<R2>>(
     requires rising { rising ≡ true → IsRising R.BITS O.at_of × IsRising R2.BITS O2.at_of }
     requires falling { rising ≡ false → IsFalling R.BITS O.at_of × IsFalling R2.BITS O2.at_of }
     ensures low { (j : ℕ) → bit + j < R.BITS → shift + j < R.BITS
-        → digit (R2.number result) (O2.at_of (bit + j)) ≡ digit (R.number low) (O.at_of (shift + j)) }
+        → digit (R2.number result) (O2.at_of (bit + j))
+        ≡ digit (R.number low) (O.at_of (shift + j)) }
     ensures high { (j : ℕ) → bit + j < R.BITS → R.BITS ≤ shift + j
-        → digit (R2.number result) (O2.at_of (bit + j)) ≡ digit (R.number high) (O.at_of (shift + j - R.BITS)) }
+        → digit (R2.number result) (O2.at_of (bit + j))
+        ≡ digit (R.number high) (O.at_of (shift + j - R.BITS)) }
 {
     if shift > bit {
         return taken::<R, O, R2, O2>(rising, low, high, shift - bit);
@@ -185,7 +190,8 @@ fn mask_between<R: BitRegister, O: BitOrder<R>>(bit: u8, count: u8) -> R
 fn put_part<R: BitRegister, O: BitOrder<R>>(word: R, with: R, bit: u8, count: u8) -> R
     requires start { bit < R.BITS }
     requires end { bit + count ≤ R.BITS }
-    ensures inside { (j : ℕ) → j < count → digit (R.number result) (O.at_of (bit + j)) ≡ digit (R.number with) (O.at_of (bit + j)) }
+    ensures inside { (j : ℕ) → j < count → digit (R.number result) (O.at_of (bit + j))
+        ≡ digit (R.number with) (O.at_of (bit + j)) }
     ensures outside { (j : ℕ) → j < R.BITS → (j < bit) ⊎ (bit + count ≤ j)
         → digit (R.number result) (O.at_of j) ≡ digit (R.number word) (O.at_of j) }
 {
@@ -197,8 +203,8 @@ fn put_part<R: BitRegister, O: BitOrder<R>>(word: R, with: R, bit: u8, count: u8
     word.and(mask.not()).or(with.and(mask))
 }
 
-// The word with `count` of its bits, from index `bit` on, read one by one from those of another word
-// from index `from` on.
+// The word with `count` of its bits, from index `bit` on, read one by one from those of another
+// word from index `from` on.
 fn singly<R: BitRegister, O: BitOrder<R>, R2: BitRegister, O2: BitOrder<R2>>(
     read: R,
     from: u8,
@@ -208,8 +214,8 @@ fn singly<R: BitRegister, O: BitOrder<R>, R2: BitRegister, O2: BitOrder<R2>>(
 ) -> R2
     requires from_in { from + count ≤ R.BITS }
     requires bit_in { bit + count ≤ R2.BITS }
-    ensures inside { (j : ℕ) → j < count
-        → digit (R2.number result) (O2.at_of (bit + j)) ≡ digit (R.number read) (O.at_of (from + j)) }
+    ensures inside { (j : ℕ) → j < count → digit (R2.number result) (O2.at_of (bit + j))
+        ≡ digit (R.number read) (O.at_of (from + j)) }
     ensures outside { (j : ℕ) → j < R2.BITS → (j < bit) ⊎ (bit + count ≤ j)
         → digit (R2.number result) (O2.at_of j) ≡ digit (R2.number word) (O2.at_of j) }
 {
@@ -234,9 +240,11 @@ fn singly_of_two<R: BitRegister, O: BitOrder<R>, R2: BitRegister, O2: BitOrder<R
     requires bit_in { bit + count ≤ R2.BITS }
     requires width { R.BITS ≡ R2.BITS }
     ensures low { (j : ℕ) → j < count → shift + j < R.BITS
-        → digit (R2.number result) (O2.at_of (bit + j)) ≡ digit (R.number low) (O.at_of (shift + j)) }
+        → digit (R2.number result) (O2.at_of (bit + j))
+        ≡ digit (R.number low) (O.at_of (shift + j)) }
     ensures high { (j : ℕ) → j < count → R.BITS ≤ shift + j
-        → digit (R2.number result) (O2.at_of (bit + j)) ≡ digit (R.number high) (O.at_of (shift + j - R.BITS)) }
+        → digit (R2.number result) (O2.at_of (bit + j))
+        ≡ digit (R.number high) (O.at_of (shift + j - R.BITS)) }
     ensures outside { (j : ℕ) → j < R2.BITS → (j < bit) ⊎ (bit + count ≤ j)
         → digit (R2.number result) (O2.at_of j) ≡ digit (R2.number word) (O2.at_of j) }
 {
@@ -254,7 +262,8 @@ fn carried<R: BitRegister, R2: BitRegister>(word: R, from: u8, to: u8, count: u8
     requires some { 0 < count }
     requires from_in { from + count ≤ R.BITS }
     requires to_in { to + count ≤ R2.BITS }
-    ensures { (p : ℕ) → p < count → digit (R2.number result) (to + p) ≡ digit (R.number word) (from + p) }
+    ensures { (p : ℕ) → p < count → digit (R2.number result) (to + p)
+        ≡ digit (R.number word) (from + p) }
 {
     let lowest = R::ALL.shr(R::BITS - count);
     let digits = word.shr(from).and(lowest);
@@ -277,8 +286,8 @@ pub(super) fn piece<R: BitRegister, O: BitOrder<R>, R2: BitRegister, O2: BitOrde
     requires bit_in { bit + count ≤ R2.BITS }
     requires rising { way ≡ Way.Rising → IsRising R.BITS O.at_of × IsRising R2.BITS O2.at_of }
     requires falling { way ≡ Way.Falling → IsFalling R.BITS O.at_of × IsFalling R2.BITS O2.at_of }
-    ensures inside { (j : ℕ) → j < count
-        → digit (R2.number result) (O2.at_of (bit + j)) ≡ digit (R.number read) (O.at_of (from + j)) }
+    ensures inside { (j : ℕ) → j < count → digit (R2.number result) (O2.at_of (bit + j))
+        ≡ digit (R.number read) (O.at_of (from + j)) }
     ensures outside { (j : ℕ) → j < R2.BITS → (j < bit) ⊎ (bit + count ≤ j)
         → digit (R2.number result) (O2.at_of j) ≡ digit (R2.number word) (O2.at_of j) }
 {
@@ -316,9 +325,11 @@ pub(super) fn gathered<R: BitRegister, O: BitOrder<R>, R2: BitRegister, O2: BitO
     requires width { R.BITS ≡ R2.BITS }
     requires way { Allows way R.BITS O.at_of R2.BITS O2.at_of shift bit }
     ensures low { (j : ℕ) → j < count → shift + j < R.BITS
-        → digit (R2.number result) (O2.at_of (bit + j)) ≡ digit (R.number low) (O.at_of (shift + j)) }
+        → digit (R2.number result) (O2.at_of (bit + j))
+        ≡ digit (R.number low) (O.at_of (shift + j)) }
     ensures high { (j : ℕ) → j < count → R.BITS ≤ shift + j
-        → digit (R2.number result) (O2.at_of (bit + j)) ≡ digit (R.number high) (O.at_of (shift + j - R.BITS)) }
+        → digit (R2.number result) (O2.at_of (bit + j))
+        ≡ digit (R.number high) (O.at_of (shift + j - R.BITS)) }
     ensures outside { (j : ℕ) → j < R2.BITS → (j < bit) ⊎ (bit + count ≤ j)
         → digit (R2.number result) (O2.at_of j) ≡ digit (R2.number word) (O2.at_of j) }
 {

@@ -1,11 +1,13 @@
 //! Pointers to single bits: a word of a memory and the index of a bit in it.
 
-ghost use Rattle.std.specs.Prelude.{◌≡◌, ⊤, ℕ, ℤ, pos, neg_ℤ, ◌+◌, ◌-◌, ◌/◌, ◌==◌, if◌then◌else◌, Some, length, map, slice_get, slice_set, swap, ◌<◌, ◌≤◌, ◌+ℤ◌, ◌≤ℤ◌, ◌↔◌, IsTrue, FitsSigned};
+ghost use Rattle.std.specs.Prelude.{◌≡◌, ⊤, ℕ, ℤ, pos, neg_ℤ, ◌+◌, ◌-◌, ◌/◌, ◌==◌, if◌then◌else◌};
+ghost use Rattle.std.specs.Prelude.{Some, length, map, slice_get, slice_set, swap, ◌<◌, ◌≤◌, ◌+ℤ◌};
+ghost use Rattle.std.specs.Prelude.{◌≤ℤ◌, ◌↔◌, IsTrue, FitsSigned};
 ghost use Rattle.std.specs.Int.{w64, int_wrap, int_div_euclid, int_rem_euclid};
 ghost use Rattle.bitvec_ptr.specs.Place.{place_of, index_of, words_met};
 ghost use Rattle.bitvec_ptr.specs.Memory.{bit_of, memory_bits};
 ghost use Rattle.bitvec_mem.specs.Digit.{digit};
-ghost use Rattle.bitvec_ptr.specs.Steps.{CanOffset, wrapped, distance, IsIn, RunsIn};
+ghost use Rattle.bitvec_ptr.specs.Steps.{CanOffset, wrapped_ptr, distance, IsIn, RangeIsIn};
 
 use bitvec_mem::mem::BitRegister;
 use bitvec_order::index::{BitIdx, BitMask};
@@ -166,8 +168,8 @@ impl<R: BitRegister, O> BitPtr<R, O> {
 
     /// Whether a step by `count` bits stays in range.
     ///
-    /// It does exactly where the bit and `count` have a sum that is an `isize`, and the word on which
-    /// the step ends is one too. Our own.
+    /// It does exactly where the bit and `count` have a sum that is an `isize`, and the word on
+    /// which the step ends is one too. Our own.
     pub fn can_offset(self, count: isize) -> bool
         ensures { IsTrue result ↔ CanOffset R.BITS (ptr_of self) count }
     {
@@ -191,7 +193,8 @@ impl<R: BitRegister, O> BitPtr<R, O> {
     // The pointer `count` bits on, for any place that has a word.
     pub(crate) fn forward(self, count: usize) -> Self
         requires short { pos count ≤ℤ isize.MAX }
-        requires inside { ((ptr_of self).word +ℤ pos (((ptr_of self).bit + count) / R.BITS)) ≤ℤ isize.MAX }
+        requires inside { ((ptr_of self).word +ℤ pos (((ptr_of self).bit + count) / R.BITS))
+            ≤ℤ isize.MAX }
         ensures { place_of R.BITS (ptr_of result) ≡ place_of R.BITS (ptr_of self) +ℤ pos count }
     {
         let far = usize::from(self.bit) + count;
@@ -220,10 +223,10 @@ impl<R: BitRegister, O> BitPtr<R, O> {
         self.offset(-(count as isize))
     }
 
-    /// The pointer `count` bits on, for any `count`: the sum of bit and `count` wraps at the ends of
-    /// `isize`, and so does that of the words.
+    /// The pointer `count` bits on, for any `count`: the sum of bit and `count` wraps at the ends
+    /// of `isize`, and so does that of the words.
     pub fn wrapping_offset(self, count: isize) -> Self
-        ensures { ptr_of result ≡ wrapped R.BITS (ptr_of self) count }
+        ensures { ptr_of result ≡ wrapped_ptr R.BITS (ptr_of self) count }
     {
         let (words, bit) = split_far::<R>(isize::from(self.bit).wrapping_add(count));
         Self::new(self.word.wrapping_add(words), bit)
@@ -231,7 +234,7 @@ impl<R: BitRegister, O> BitPtr<R, O> {
 
     /// [`wrapping_offset`](BitPtr::wrapping_offset) by `count`, which wraps to an `isize`.
     pub fn wrapping_add(self, count: usize) -> Self
-        ensures { ptr_of result ≡ wrapped R.BITS (ptr_of self) (int_wrap w64 (pos count)) }
+        ensures { ptr_of result ≡ wrapped_ptr R.BITS (ptr_of self) (int_wrap w64 (pos count)) }
     {
         self.wrapping_offset(count.cast_signed())
     }
@@ -239,10 +242,11 @@ impl<R: BitRegister, O> BitPtr<R, O> {
     /// [`wrapping_offset`](BitPtr::wrapping_offset) by the negative of `count`, which wraps to an
     /// `isize`.
     ///
-    /// It undoes [`wrapping_add`](BitPtr::wrapping_add) where the bit and `count` have a sum that is
-    /// an `isize`.
+    /// It undoes [`wrapping_add`](BitPtr::wrapping_add) where the bit and `count` have a sum that
+    /// is an `isize`.
     pub fn wrapping_sub(self, count: usize) -> Self
-        ensures { ptr_of result ≡ wrapped R.BITS (ptr_of self) (int_wrap w64 (neg_ℤ (pos count))) }
+        ensures { ptr_of result ≡ wrapped_ptr R.BITS (ptr_of self)
+            (int_wrap w64 (neg_ℤ (pos count))) }
     {
         self.wrapping_offset(count.cast_signed().wrapping_neg())
     }
@@ -278,10 +282,10 @@ impl<R: BitRegister, O> BitPtr<R, O> {
     }
 
     /// Whether the words that `count` bits from this one on meet are among the first `words` of a
-    /// memory. For no bits, which meet no word, it is whether the pointer's word is from 0 to `words`,
-    /// so that the place behind the last word is let in. Our own.
+    /// memory. For no bits, which meet no word, it is whether the pointer's word is from 0 to
+    /// `words`, so that the place behind the last word is let in. Our own.
     pub fn run_in(self, words: usize, count: usize) -> bool
-        ensures { IsTrue result ↔ RunsIn R.BITS (ptr_of self) words count }
+        ensures { IsTrue result ↔ RangeIsIn R.BITS (ptr_of self) words count }
     {
         let elements = self.elements(count);
         0 <= self.word && elements <= words && self.word as usize <= words - elements
@@ -297,8 +301,8 @@ pub(crate) fn bit_at<R: BitRegister, O: BitOrder<R>>(word: R, index: BitIdx<R>) 
 
 // A word with another bit at an index.
 pub(crate) fn with_bit<R: BitRegister, O: BitOrder<R>>(word: R, index: BitIdx<R>, bit: bool) -> R
-    ensures { (j : ℕ) → j < R.BITS
-        → digit (R.number result) (O.at_of j) ≡ (if j == index then bit else digit (R.number word) (O.at_of j)) }
+    ensures { (j : ℕ) → j < R.BITS → digit (R.number result) (O.at_of j)
+        ≡ (if j == index then bit else digit (R.number word) (O.at_of j)) }
 {
     let selector = index.select::<O>().into_inner();
     if bit {
@@ -314,7 +318,8 @@ impl<R: BitRegister, O: BitOrder<R>> BitPtr<R, O> {
     /// The pointer's bit in a memory that has its word: [`is_in`](BitPtr::is_in) is the test.
     pub fn read(self, memory: &[R]) -> bool
         requires { IsIn (ptr_of self) (length memory.now) }
-        ensures { slice_get (memory_bits R.BITS O.at_of (map R.number memory.now)) (index_of R.BITS (ptr_of self)) ≡ Some result }
+        ensures { slice_get (memory_bits R.BITS O.at_of (map R.number memory.now))
+            (index_of R.BITS (ptr_of self)) ≡ Some result }
     {
         bit_at::<R, O>(memory[self.word as usize], self.bit())
     }
@@ -324,7 +329,8 @@ impl<R: BitRegister, O: BitOrder<R>> BitPtr<R, O> {
     pub fn write(self, memory: &mut [R], bit: bool)
         requires { IsIn (ptr_of self) (length memory.old) }
         ensures bits { memory_bits R.BITS O.at_of (map R.number memory.new)
-            ≡ slice_set (memory_bits R.BITS O.at_of (map R.number memory.old)) (index_of R.BITS (ptr_of self)) bit }
+            ≡ slice_set (memory_bits R.BITS O.at_of (map R.number memory.old))
+            (index_of R.BITS (ptr_of self)) bit }
         ensures words { length memory.new ≡ length memory.old }
     {
         let at = self.word as usize;
@@ -334,9 +340,11 @@ impl<R: BitRegister, O: BitOrder<R>> BitPtr<R, O> {
     /// Writes the pointer's bit as [`write`](BitPtr::write) does, and returns the bit before.
     pub fn replace(self, memory: &mut [R], bit: bool) -> bool
         requires { IsIn (ptr_of self) (length memory.old) }
-        ensures previous { slice_get (memory_bits R.BITS O.at_of (map R.number memory.old)) (index_of R.BITS (ptr_of self)) ≡ Some result }
+        ensures previous { slice_get (memory_bits R.BITS O.at_of (map R.number memory.old))
+            (index_of R.BITS (ptr_of self)) ≡ Some result }
         ensures bits { memory_bits R.BITS O.at_of (map R.number memory.new)
-            ≡ slice_set (memory_bits R.BITS O.at_of (map R.number memory.old)) (index_of R.BITS (ptr_of self)) bit }
+            ≡ slice_set (memory_bits R.BITS O.at_of (map R.number memory.old))
+            (index_of R.BITS (ptr_of self)) bit }
         ensures words { length memory.new ≡ length memory.old }
     {
         let previous = self.read(memory);
@@ -344,8 +352,8 @@ impl<R: BitRegister, O: BitOrder<R>> BitPtr<R, O> {
         previous
     }
 
-    /// Exchanges the pointer's bit in `memory` with the bit of `with` in `other`, and changes no other
-    /// bit: [`is_in`](BitPtr::is_in) is the test of each.
+    /// Exchanges the pointer's bit in `memory` with the bit of `with` in `other`, and changes no
+    /// other bit: [`is_in`](BitPtr::is_in) is the test of each.
     pub fn swap<R2: BitRegister, O2: BitOrder<R2>>(
         self,
         memory: &mut [R],
@@ -355,10 +363,12 @@ impl<R: BitRegister, O: BitOrder<R>> BitPtr<R, O> {
         requires self_in { IsIn (ptr_of self) (length memory.old) }
         requires with_in { IsIn (ptr_of with) (length other.old) }
         ensures bits { memory_bits R.BITS O.at_of (map R.number memory.new)
-            ≡ slice_set (memory_bits R.BITS O.at_of (map R.number memory.old)) (index_of R.BITS (ptr_of self))
+            ≡ slice_set (memory_bits R.BITS O.at_of (map R.number memory.old))
+            (index_of R.BITS (ptr_of self))
             (bit_of R2.BITS O2.at_of (map R2.number other.old) (index_of R2.BITS (ptr_of with))) }
         ensures other_bits { memory_bits R2.BITS O2.at_of (map R2.number other.new)
-            ≡ slice_set (memory_bits R2.BITS O2.at_of (map R2.number other.old)) (index_of R2.BITS (ptr_of with))
+            ≡ slice_set (memory_bits R2.BITS O2.at_of (map R2.number other.old))
+            (index_of R2.BITS (ptr_of with))
             (bit_of R.BITS O.at_of (map R.number memory.old) (index_of R.BITS (ptr_of self))) }
         ensures words { length memory.new ≡ length memory.old }
         ensures other_words { length other.new ≡ length other.old }
@@ -368,13 +378,14 @@ impl<R: BitRegister, O: BitOrder<R>> BitPtr<R, O> {
         with.write(other, ours);
     }
 
-    /// Exchanges two bits of one memory, and changes no other bit: [`is_in`](BitPtr::is_in) is the test
-    /// of each. Our own, for the Rust crate's `swap` where both pointers are into one memory.
+    /// Exchanges two bits of one memory, and changes no other bit: [`is_in`](BitPtr::is_in) is the
+    /// test of each. Our own, for the Rust crate's `swap` where both pointers are into one memory.
     pub fn swap_within(self, memory: &mut [R], with: Self)
         requires self_in { IsIn (ptr_of self) (length memory.old) }
         requires with_in { IsIn (ptr_of with) (length memory.old) }
         ensures bits { memory_bits R.BITS O.at_of (map R.number memory.new)
-            ≡ swap (memory_bits R.BITS O.at_of (map R.number memory.old)) (index_of R.BITS (ptr_of self)) (index_of R.BITS (ptr_of with)) }
+            ≡ swap (memory_bits R.BITS O.at_of (map R.number memory.old))
+            (index_of R.BITS (ptr_of self)) (index_of R.BITS (ptr_of with)) }
         ensures words { length memory.new ≡ length memory.old }
     {
         let theirs = with.read(memory);

@@ -3,7 +3,8 @@
 //! The words of a memory that is lent to a writer are reached by [`get`](WordWriter::get) and
 //! [`put`](WordWriter::put) alone, so the count misses no write.
 
-ghost use Rattle.std.specs.Prelude.{◌≡◌, ◌+◌, ◌<◌, ◌≤◌, Some, true, false, length, slice_get, slice_set};
+ghost use Rattle.std.specs.Prelude.{◌≡◌, ◌+◌, ◌<◌, ◌≤◌, Some, true, false, length, slice_get};
+ghost use Rattle.std.specs.Prelude.{slice_set};
 
 // The edge of `count` words from the word `first` on to which a writer comes first.
 pub(super) fn near_edge(rising: bool, first: usize, count: usize) -> usize
@@ -21,8 +22,8 @@ pub(super) fn near_edge(rising: bool, first: usize, count: usize) -> usize
 /// The words of a memory, written by rising or by falling index, each of them at most once.
 ///
 /// The mark is an edge between two words. A rising writer puts no word below its mark, a falling
-/// one none at or above it, and each `put` moves the mark over the word that it wrote. When the loan
-/// ends, the memory is the writer's words. Our own.
+/// one none at or above it, and each `put` moves the mark over the word that it wrote. When the
+/// loan ends, the memory is the writer's words. Our own.
 #[derive(Drop)]
 pub struct WordWriter<'a, R> {
     words: &'a mut [R],
@@ -35,7 +36,7 @@ pub struct WordWriter<'a, R> {
 }
 
 impl<'a, R: Copy> WordWriter<'a, R> {
-    ghost use Rattle.bitvec_ptr.specs.WriterView.{writer_memory, writer_of};
+    ghost use Rattle.bitvec_ptr.specs.WordWriter.{writer_memory, writer_of};
 
     /// A writer of a memory's words by rising index. Its mark is 0, before the first word.
     pub fn rising(words: &'a mut [R]) -> Self
@@ -53,7 +54,8 @@ impl<'a, R: Copy> WordWriter<'a, R> {
         }
     }
 
-    /// A writer of a memory's words by falling index. Its mark is the number of words, after the last.
+    /// A writer of a memory's words by falling index. Its mark is the number of words, after the
+    /// last.
     pub fn falling(words: &'a mut [R]) -> Self
         ensures reference { (writer_memory result).ghost_name ≡ words.entry.ghost_name }
         ensures words { (writer_of result).words ≡ words.old }
@@ -101,21 +103,22 @@ impl<'a, R: Copy> WordWriter<'a, R> {
         self.words.len()
     }
 
-    /// The mark, an edge between two words: that before the word of this index, or, where there is no
-    /// such word, after the last.
+    /// The mark, an edge between two words: that before the word of this index, or, where there is
+    /// no such word, after the last.
     pub fn mark(&self) -> usize
         ensures { result ≡ (writer_of self.now).mark }
     {
         self.mark
     }
 
-    /// How many words were put, at most as many as there are on the side of the mark that the writer
-    /// comes from.
+    /// How many words were put, at most as many as there are on the side of the mark that the
+    /// writer comes from.
     pub fn writes(&self) -> usize
         ensures value { result ≡ (writer_of self.now).writes }
         ensures most { result ≤ length (writer_of self.now).words }
         ensures rising { (writer_of self.now).rising ≡ true → result ≤ (writer_of self.now).mark }
-        ensures falling { (writer_of self.now).rising ≡ false → result + (writer_of self.now).mark ≤ length (writer_of self.now).words }
+        ensures falling { (writer_of self.now).rising ≡ false
+            → result + (writer_of self.now).mark ≤ length (writer_of self.now).words }
     {
         self.writes
     }
@@ -136,10 +139,12 @@ impl<'a, R: Copy> WordWriter<'a, R> {
         requires inside { k < length (writer_of self.old).words }
         requires rising { (writer_of self.old).rising ≡ true → (writer_of self.old).mark ≤ k }
         requires falling { (writer_of self.old).rising ≡ false → k < (writer_of self.old).mark }
-        ensures reference { (writer_memory self.new).ghost_name ≡ (writer_memory self.old).ghost_name }
+        ensures reference { (writer_memory self.new).ghost_name
+            ≡ (writer_memory self.old).ghost_name }
         ensures words { (writer_of self.new).words ≡ slice_set (writer_of self.old).words k word }
         ensures direction { (writer_of self.new).rising ≡ (writer_of self.old).rising }
-        ensures rising_mark { (writer_of self.old).rising ≡ true → (writer_of self.new).mark ≡ k + 1 }
+        ensures rising_mark { (writer_of self.old).rising ≡ true → (writer_of self.new).mark
+            ≡ k + 1 }
         ensures falling_mark { (writer_of self.old).rising ≡ false → (writer_of self.new).mark ≡ k }
         ensures writes { (writer_of self.new).writes ≡ (writer_of self.old).writes + 1 }
     {
@@ -150,13 +155,14 @@ impl<'a, R: Copy> WordWriter<'a, R> {
 
     /// Moves the mark to `k` and puts no word.
     ///
-    /// Requires that this is on the writer's way: not below the mark of a rising writer nor past the
-    /// last word, or not above the mark of a falling one.
+    /// Requires that this is on the writer's way: not below the mark of a rising writer nor past
+    /// the last word, or not above the mark of a falling one.
     pub fn skip_to(&mut self, k: usize)
         requires inside { k ≤ length (writer_of self.old).words }
         requires rising { (writer_of self.old).rising ≡ true → (writer_of self.old).mark ≤ k }
         requires falling { (writer_of self.old).rising ≡ false → k ≤ (writer_of self.old).mark }
-        ensures reference { (writer_memory self.new).ghost_name ≡ (writer_memory self.old).ghost_name }
+        ensures reference { (writer_memory self.new).ghost_name
+            ≡ (writer_memory self.old).ghost_name }
         ensures words { (writer_of self.new).words ≡ (writer_of self.old).words }
         ensures direction { (writer_of self.new).rising ≡ (writer_of self.old).rising }
         ensures mark { (writer_of self.new).mark ≡ k }

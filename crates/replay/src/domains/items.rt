@@ -1,8 +1,8 @@
 //! The parts, the items and the bits of a domain.
 
 ghost use Rattle.std.specs.Prelude.{◌↔◌, IsTrue, length};
-ghost use Rattle.bitvec.specs.Domain.{HasShortBody};
-ghost use Rattle.bitvec.specs.DomainView.{domain_parts};
+ghost use Rattle.bitvec.specs.Parts.{HasShortBody};
+ghost use Rattle.bitvec.specs.Domain.{domain_parts};
 ghost use Rattle.bitvec.specs.BitSpan.{span_of};
 ghost use Rattle.bitvec.specs.Span.{Fits};
 
@@ -73,8 +73,8 @@ pub(super) fn back<'a, R: BitRegister, O: BitOrder<R>, A: Allocator>(
     Ok(Some(text))
 }
 
-// An item for each letter of a pattern, `f` from the front and `b` from the back, with the number of
-// items after it.
+// An item for each letter of a pattern, `f` from the front and `b` from the back, with the number
+// of items after it.
 pub(super) fn mixed<'a, R: BitRegister, O: BitOrder<R>, A: Allocator>(
     alloc: &'a A,
     domain: Domain<R, O>,
@@ -154,8 +154,8 @@ pub(super) fn bits<'a, R: BitRegister, O: BitOrder<R>, A: Allocator>(
     Ok(Some(text))
 }
 
-// Writes the first word of a run of bits, or `-` where it has none, the index of the first in it, and
-// how many there are.
+// Writes the first word of a run of bits, or `-` where it has none, the index of the first in it,
+// and how many there are.
 fn write_run<R: BitRegister, O: BitOrder<R>, A: Allocator>(
     text: &mut String<A>,
     at: u128,

@@ -27,7 +27,7 @@ impl<'a, A: Allocator> Call for PartialCall<'a, '_, A> {
     type Answer = Result<Option<String<&'a A>>, AllocError>;
 
     // The part's value before, and the word after.
-    fn answer<R: BitRegister, O: BitOrder<R>>(&self) -> Self::Answer {
+    fn at<R: BitRegister, O: BitOrder<R>>(&self) -> Self::Answer {
         let Some(mut memory) = words_of::<R, A>(self.alloc, self.word)? else {
             return Ok(None);
         };
@@ -56,8 +56,9 @@ fn span_between<R: BitRegister, O>(head: &str, tail: &str) -> Option<BitSpan<R, 
     BitSpan::new(0, first, usize::from(tail - head)).ok()
 }
 
-// The value of a span's part of a word, which an edit changes then; `None` where the span is past the
-// memory, or where the edit has no such name. A span of no bits has no part, so no edit changes one.
+// The value of a span's part of a word, which an edit changes then; `None` where the span is past
+// the memory, or where the edit has no such name. A span of no bits has no part, so no edit changes
+// one.
 fn old_value<R: BitRegister, O: BitOrder<R>>(
     span: BitSpan<R, O>,
     memory: &mut [R],

@@ -10,7 +10,7 @@ use std::alloc::{AllocError, Allocator};
 use std::marker::PhantomData;
 
 /// The answer to a question of two memories, or `None` where the words ask none.
-pub(super) fn answer<'a, A: Allocator>(
+pub(super) fn answer_of_two<'a, A: Allocator>(
     alloc: &'a A,
     kind: &str,
     words: &[&str],
@@ -36,7 +36,7 @@ pub(super) fn answer<'a, A: Allocator>(
                 other,
                 exchange,
             };
-            names::answer(order, register, &call).unwrap_or(Ok(None))
+            names::answer_at(order, register, &call).unwrap_or(Ok(None))
         }
         _ => Ok(None),
     }
@@ -76,12 +76,12 @@ struct PairCall<'a, 't, A: Allocator> {
 impl<'a, A: Allocator> Call for PairCall<'a, '_, A> {
     type Answer = Result<Option<String<&'a A>>, AllocError>;
 
-    fn answer<R: BitRegister, O: BitOrder<R>>(&self) -> Self::Answer {
+    fn at<R: BitRegister, O: BitOrder<R>>(&self) -> Self::Answer {
         let call = OtherCall::<R, O, A> {
             pair: self,
             of: PhantomData,
         };
-        names::answer(self.other_order, self.other_register, &call).unwrap_or(Ok(None))
+        names::answer_at(self.other_order, self.other_register, &call).unwrap_or(Ok(None))
     }
 }
 
@@ -95,7 +95,7 @@ struct OtherCall<'a, 'p, 't, R: BitRegister, O, A: Allocator> {
 impl<'a, R: BitRegister, O: BitOrder<R>, A: Allocator> Call for OtherCall<'a, '_, '_, R, O, A> {
     type Answer = Result<Option<String<&'a A>>, AllocError>;
 
-    fn answer<S: BitRegister, P: BitOrder<S>>(&self) -> Self::Answer {
+    fn at<S: BitRegister, P: BitOrder<S>>(&self) -> Self::Answer {
         let pair = self.pair;
         let Some(mut memory) = words_of::<R, A>(pair.alloc, pair.memory)? else {
             return Ok(None);

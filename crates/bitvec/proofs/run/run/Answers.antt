@@ -1,7 +1,7 @@
 use Rattle.std.proofs.Common.{◌<◌, length, arith}
 use Rattle.std.proofs.lemmas.List.{take_more, take_more_set, map_push}
 use Rattle.bitvec_domain.specs.BitSpan.{span_of}
-use Rattle.bitvec.proofs.RunLemmas.{run-more}
+use Rattle.bitvec.proofs.AppendedRuns.{run-more}
 use Rattle.bitvec.proofs.run.run.Goals as goal
 
 pub loop-n-preserved : goal.loop-n-preserved

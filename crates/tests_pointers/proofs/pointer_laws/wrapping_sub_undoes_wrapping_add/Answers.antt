@@ -2,7 +2,7 @@ use Rattle.std.proofs.Common.{pos, neg_ℤ, ap, ◌∙◌, arith}
 use Rattle.std.specs.Int.{w64, int_wrap}
 use Rattle.std.proofs.lemmas.Int.{ints}
 use Rattle.bitvec.specs.BitPtr.{ptr_of}
-use Rattle.bitvec.specs.Steps.{wrapped}
+use Rattle.bitvec.specs.Steps.{wrapped_ptr}
 use Rattle.bitvec_ptr.proofs.PlaceOrder.{bit_below}
 use Rattle.tests_pointers.proofs.PointerLaws.{wrapped_back}
 use Rattle.tests_pointers.proofs.pointer_laws.wrapping_sub_undoes_wrapping_add.Goals as goal
@@ -14,6 +14,6 @@ returns g c =
     let below = bit_below width pointer.bit g.met.R.BitRegister.eight_law pointer.in_word in
     let back = wrapped_back width c.args.count (ptr_of pointer) below (omega (arith, g.met.R.BitRegister.limit_law)) (omega (arith, ints)) (omega (arith, ints, c.requires)) in
     record {
-      answer = c.wrapping_sub.ensures ∙ ap (λ t. wrapped width t (int_wrap w64 (neg_ℤ (pos c.args.count)))) c.wrapping_add.ensures ∙ back;
+      answer = c.wrapping_sub.ensures ∙ ap (λ t. wrapped_ptr width t (int_wrap w64 (neg_ℤ (pos c.args.count)))) c.wrapping_add.ensures ∙ back;
       law = back;
     }

@@ -1,7 +1,7 @@
 use Rattle.std.proofs.Common.{ℕ, ◌+◌, ◌≤◌, map, length, sym, subst, ap, ◌∙◌, arith, rules}
 use Rattle.std.proofs.lemmas.List.{length-map}
 use Rattle.bitvec_ptr.specs.Place.{Ptr, index_of}
-use Rattle.bitvec_ptr.specs.Steps.{RunsIn}
+use Rattle.bitvec_ptr.specs.Steps.{RangeIsIn}
 use Rattle.bitvec_ptr.proofs.PlaceOrder.{bit_below}
 use Rattle.bitvec_domain.specs.Span.{Fits}
 use Rattle.bitvec_domain.specs.BitSpan.{span_of}
@@ -9,7 +9,7 @@ use Rattle.bitvec_domain.proofs.PartLemmas.{length-list_of}
 use Rattle.bitvec.specs.declared.run.command.Command.TheVariants.{Copy}
 use Rattle.bitvec.proofs.CommandLemmas.{step-past}
 use Rattle.bitvec.proofs.MoveLemmas.{step-copy, copy_past}
-use Rattle.bitvec_domain.proofs.PointerLemmas.{runs-pointer_at, index-pointer_at}
+use Rattle.bitvec_domain.proofs.PointerLemmas.{range-pointer_at, index-pointer_at}
 use Rattle.bitvec.proofs.run.step.copy.Goals as goal
 
 pub copy_within-requires-clause-from_in : goal.copy_within-requires-clause-from_in
@@ -17,16 +17,16 @@ copy_within-requires-clause-from_in g c =
     let width = g.R.BitRegister.BITS in
     let span = c.args.span in
     let within = c.if-can_copy.ensures.0 (search rules) in
-    subst (λ (p : Ptr). RunsIn width p (length c.args.memory.now) c.args.count) (sym c.bit_pointer-source.ensures)
-    (runs-pointer_at width (span_of span) (length c.args.memory.now) (bit_below width span.head g.met.R.BitRegister.eight_law span.in_word) c.requires c.args.from c.args.count (omega (arith, c.len-len.ensures, within.0)))
+    subst (λ (p : Ptr). RangeIsIn width p (length c.args.memory.now) c.args.count) (sym c.bit_pointer-source.ensures)
+    (range-pointer_at width (span_of span) (length c.args.memory.now) (bit_below width span.head g.met.R.BitRegister.eight_law span.in_word) c.requires c.args.from c.args.count (omega (arith, c.len-len.ensures, within.0)))
 
 pub copy_within-requires-clause-to_in : goal.copy_within-requires-clause-to_in
 copy_within-requires-clause-to_in g c =
     let width = g.R.BitRegister.BITS in
     let span = c.args.span in
     let within = c.if-can_copy.ensures.0 (search rules) in
-    subst (λ (p : Ptr). RunsIn width p (length c.args.memory.now) c.args.count) (sym c.bit_pointer-target.ensures)
-    (runs-pointer_at width (span_of span) (length c.args.memory.now) (bit_below width span.head g.met.R.BitRegister.eight_law span.in_word) c.requires c.args.to c.args.count (omega (arith, c.len-len.ensures, within.1)))
+    subst (λ (p : Ptr). RangeIsIn width p (length c.args.memory.now) c.args.count) (sym c.bit_pointer-target.ensures)
+    (range-pointer_at width (span_of span) (length c.args.memory.now) (bit_below width span.head g.met.R.BitRegister.eight_law span.in_word) c.requires c.args.to c.args.count (omega (arith, c.len-len.ensures, within.1)))
 
 pub returns-then-can_copy : goal.returns-then-can_copy
 returns-then-can_copy g c =

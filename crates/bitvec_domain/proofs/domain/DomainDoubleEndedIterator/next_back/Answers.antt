@@ -1,6 +1,6 @@
 use Rattle.std.proofs.Common.{◌≡◌, ◌++◌, ◌∷◌, [], map, ap, ◌∙◌, None, rules}
-use Rattle.bitvec_domain.specs.Domain.{region, whole, value_of, items, part_items}
-use Rattle.bitvec_domain.specs.DomainView.{optional_part, domain_parts}
+use Rattle.bitvec_domain.specs.Parts.{region, whole, value_of, items, part_items}
+use Rattle.bitvec_domain.specs.Domain.{optional_part, domain_parts}
 use Rattle.bitvec_domain.proofs.ItemLemmas.{value_of-whole, items_last}
 use Rattle.bitvec_domain.proofs.LeftLemmas.{left-last}
 use Rattle.bitvec_domain.proofs.domain.DomainDoubleEndedIterator.next_back.Goals as goal

@@ -1,5 +1,5 @@
 use Rattle.std.proofs.Common.{◌≡◌, rules}
-use Rattle.bitvec_domain.specs.Domain.{whole, value_of}
+use Rattle.bitvec_domain.specs.Parts.{whole, value_of}
 use Rattle.bitvec_domain.proofs.ItemLemmas.{value_of-whole}
 use Rattle.bitvec_domain.proofs.domain.DomainIterator.next.Goals as goal
 

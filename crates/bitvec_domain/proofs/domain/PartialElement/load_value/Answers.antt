@@ -1,7 +1,7 @@
 use Rattle.std.proofs.Common.{◌&&◌, get_or, sym, ap, ◌∙◌, arith}
 use Rattle.std.proofs.lemmas.List.{get_or-map}
 use Rattle.bitvec_mem.specs.Digit.{digit}
-use Rattle.bitvec_domain.specs.DomainView.{element_part}
+use Rattle.bitvec_domain.specs.Domain.{element_part}
 use Rattle.bitvec_domain.proofs.PartLemmas.{value_of-from_mask}
 use Rattle.bitvec_domain.proofs.domain.PartialElement.load_value.Goals as goal
 

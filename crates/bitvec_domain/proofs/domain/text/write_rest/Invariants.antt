@@ -1,7 +1,7 @@
 use Rattle.std.proofs.Common.{◌≡◌, ℕ, List, ◌++◌}
 use Rattle.std.specs.Fmt.{IsFlush, HasWrittenStyled}
-use Rattle.bitvec_domain.specs.Domain.{items}
-use Rattle.bitvec_domain.specs.DomainView.{domain_parts}
+use Rattle.bitvec_domain.specs.Parts.{items}
+use Rattle.bitvec_domain.specs.Domain.{domain_parts}
 use Rattle.bitvec_domain.specs.ItemText.{rest_text}
 use Rattle.bitvec_domain.proofs.domain.text.write_rest.Given as goal
 

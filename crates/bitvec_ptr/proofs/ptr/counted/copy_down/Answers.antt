@@ -1,5 +1,5 @@
 use Rattle.std.proofs.Common.{◌≡◌, ◌+◌, ◌-◌, ◌*◌, ◌<◌, ◌≤◌, length, map, ap, ◌∙◌, arith}
-use Rattle.bitvec_ptr.specs.Memory.{memory_bits, copied}
+use Rattle.bitvec_ptr.specs.Memory.{memory_bits, list_with_copy}
 use Rattle.bitvec_ptr.proofs.CopyLemmas.{length-bits, place_below, met_covers}
 use Rattle.bitvec_ptr.proofs.EdgeLemmas.{allows_on}
 use Rattle.bitvec_ptr.proofs.JoinLemmas.{pieces_back}
@@ -82,4 +82,4 @@ returns-clause-bits g c =
     (c.advanced-end.result.word * R.BITS + c.advanced-end.result.bit) ((c.args.to.word + 1 + whole) * R2.BITS + 0)
     fits holds read write read_end write_end
     c.put_bits-2.ensures.bits c.put_row_down.ensures.bits c.put_bits-3.ensures.bits
-    ∙ ap (λ n. copied source s target t n) all
+    ∙ ap (λ n. list_with_copy source s target t n) all

@@ -1,5 +1,5 @@
 use Rattle.std.proofs.Common.{◌≡◌, ◌+◌, ◌*◌, true, length, map}
-use Rattle.bitvec_ptr.specs.Memory.{memory_bits, copied}
+use Rattle.bitvec_ptr.specs.Memory.{memory_bits, list_with_copy}
 use Rattle.bitvec_ptr.proofs.ptr.counted.move_row.Given as goal
 
 abbrev pub invariant-loop-k : goal.invariant-loop-k
@@ -12,5 +12,5 @@ invariant-loop-k g l =
       writes : l.writer.writes ≡ l.fn.writer.writes + l.k;
       mark : l.writer.mark ≡ l.to + l.k;
       bits : memory_bits R.BITS g.O.BitAt.at_of (map R.number l.writer.words.now)
-          ≡ copied (memory_bits R.BITS g.O.BitAt.at_of (map R.number l.fn.writer.words.now)) (l.fn.from.word * R.BITS + l.fn.from.bit) (memory_bits R.BITS g.O.BitAt.at_of (map R.number l.fn.writer.words.now)) (l.to * R.BITS) (l.k * R.BITS);
+          ≡ list_with_copy (memory_bits R.BITS g.O.BitAt.at_of (map R.number l.fn.writer.words.now)) (l.fn.from.word * R.BITS + l.fn.from.bit) (memory_bits R.BITS g.O.BitAt.at_of (map R.number l.fn.writer.words.now)) (l.to * R.BITS) (l.k * R.BITS);
     }

@@ -1,6 +1,6 @@
 use Rattle.std.proofs.Common.{◌≡◌, ◌+◌, ◌-◌, ◌*◌, ◌≤◌, length, map, refl, ap, ◌∙◌, arith}
 use Rattle.std.proofs.Math.Nat.{mul-le-mul_right}
-use Rattle.bitvec_ptr.specs.Memory.{memory_bits, copied}
+use Rattle.bitvec_ptr.specs.Memory.{memory_bits, list_with_copy}
 use Rattle.bitvec_ptr.proofs.CopyLemmas.{length-bits, place_below}
 use Rattle.bitvec_ptr.proofs.EdgeLemmas.{allows_on}
 use Rattle.bitvec_ptr.proofs.JoinLemmas.{copied_no_words, row_less, moved_row_back}
@@ -69,7 +69,7 @@ loop-done-preserved g c =
       writes = omega (arith, put.writes, here.writes);
       mark = let v = put.falling_mark here.direction in omega (arith, v, here.mark);
       bits = moved_row_back old now new s t R.BITS k (c.args.count - done) done (c.words_on-read.result.word * R.BITS + c.words_on-read.result.bit) ((c.args.to + k) * R.BITS + 0) c.BITS.result c.words_on-read.ensures.place write c.BITS.ensures a c.requires.behind (omega (arith, whole, room, m)) here.bits put.bits
-          ∙ ap (λ v. copied old (s + v * R.BITS) old (t + v * R.BITS) ((done + 1) * R.BITS)) b;
+          ∙ ap (λ v. list_with_copy old (s + v * R.BITS) old (t + v * R.BITS) ((done + 1) * R.BITS)) b;
     }
 
 pub returns-clause-bits : goal.returns-clause-bits
@@ -83,6 +83,6 @@ returns-clause-bits g c =
     (let v : count - c.loop-done.done ≡ 0 = omega arith in ap (λ n. c.args.to * R.BITS + n * R.BITS) v ∙ omega arith) in
     let all : c.loop-done.done * R.BITS ≡ count * R.BITS = ap (λ n. n * R.BITS) (let v : c.loop-done.done ≡ count = omega arith in v) in
     c.loop-done.invariant.bits
-    ∙ ap (λ v. copied old v old (c.args.to * R.BITS + (count - c.loop-done.done) * R.BITS) (c.loop-done.done * R.BITS)) none
-    ∙ ap (λ v. copied old (c.args.from.word * R.BITS + c.args.from.bit) old v (c.loop-done.done * R.BITS)) zero
-    ∙ ap (λ v. copied old (c.args.from.word * R.BITS + c.args.from.bit) old (c.args.to * R.BITS) v) all
+    ∙ ap (λ v. list_with_copy old v old (c.args.to * R.BITS + (count - c.loop-done.done) * R.BITS) (c.loop-done.done * R.BITS)) none
+    ∙ ap (λ v. list_with_copy old (c.args.from.word * R.BITS + c.args.from.bit) old v (c.loop-done.done * R.BITS)) zero
+    ∙ ap (λ v. list_with_copy old (c.args.from.word * R.BITS + c.args.from.bit) old (c.args.to * R.BITS) v) all

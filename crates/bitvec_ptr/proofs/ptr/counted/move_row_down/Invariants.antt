@@ -1,5 +1,5 @@
 use Rattle.std.proofs.Common.{◌≡◌, ◌+◌, ◌-◌, ◌*◌, false, length, map}
-use Rattle.bitvec_ptr.specs.Memory.{memory_bits, copied}
+use Rattle.bitvec_ptr.specs.Memory.{memory_bits, list_with_copy}
 use Rattle.bitvec_ptr.proofs.ptr.counted.move_row_down.Given as goal
 
 abbrev pub invariant-loop-done : goal.invariant-loop-done
@@ -12,5 +12,5 @@ invariant-loop-done g l =
       writes : l.writer.writes ≡ l.fn.writer.writes + l.done;
       mark : l.writer.mark + l.done ≡ l.to + l.count;
       bits : memory_bits R.BITS g.O.BitAt.at_of (map R.number l.writer.words.now)
-          ≡ copied (memory_bits R.BITS g.O.BitAt.at_of (map R.number l.fn.writer.words.now)) (l.fn.from.word * R.BITS + l.fn.from.bit + (l.count - l.done) * R.BITS) (memory_bits R.BITS g.O.BitAt.at_of (map R.number l.fn.writer.words.now)) (l.to * R.BITS + (l.count - l.done) * R.BITS) (l.done * R.BITS);
+          ≡ list_with_copy (memory_bits R.BITS g.O.BitAt.at_of (map R.number l.fn.writer.words.now)) (l.fn.from.word * R.BITS + l.fn.from.bit + (l.count - l.done) * R.BITS) (memory_bits R.BITS g.O.BitAt.at_of (map R.number l.fn.writer.words.now)) (l.to * R.BITS + (l.count - l.done) * R.BITS) (l.done * R.BITS);
     }

@@ -1,5 +1,5 @@
 use Rattle.std.proofs.Common.{◌≡◌, ◌+◌, ◌*◌, true, length, map}
-use Rattle.bitvec_ptr.specs.Memory.{memory_bits, copied}
+use Rattle.bitvec_ptr.specs.Memory.{memory_bits, list_with_copy}
 use Rattle.bitvec_ptr.proofs.ptr.counted.put_row.Given as goal
 
 abbrev pub invariant-loop-k : goal.invariant-loop-k
@@ -13,5 +13,5 @@ invariant-loop-k g l =
       writes : l.writer.writes ≡ l.fn.writer.writes + l.k;
       mark : l.writer.mark ≡ l.to + l.k;
       bits : memory_bits R2.BITS g.O2.BitAt.at_of (map R2.number l.writer.words.now)
-          ≡ copied (memory_bits R.BITS g.O.BitAt.at_of (map R.number l.source)) (l.fn.from.word * R.BITS + l.fn.from.bit) (memory_bits R2.BITS g.O2.BitAt.at_of (map R2.number l.fn.writer.words.now)) (l.to * R2.BITS) (l.k * R2.BITS);
+          ≡ list_with_copy (memory_bits R.BITS g.O.BitAt.at_of (map R.number l.source)) (l.fn.from.word * R.BITS + l.fn.from.bit) (memory_bits R2.BITS g.O2.BitAt.at_of (map R2.number l.fn.writer.words.now)) (l.to * R2.BITS) (l.k * R2.BITS);
     }

@@ -1,6 +1,6 @@
 use Rattle.std.proofs.Common.{◌≡◌, ◌+◌, ◌-◌, ◌*◌, ◌≤◌, length, map, refl, ap, ◌∙◌, arith}
 use Rattle.std.proofs.Math.Nat.{mul-le-mul_right}
-use Rattle.bitvec_ptr.specs.Memory.{memory_bits, copied}
+use Rattle.bitvec_ptr.specs.Memory.{memory_bits, list_with_copy}
 use Rattle.bitvec_ptr.proofs.CopyLemmas.{length-bits, place_below}
 use Rattle.bitvec_ptr.proofs.EdgeLemmas.{allows_on}
 use Rattle.bitvec_ptr.proofs.JoinLemmas.{copied_no_words, row_less, row_back}
@@ -75,7 +75,7 @@ loop-done-preserved g c =
       writes = omega (arith, put.writes, here.writes);
       mark = let v = put.falling_mark here.direction in omega (arith, v, here.mark);
       bits = row_back source target now new s t R2.BITS k (c.args.count - done) done (c.words_on-read.result.word * R.BITS + c.words_on-read.result.bit) ((c.args.to + k) * R2.BITS + 0) c.BITS.result c.words_on-read.ensures.place write c.BITS.ensures a (omega (arith, whole, room, n)) (omega (arith, whole, c.requires.from_in, m)) here.bits put.bits
-          ∙ ap (λ v. copied source (s + v * R2.BITS) target (t + v * R2.BITS) ((done + 1) * R2.BITS)) b;
+          ∙ ap (λ v. list_with_copy source (s + v * R2.BITS) target (t + v * R2.BITS) ((done + 1) * R2.BITS)) b;
     }
 
 pub returns-clause-bits : goal.returns-clause-bits
@@ -91,6 +91,6 @@ returns-clause-bits g c =
     (let v : count - c.loop-done.done ≡ 0 = omega arith in ap (λ n. c.args.to * R2.BITS + n * R2.BITS) v ∙ omega arith) in
     let all : c.loop-done.done * R2.BITS ≡ count * R2.BITS = ap (λ n. n * R2.BITS) (let v : c.loop-done.done ≡ count = omega arith in v) in
     c.loop-done.invariant.bits
-    ∙ ap (λ v. copied source v target (c.args.to * R2.BITS + (count - c.loop-done.done) * R2.BITS) (c.loop-done.done * R2.BITS)) none
-    ∙ ap (λ v. copied source (c.args.from.word * R.BITS + c.args.from.bit) target v (c.loop-done.done * R2.BITS)) zero
-    ∙ ap (λ v. copied source (c.args.from.word * R.BITS + c.args.from.bit) target (c.args.to * R2.BITS) v) all
+    ∙ ap (λ v. list_with_copy source v target (c.args.to * R2.BITS + (count - c.loop-done.done) * R2.BITS) (c.loop-done.done * R2.BITS)) none
+    ∙ ap (λ v. list_with_copy source (c.args.from.word * R.BITS + c.args.from.bit) target v (c.loop-done.done * R2.BITS)) zero
+    ∙ ap (λ v. list_with_copy source (c.args.from.word * R.BITS + c.args.from.bit) target (c.args.to * R2.BITS) v) all

@@ -1,5 +1,5 @@
 use Rattle.std.proofs.Common.{◌≡◌, ◌+◌, ◌-◌, ◌*◌, false, length, map}
-use Rattle.bitvec_ptr.specs.Memory.{memory_bits, copied}
+use Rattle.bitvec_ptr.specs.Memory.{memory_bits, list_with_copy}
 use Rattle.bitvec_ptr.proofs.ptr.counted.put_row_down.Given as goal
 
 abbrev pub invariant-loop-done : goal.invariant-loop-done
@@ -13,5 +13,5 @@ invariant-loop-done g l =
       writes : l.writer.writes ≡ l.fn.writer.writes + l.done;
       mark : l.writer.mark + l.done ≡ l.to + l.count;
       bits : memory_bits R2.BITS g.O2.BitAt.at_of (map R2.number l.writer.words.now)
-          ≡ copied (memory_bits R.BITS g.O.BitAt.at_of (map R.number l.source)) (l.fn.from.word * R.BITS + l.fn.from.bit + (l.count - l.done) * R2.BITS) (memory_bits R2.BITS g.O2.BitAt.at_of (map R2.number l.fn.writer.words.now)) (l.to * R2.BITS + (l.count - l.done) * R2.BITS) (l.done * R2.BITS);
+          ≡ list_with_copy (memory_bits R.BITS g.O.BitAt.at_of (map R.number l.source)) (l.fn.from.word * R.BITS + l.fn.from.bit + (l.count - l.done) * R2.BITS) (memory_bits R2.BITS g.O2.BitAt.at_of (map R2.number l.fn.writer.words.now)) (l.to * R2.BITS + (l.count - l.done) * R2.BITS) (l.done * R2.BITS);
     }

@@ -1,8 +1,8 @@
 use Rattle.std.proofs.Common.{ap, ◌∙◌}
 use Rattle.bitvec_ptr.proofs.PlaceOrder.{bit_below}
 use Rattle.bitvec_domain.specs.BitSpan.{span_of}
-use Rattle.bitvec_domain.specs.DomainView.{domain_parts}
-use Rattle.bitvec_domain.specs.Words.{joined_bits}
+use Rattle.bitvec_domain.specs.Domain.{domain_parts}
+use Rattle.bitvec_domain.specs.BitParts.{joined_bits}
 use Rattle.bitvec_domain.proofs.JoinLemmas.{joined-words_of}
 use Rattle.bitvec_domain.proofs.ptr.span.BitSpan.bit_domain.Goals as goal
 

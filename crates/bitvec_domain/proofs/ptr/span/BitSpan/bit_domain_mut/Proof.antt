@@ -1,4 +1,4 @@
--- `bit_domain_mut` lends the parts by `domain_mut`, and makes runs of bits of them. Assumes `Logic`.
+-- `bit_domain_mut` lends the parts by `domain_mut`, and makes stretches of bits of them. Assumes `Logic`.
 use Rattle.std.proofs.Common.{◌≡◌, ℕ, ◌^◌, ◌<◌, List, [], ◌∷◌, Bool, refl, ap, ◌∙◌, length, map, MutBor}
 use Rattle.std.specs.Prelude.{Option, is_some}
 use Rattle.std.proofs.raw_atomic.Walks.{proved, leaves}
@@ -19,7 +19,7 @@ use denote.Laws.{Is, shows}
 use denote.RattleType.{RattleType, owns}
 use denote.Signature.{types_at, plain, mut_slice_of, named_lft}
 use denote.Steps.{nothing, heard, owned, peeks}
-use denote.Param.{param, copied, bounded}
+use denote.Param.{param, list_with_copy, bounded}
 use denote.Param.Laws.{param_laws, copied_laws}
 use denote.Slice.{slice_val, mut_slice_vals, mut_slice_Tells}
 use denote.Struct.Laws.{makes}
@@ -30,32 +30,32 @@ use denote.Triple.Table.{framed}
 use denote.Triple.Walked.{Stays, stay_dropped, walk_of, Goes-dropped, Goes-spent_slice}
 use Rattle.bitvec_domain.specs.Span.{Span, Fits}
 use Rattle.bitvec_domain.specs.BitSpan.{span_of}
-use Rattle.bitvec_domain.specs.Domain.{parts_of, HasShortBody}
+use Rattle.bitvec_domain.specs.Parts.{parts_of, HasShortBody}
 use Rattle.bitvec_domain.specs.Lending.{LendsNamed}
-use Rattle.bitvec_domain.specs.Words.{bit_parts_of}
+use Rattle.bitvec_domain.specs.BitParts.{bit_parts_of}
 use Rattle.bitvec_domain.specs.Loans.{has_head, has_tail, words_before, body_words, slots_of, lists_of}
-use Rattle.bitvec_domain.specs.LoansView.{loan_names, loan_words, loan_slots, lent_parts}
-use Rattle.bitvec_domain.specs.BitLoans.{names_if, places_of}
-use Rattle.bitvec_domain.specs.BitLoansView.{lent_bits, run_names, run_places, run_words}
-use Rattle.bitvec_domain.proofs.RunLemmas.{names-present, places-span}
+use Rattle.bitvec_domain.specs.DomainMut.{loan_names, loan_words, loan_slots, lent_parts}
+use Rattle.bitvec_domain.specs.BitLoans.{names_if, stretches_of}
+use Rattle.bitvec_domain.specs.BitDomainMut.{lent_bits, bit_loan_names, bit_loan_stretches, bit_loan_words}
+use Rattle.bitvec_domain.proofs.StretchLemmas.{names-present, places-span}
 use Rattle.bitvec_domain.specs.contracts.ptr.span.BitSpan as S
 use Rattle.bitvec_domain.proofs.ptr.span.BitSpan.TheLaws.{the_told as span_told, the_row_laws as span_laws, the_plain as span_plain}
-use Rattle.bitvec_domain.specs.contracts.domain.lent.DomainMut as D
-use Rattle.bitvec_domain.proofs.domain.lent.DomainMut.TheLaws.{the_row_laws as domain_laws}
-use Rattle.bitvec_domain.specs.contracts.domain.bits_lent.BitDomainMut as B
-use Rattle.bitvec_domain.proofs.domain.bits_lent.BitDomainMut.TheLaws.{the_row_laws as bits_laws}
+use Rattle.bitvec_domain.specs.contracts.domain.domain_mut.DomainMut as D
+use Rattle.bitvec_domain.proofs.domain.domain_mut.DomainMut.TheLaws.{the_row_laws as domain_laws}
+use Rattle.bitvec_domain.specs.contracts.domain.bit_domain_mut.BitDomainMut as B
+use Rattle.bitvec_domain.proofs.domain.bit_domain_mut.BitDomainMut.TheLaws.{the_row_laws as bits_laws}
 use Rattle.bitvec_domain.specs.contracts.ptr.span.BitSpan.bit_domain_mut as f
 use Rattle.bitvec_domain.specs.contracts.ptr.span.BitSpan.bit_domain_mut.Key.{name as #self}
 use Rattle.bitvec_domain.proofs.ptr.span.BitSpan.bit_domain_mut.Statement.{statement}
 use Rattle.bitvec_domain.proofs.ptr.span.BitSpan.bit_domain_mut.Code as code
 use Rattle.bitvec_domain.specs.contracts.ptr.span.BitSpan.domain_mut as g
 use Rattle.bitvec_domain.proofs.ptr.span.BitSpan.domain_mut.Met.{met as met_g}
-use Rattle.bitvec_domain.specs.contracts.domain.lent.DomainMut.into_bit_domain as h
-use Rattle.bitvec_domain.proofs.domain.lent.DomainMut.into_bit_domain.Met.{met as met_h}
+use Rattle.bitvec_domain.specs.contracts.domain.domain_mut.DomainMut.into_bit_domain as h
+use Rattle.bitvec_domain.proofs.domain.domain_mut.DomainMut.into_bit_domain.Met.{met as met_h}
 
 pub bit_domain_mut_spec : {M : Type 1} → statement M
 bit_domain_mut_spec 𝓤 𝓛 𝓜 𝓡 wired X O L LO copy rb rbd rc rcd rd rdd re red rp rpd ro rod rq rqd rh rhd rg rgd m1 m2 m3 m4 m5 m6 m7 m8 m9 =
-    let H = 𝓛.H in let 𝓣 = tables 𝓤 H 𝓜 𝓡 𝓡.env in let R : RattleType = copied 0 X in let Or : RattleType = param 1 O in let En = f.ended X O rb rbd rc rcd rd rdd re red rp rpd ro rod rq rqd rh rhd rg rgd in
+    let H = 𝓛.H in let 𝓣 = tables 𝓤 H 𝓜 𝓡 𝓡.env in let R : RattleType = list_with_copy 0 X in let Or : RattleType = param 1 O in let En = f.ended X O rb rbd rc rcd rd rdd re red rp rpd ro rod rq rqd rh rhd rg rgd in
     let inst = bounded (a_type ∷ a_type ∷ []) (X, (O, tt)) (dcons rbd (dcons rcd (dcons rdd (dcons red (dcons rpd (dcons rod (dcons rqd (dcons rhd (dcons rgd dnil))))))))) in let fn = inst_fn inst code.function in
     let c = f.clauses X O rb rbd rc rcd rd rdd re red rp rpd ro rod rq rqd rh rhd rg rgd 𝓛 𝓜.mem 𝓡.returns in
     let LR = copied_laws 0 X L in let LOr = param_laws 1 O LO in
@@ -103,20 +103,20 @@ bit_domain_mut_spec 𝓤 𝓛 𝓜 𝓡 wired X O L LO copy rb rbd rc rcd rd rdd
     nothing ! $ move ! (1 ∷ 0 ∷ []) $ fjoin ! $ move ! (2 ∷ 0 ∷ []) $ join ! $
     use0 𝓛 (raw (fact 𝓤 (HasShortBody rb.BITS (lent_parts rb.number d)))) (fact_i 𝓤 _ (emp 𝓤) short) $ use0 𝓛 (raw (fact 𝓤 (κs.1.1.0 ⊑ O.lives))) (fact_i 𝓤 _ (emp 𝓤) alive_o) $ join ! $
     use0 𝓛 (raw (fact 𝓤 (κs.1.0 ⊑ X.lives))) (fact_i 𝓤 _ (emp 𝓤) alive_in) $ join ! $ move ! (1 ∷ 0 ∷ []) $ join ! $ use1 𝓛 (raw (K.pre z2)) (id⊢ 𝓤 _) $
-    calls_at ! (framed 𝓤 H 𝓜 𝓣) K (met_h 𝓤 𝓛 𝓜 𝓡 (code.calls-bitvec_domain::domain::lent::DomainMut::into_bit_domain 𝓡.env wired) X O L LO copy rb rbd rc rcd rd rdd re red rp rpd ro rod rq rqd rh rhd rg rgd m1 m2 m3 m4 m5 m6 m7 m8 m9) z2 (and_then ! (get ! refl) (no_more !)) (λ w.
+    calls_at ! (framed 𝓤 H 𝓜 𝓣) K (met_h 𝓤 𝓛 𝓜 𝓡 (code.calls-bitvec_domain::domain::domain_mut::DomainMut::into_bit_domain 𝓡.env wired) X O L LO copy rb rbd rc rcd rd rdd re red rp rpd ro rod rq rqd rh rhd rg rgd m1 m2 m3 m4 m5 m6 m7 m8 m9) z2 (and_then ! (get ! refl) (no_more !)) (λ w.
     use1 𝓛 (later (some (λ (e : Bits.Denot). ((‵ (flft κ qs.0) ⊛ ‵ others) ⊛ ‵ (Bits.own_val e (w ∷ []))) ⊛ some (λ (zs : Lasts (h.ended X O rb rbd rc rcd rd rdd re red rp rpd ro rod rq rqd rh rhd rg rgd) κs (d, tt)). ‵ (lasts (h.ended X O rb rbd rc rcd rd rdd re red rp rpd ro rod rq rqd rh rhd rg rgd) κs (d, tt) zs)
-    ⊛ raw (fact 𝓤 (lent_bits rb.number e ≡ bit_parts_of rb.BITS (lent_parts rb.number d))) ⊛ raw (fact 𝓤 (names_if (is_some (loan_names d).0) (is_some (loan_names d).2) (run_names e) ≡ loan_names d))
-    ⊛ raw (fact 𝓤 (run_places e ≡ places_of rb.BITS (loan_slots d) (length (loan_words d).1))) ⊛ raw (fact 𝓤 (run_words e ≡ loan_words d)))))) (id⊢ 𝓤 _) $ await ! tt $ pick ! (λ e. split ! $ split ! $ move ! (2 ∷ []) $ pick ! (λ zs. split ! $ drop ! $
+    ⊛ raw (fact 𝓤 (lent_bits rb.number e ≡ bit_parts_of rb.BITS (lent_parts rb.number d))) ⊛ raw (fact 𝓤 (names_if (is_some (loan_names d).0) (is_some (loan_names d).2) (bit_loan_names e) ≡ loan_names d))
+    ⊛ raw (fact 𝓤 (bit_loan_stretches e ≡ stretches_of rb.BITS (loan_slots d) (length (loan_words d).1))) ⊛ raw (fact 𝓤 (bit_loan_words e ≡ loan_words d)))))) (id⊢ 𝓤 _) $ await ! tt $ pick ! (λ e. split ! $ split ! $ move ! (2 ∷ []) $ pick ! (λ zs. split ! $ drop ! $
     split ! $ heard ! _ (λ bitted. split ! $ heard ! _ (λ same. split ! $ heard ! _ (λ placed. heard ! _ (λ worded.
     -- [the tokens; the bits; what the slice ends as]
-    rewrite ! 2 (λ (names : Option GName × Option GName × Option GName). ‵ (LendsNamed R m i n names)) (names-present rb.BITS span d (run_names e) slotted same) refl $
+    rewrite ! 2 (λ (names : Option GName × Option GName × Option GName). ‵ (LendsNamed R m i n names)) (names-present rb.BITS span d (bit_loan_names e) slotted same) refl $
     move ! (1 ∷ []) $ peeks ! Bits (Is Bits) (shows 𝓛 Bits) e (w ∷ []) (λ as_bits. lands_as ! refl refl (((LB.lawful 𝓛).typed e (w ∷ []) as_bits).0) $
     returns ! (look_at ! 0 refl) $ free_all ! refl $
     -- [the bits; the tokens; what the slice ends as]
     let bits : lent_bits rb.number e ≡ bit_parts_of rb.BITS (parts_of rb.BITS span (map rb.number xs)) = bitted ∙ ap (bit_parts_of rb.BITS) parted in
-    let places : run_places e ≡ places_of rb.BITS (slots_of rb.BITS span) n = placed ∙ places-span rb.BITS span xs (loan_slots d) (loan_words d) fits.1 slotted listed in
-    let words : run_words e ≡ lists_of rb.BITS span xs = worded ∙ listed in
-    use0 𝓛 (raw (fact 𝓤 (run_words e ≡ lists_of rb.BITS span xs))) (fact_i 𝓤 _ (emp 𝓤) words) $ use0 𝓛 (raw (fact 𝓤 (run_places e ≡ places_of rb.BITS (slots_of rb.BITS span) n))) (fact_i 𝓤 _ (emp 𝓤) places) $ join ! $
+    let places : bit_loan_stretches e ≡ stretches_of rb.BITS (slots_of rb.BITS span) n = placed ∙ places-span rb.BITS span xs (loan_slots d) (loan_words d) fits.1 slotted listed in
+    let words : bit_loan_words e ≡ lists_of rb.BITS span xs = worded ∙ listed in
+    use0 𝓛 (raw (fact 𝓤 (bit_loan_words e ≡ lists_of rb.BITS span xs))) (fact_i 𝓤 _ (emp 𝓤) words) $ use0 𝓛 (raw (fact 𝓤 (bit_loan_stretches e ≡ stretches_of rb.BITS (slots_of rb.BITS span) n))) (fact_i 𝓤 _ (emp 𝓤) places) $ join ! $
     use0 𝓛 (raw (fact 𝓤 (lent_bits rb.number e ≡ bit_parts_of rb.BITS (parts_of rb.BITS span (map rb.number xs))))) (fact_i 𝓤 _ (emp 𝓤) bits) $ join ! $ move ! (3 ∷ 0 ∷ []) $ join ! $
     -- [the `ensures`; the bits; the tokens]
     nothing ! $ nothing ! $ fjoin ! $ nothing ! $ fjoin ! $ keep ! (3 ∷ 0 ∷ 2 ∷ 1 ∷ []) $

@@ -1,8 +1,8 @@
 use Rattle.std.proofs.Common.{map, rules, zero-le}
 use Rattle.bitvec_ptr.proofs.PlaceOrder.{bit_below}
 use Rattle.bitvec_domain.specs.BitSpan.{span_of}
-use Rattle.bitvec_domain.specs.Domain.{enclave, region}
-use Rattle.bitvec_domain.specs.DomainView.{element_part, optional_part}
+use Rattle.bitvec_domain.specs.Parts.{enclave, region}
+use Rattle.bitvec_domain.specs.Domain.{element_part, optional_part}
 use Rattle.bitvec_domain.proofs.ItemLemmas.{items-words_of, short-words_of}
 use Rattle.bitvec_domain.proofs.ptr.span.BitSpan.domain.Goals as goal
 

@@ -26,7 +26,7 @@ use denote.RattleType.{RattleType, owns}
 use denote.Ref.{at_last}
 use denote.Signature.{types_at, plain, named_lft}
 use denote.Steps.{nothing, heard, owned, peeks}
-use denote.Param.{param, copied, bounded}
+use denote.Param.{param, list_with_copy, bounded}
 use denote.Param.Laws.{param_laws, copied_laws}
 use denote.Builtin.{bool}
 use denote.Plain.{bool_vals, bool_Tells, bool_Makes}
@@ -39,11 +39,11 @@ use denote.Triple.Table.{framed}
 use denote.Triple.Walked.{Stays, stay_dropped, stay_slice, walk_of, Goes-dropped, Goes-slice}
 use Rattle.bitvec_domain.specs.Span.{Span, Fits}
 use Rattle.bitvec_domain.specs.BitSpan.{span_of}
-use Rattle.bitvec_domain.specs.Domain.{parts_of, HasShortBody}
+use Rattle.bitvec_domain.specs.Parts.{parts_of, HasShortBody}
 use Rattle.bitvec_domain.specs.Lending.{LendsNamed}
 use Rattle.bitvec_domain.specs.Pieces.{names_of, piece_list}
 use Rattle.bitvec_domain.specs.Loans.{words_before, body_words, slots_of, lists_of, word_of_bit, filled_slot_if, filled}
-use Rattle.bitvec_domain.specs.LoansView.{loan_names, loan_words, loan_slots, lent_parts}
+use Rattle.bitvec_domain.specs.DomainMut.{loan_names, loan_words, loan_slots, lent_parts}
 use Rattle.bitvec_domain.proofs.LentSlices.{named_as, Kept, lends_whole, whole_back}
 use Rattle.bitvec_domain.proofs.LoanEnds.{last_of, AllEnd, whole_end, pieces_gone}
 use Rattle.bitvec_domain.proofs.FillLemmas.{filled-loans}
@@ -51,20 +51,20 @@ use Rattle.bitvec_domain.specs.contracts.ptr.span.BitSpan as S
 use Rattle.bitvec_domain.proofs.ptr.span.BitSpan.TheLaws.{the_told as span_told, the_row_laws as span_laws, the_plain as span_plain}
 use Rattle.bitvec_domain.specs.contracts.lend.Pieces as P
 use Rattle.bitvec_domain.proofs.lend.Pieces.TheLaws.{the_row_laws as pieces_laws}
-use Rattle.bitvec_domain.specs.contracts.domain.lent.DomainMut as D
-use Rattle.bitvec_domain.proofs.domain.lent.DomainMut.TheLaws.{the_row_laws as domain_laws}
+use Rattle.bitvec_domain.specs.contracts.domain.domain_mut.DomainMut as D
+use Rattle.bitvec_domain.proofs.domain.domain_mut.DomainMut.TheLaws.{the_row_laws as domain_laws}
 use Rattle.bitvec_domain.specs.contracts.ptr.span.BitSpan.fill_pieces as f
 use Rattle.bitvec_domain.specs.contracts.ptr.span.BitSpan.fill_pieces.Key.{name as #self}
 use Rattle.bitvec_domain.proofs.ptr.span.BitSpan.fill_pieces.Statement.{statement}
 use Rattle.bitvec_domain.proofs.ptr.span.BitSpan.fill_pieces.Code as code
 use Rattle.bitvec_domain.specs.contracts.ptr.span.BitSpan.domain_mut as g
 use Rattle.bitvec_domain.proofs.ptr.span.BitSpan.domain_mut.Met.{met}
-use Rattle.bitvec_domain.specs.contracts.domain.lent.fill_domain as h
-use Rattle.bitvec_domain.proofs.domain.lent.fill_domain.Met.{met as met_h}
+use Rattle.bitvec_domain.specs.contracts.domain.domain_mut.fill_domain as h
+use Rattle.bitvec_domain.proofs.domain.domain_mut.fill_domain.Met.{met as met_h}
 
 pub fill_pieces_spec : {M : Type 1} → statement M
 fill_pieces_spec 𝓤 𝓛 𝓜 𝓡 wired X O L LO copy rb rbd rc rcd rd rdd re red rp rpd ro rod rq rqd rh rhd rg rgd obo obod ooc oocd oba obad m1 m2 m3 m4 m5 m6 m7 m8 m9 m10 m11 m12 =
-    let H = 𝓛.H in let 𝓣 = tables 𝓤 H 𝓜 𝓡 𝓡.env in let R : RattleType = copied 0 X in let Or : RattleType = param 1 O in let En = f.ended X O rb rbd rc rcd rd rdd re red rp rpd ro rod rq rqd rh rhd rg rgd obo obod ooc oocd oba obad in
+    let H = 𝓛.H in let 𝓣 = tables 𝓤 H 𝓜 𝓡 𝓡.env in let R : RattleType = list_with_copy 0 X in let Or : RattleType = param 1 O in let En = f.ended X O rb rbd rc rcd rd rdd re red rp rpd ro rod rq rqd rh rhd rg rgd obo obod ooc oocd oba obad in
     let inst = bounded (a_type ∷ a_type ∷ []) (X, (O, tt)) (dcons rbd (dcons rcd (dcons rdd (dcons red (dcons rpd (dcons rod (dcons rqd (dcons rhd (dcons rgd (dcons obod (dcons oocd (dcons obad dnil)))))))))))) in let fn = inst_fn inst code.function in
     let c = f.clauses X O rb rbd rc rcd rd rdd re red rp rpd ro rod rq rqd rh rhd rg rgd obo obod ooc oocd oba obad 𝓛 𝓜.mem 𝓡.returns in
     let LR = copied_laws 0 X L in let LOr = param_laws 1 O LO in
@@ -118,7 +118,7 @@ fill_pieces_spec 𝓤 𝓛 𝓜 𝓡 wired X O L LO copy rb rbd rc rcd rd rdd re
     let z2 : J.Ghost = ((κs', qs', (bounds', tt), (e, (bit, tt)), (v ∷ [], (bool_vals bit, tt))), tt) in
     nothing ! $ owned ! bool _ (bool_Makes 𝓛) bit _ refl $ fjoin ! $ move ! (1 ∷ 0 ∷ []) $ fjoin ! $ move ! (2 ∷ 0 ∷ []) $ join ! $ nothing ! $ use0 𝓛 (raw (fact 𝓤 (κs.1.1.0 ⊑ O.lives))) (fact_i 𝓤 _ (emp 𝓤) alive_o) $ join ! $ use0 𝓛 (raw (fact 𝓤 (αs ⊑ X.lives))) (fact_i 𝓤 _ (emp 𝓤) alive') $ join ! $ move ! (1 ∷ 0 ∷ []) $ join ! $
     use1 𝓛 (raw (J.pre z2)) (id⊢ 𝓤 _) $
-    calls_at ! (framed 𝓤 H 𝓜 𝓣) J (met_h 𝓤 𝓛 𝓜 𝓡 (code.calls-bitvec_domain::domain::lent::fill_domain 𝓡.env wired) X O L LO copy rb rbd rc rcd rd rdd re red rp rpd ro rod rq rqd rh rhd rg rgd obo obod ooc oocd oba obad m1 m2 m3 m4 m5 m6 m7 m8 m9 m10 m11 m12) z2 (and_then ! (get ! refl) (and_then ! (get ! refl) (no_more !))) (λ w.
+    calls_at ! (framed 𝓤 H 𝓜 𝓣) J (met_h 𝓤 𝓛 𝓜 𝓡 (code.calls-bitvec_domain::domain::domain_mut::fill_domain 𝓡.env wired) X O L LO copy rb rbd rc rcd rd rdd re red rp rpd ro rod rq rqd rh rhd rg rgd obo obod ooc oocd oba obad m1 m2 m3 m4 m5 m6 m7 m8 m9 m10 m11 m12) z2 (and_then ! (get ! refl) (and_then ! (get ! refl) (no_more !))) (λ w.
     let Front : Row.Denot → Type 0 = λ p. map rb.number (piece_list p.front) ≡ filled_slot_if rb.BITS oba.at_of bit (loan_slots e).0 (map rb.number (loan_words e).0) in
     let Body : Row.Denot → Type 0 = λ p. map rb.number (piece_list p.body) ≡ replicate (length (loan_words e).1) (word_of_bit rb.BITS bit) in
     let Back : Row.Denot → Type 0 = λ p. map rb.number (piece_list p.back) ≡ filled_slot_if rb.BITS oba.at_of bit (loan_slots e).2 (map rb.number (loan_words e).2) in

@@ -4,7 +4,7 @@ use Rattle.std.specs.Prelude.{slice_index, nat_abs}
 use Rattle.std.specs.Int.{w64}
 use mir.Val.{to_z, of_z}
 use Rattle.bitvec_ptr.proofs.PlaceOrder.{bit_below}
-use Rattle.bitvec_domain.specs.Domain.{value_of, part_head, part_tail}
+use Rattle.bitvec_domain.specs.Parts.{value_of, part_head, part_tail}
 use Rattle.bitvec_domain.specs.BitSpan.{span_of}
 use Rattle.bitvec_domain.proofs.PartLemmas.{part_same, value_of-part_of}
 use Rattle.bitvec_domain.proofs.ptr.span.BitSpan.part.Goals as goal

@@ -1,4 +1,4 @@
--- `write_pieces` lends its memory to `bit_domain_mut` for a lifetime of its own, and has it back at what the loans of the runs left. Assumes `Logic`.
+-- `write_pieces` lends its memory to `bit_domain_mut` for a lifetime of its own, and has it back at what the loans of the stretches left. Assumes `Logic`.
 use Rattle.std.proofs.Common.{◌≡◌, ℕ, ◌^◌, ◌<◌, List, [], ◌∷◌, ◌++◌, Bool, refl, sym, ◌∙◌, ◌+◌, ◌*◌, ◌≤◌, arith, length, map, take, drop as drop_l, MutBor}
 use Rattle.std.specs.Prelude.{Option, nat_abs, IfSome}
 use Rattle.std.proofs.raw_atomic.Walks.{proved, leaves}
@@ -26,7 +26,7 @@ use denote.RattleType.{RattleType, owns}
 use denote.Ref.{at_last, Bor}
 use denote.Signature.{types_at, plain, shr_slice_of, named_lft}
 use denote.Steps.{nothing, heard, owned, peeks}
-use denote.Param.{param, copied, bounded}
+use denote.Param.{param, list_with_copy, bounded}
 use denote.Param.Laws.{param_laws, copied_laws}
 use denote.Builtin.{bool}
 use denote.Plain.{bool_vals, bool_Tells, bool_Makes}
@@ -39,14 +39,14 @@ use denote.Triple.Table.{framed}
 use denote.Triple.Walked.{Stays, stay_dropped, stay_slice, walk_of, Goes-dropped, Goes-slice}
 use Rattle.bitvec_domain.specs.Span.{Span, Fits}
 use Rattle.bitvec_domain.specs.BitSpan.{span_of}
-use Rattle.bitvec_domain.specs.Domain.{parts_of}
-use Rattle.bitvec_domain.specs.Words.{bit_parts_of}
-use Rattle.bitvec_domain.specs.Written.{IsWritten, RunIsWritten, body_place, tail_place}
+use Rattle.bitvec_domain.specs.Parts.{parts_of}
+use Rattle.bitvec_domain.specs.BitParts.{bit_parts_of}
+use Rattle.bitvec_domain.specs.Written.{IsWritten, StretchIsWritten, body_place, tail_place}
 use Rattle.bitvec_domain.specs.Lending.{LendsNamed}
 use Rattle.bitvec_domain.specs.Pieces.{names_of}
 use Rattle.bitvec_domain.specs.Loans.{has_head, has_tail, words_before, body_words, slots_of, lists_of}
-use Rattle.bitvec_domain.specs.BitLoans.{names_if, places_of}
-use Rattle.bitvec_domain.specs.BitLoansView.{lent_bits, run_names, run_places, run_words}
+use Rattle.bitvec_domain.specs.BitLoans.{names_if, stretches_of}
+use Rattle.bitvec_domain.specs.BitDomainMut.{lent_bits, bit_loan_names, bit_loan_stretches, bit_loan_words}
 use Rattle.bitvec_domain.proofs.LentSlices.{named_as, Kept, lends_whole, whole_back}
 use Rattle.bitvec_domain.proofs.LoanEnds.{last_of, AllEnd, whole_end, pieces_gone}
 use Rattle.bitvec_ptr.proofs.PlaceOrder.{bit_below}
@@ -55,8 +55,8 @@ use Rattle.bitvec_domain.specs.contracts.ptr.span.BitSpan as S
 use Rattle.bitvec_domain.proofs.ptr.span.BitSpan.TheLaws.{the_told as span_told, the_row_laws as span_laws, the_plain as span_plain}
 use Rattle.bitvec_domain.specs.contracts.lend.Pieces as P
 use Rattle.bitvec_domain.proofs.lend.Pieces.TheLaws.{the_row_laws as pieces_laws}
-use Rattle.bitvec_domain.specs.contracts.domain.bits_lent.BitDomainMut as D
-use Rattle.bitvec_domain.proofs.domain.bits_lent.BitDomainMut.TheLaws.{the_row_laws as domain_laws}
+use Rattle.bitvec_domain.specs.contracts.domain.bit_domain_mut.BitDomainMut as D
+use Rattle.bitvec_domain.proofs.domain.bit_domain_mut.BitDomainMut.TheLaws.{the_row_laws as domain_laws}
 use Rattle.bitvec_domain.specs.contracts.ptr.span.BitSpan.write_pieces as f
 use Rattle.bitvec_domain.specs.contracts.ptr.span.BitSpan.write_pieces.Key.{name as #self}
 use Rattle.bitvec_domain.proofs.ptr.span.BitSpan.write_pieces.Statement.{statement}
@@ -68,7 +68,7 @@ use Rattle.bitvec_domain.proofs.domain.written.write_domain.Met.{met as met_h}
 
 pub write_pieces_spec : {M : Type 1} → statement M
 write_pieces_spec 𝓤 𝓛 𝓜 𝓡 wired X O L LO copy rb rbd rc rcd rd rdd re red rp rpd ro rod rq rqd rh rhd rg rgd obo obod ooc oocd oba obad m1 m2 m3 m4 m5 m6 m7 m8 m9 m10 m11 m12 =
-    let H = 𝓛.H in let 𝓣 = tables 𝓤 H 𝓜 𝓡 𝓡.env in let R : RattleType = copied 0 X in let Or : RattleType = param 1 O in let En = f.ended X O rb rbd rc rcd rd rdd re red rp rpd ro rod rq rqd rh rhd rg rgd obo obod ooc oocd oba obad in
+    let H = 𝓛.H in let 𝓣 = tables 𝓤 H 𝓜 𝓡 𝓡.env in let R : RattleType = list_with_copy 0 X in let Or : RattleType = param 1 O in let En = f.ended X O rb rbd rc rcd rd rdd re red rp rpd ro rod rq rqd rh rhd rg rgd obo obod ooc oocd oba obad in
     let inst = bounded (a_type ∷ a_type ∷ []) (X, (O, tt)) (dcons rbd (dcons rcd (dcons rdd (dcons red (dcons rpd (dcons rod (dcons rqd (dcons rhd (dcons rgd (dcons obod (dcons oocd (dcons obad dnil)))))))))))) in let fn = inst_fn inst code.function in
     let c = f.clauses X O rb rbd rc rcd rd rdd re red rp rpd ro rod rq rqd rh rhd rg rgd obo obod ooc oocd oba obad 𝓛 𝓜.mem 𝓡.returns in
     let LR = copied_laws 0 X L in let LOr = param_laws 1 O LO in
@@ -115,24 +115,24 @@ write_pieces_spec 𝓤 𝓛 𝓜 𝓡 wired X O L LO copy rb rbd rc rcd rd rdd r
     use1 𝓛 (raw (G.pre z)) (id⊢ 𝓤 _) $
     calls_at ! (framed 𝓤 H 𝓜 𝓣) G (met 𝓤 𝓛 𝓜 𝓡 (code.calls-bitvec_domain::ptr::span::BitSpan::bit_domain_mut 𝓡.env wired) X O L LO copy rb rbd rc rcd rd rdd re red rp rpd ro rod rq rqd rh rhd rg rgd m1 m2 m3 m4 m5 m6 m7 m8 m9) z (and_then ! (get ! refl) (and_then ! (get ! refl) (no_more !))) (λ v.
     use1 𝓛 (later (some (λ (e : Dom.Denot). ((‵ (flft αs (left t)) ⊛ ‵ others') ⊛ ‵ (Dom.own_val e (v ∷ []))) ⊛ some (λ (ws : Lasts (g.ended X O rb rbd rc rcd rd rdd re red rp rpd ro rod rq rqd rh rhd rg rgd) κs' (s₀, (s, tt))). ‵ (lasts (g.ended X O rb rbd rc rcd rd rdd re red rp rpd ro rod rq rqd rh rhd rg rgd) κs' (s₀, (s, tt)) ws)
-    ⊛ ‵ (LendsNamed R s i n (names_if (has_head span) (has_tail rb.BITS span) (run_names e))) ⊛ raw (fact 𝓤 (lent_bits rb.number e ≡ bit_parts_of rb.BITS (parts_of rb.BITS span (map rb.number xs)))) ⊛ raw (fact 𝓤 (run_places e ≡ places_of rb.BITS (slots_of rb.BITS span) n)) ⊛ raw (fact 𝓤 (run_words e ≡ lists_of rb.BITS span xs)))))) (id⊢ 𝓤 _) $ await ! tt $ pick ! (λ e. split ! $ split ! $ move ! (2 ∷ []) $ pick ! (λ ws. split ! $ drop ! $
+    ⊛ ‵ (LendsNamed R s i n (names_if (has_head span) (has_tail rb.BITS span) (bit_loan_names e))) ⊛ raw (fact 𝓤 (lent_bits rb.number e ≡ bit_parts_of rb.BITS (parts_of rb.BITS span (map rb.number xs)))) ⊛ raw (fact 𝓤 (bit_loan_stretches e ≡ stretches_of rb.BITS (slots_of rb.BITS span) n)) ⊛ raw (fact 𝓤 (bit_loan_words e ≡ lists_of rb.BITS span xs)))))) (id⊢ 𝓤 _) $ await ! tt $ pick ! (λ e. split ! $ split ! $ move ! (2 ∷ []) $ pick ! (λ ws. split ! $ drop ! $
     split ! $ move ! (1 ∷ []) $ split ! $ drop ! $ split ! $ heard ! _ (λ placed. heard ! _ (λ listed. move ! (2 ∷ []) $ peeks ! Dom (Is Dom) (shows 𝓛 Dom) e (v ∷ []) (λ as_domain. let good = ((LD.lawful 𝓛).typed e (v ∷ []) as_domain).0 in
     -- [the domain; what the loan ends as; the tokens; what the lender keeps; the way back; the token of the list's; the list]
     lands_as ! refl refl good $ sets ! (of_opd ! (get ! refl)) refl good $
     let J = triple_of 𝓛 (h.signature X O rb rbd rc rcd rd rdd re red rp rpd ro rod rq rqd rh rhd rg rgd obo obod ooc oocd oba obad) (h.spec X O rb rbd rc rcd rd rdd re red rp rpd ro rod rq rqd rh rhd rg rgd obo obod ooc oocd oba obad 𝓛 𝓜.mem 𝓡.returns) in
     let z2 : J.Ghost = ((κs'', qs'', (bounds', tt), (e, (bs, (hd, (tl, tt)))), (v ∷ [], (shr_slice_vals bs, (bool_vals hd, (bool_vals tl, tt))))), tt) in
-    let in_head = bit_below rb.BITS s₀.head m1.eight_law s₀.in_word in let Enough : Type 0 = (run_places e).0.len + ((body_place (run_places e)).len + (tail_place (run_places e)).len) ≤ length bs.now in
-    let enough : Enough = (let total = total-len rb.BITS span in_head (run_places e) placed in let as_many = asked.1.0 in omega (arith, total, as_many)) in
+    let in_head = bit_below rb.BITS s₀.head m1.eight_law s₀.in_word in let Enough : Type 0 = (bit_loan_stretches e).0.len + ((body_place (bit_loan_stretches e)).len + (tail_place (bit_loan_stretches e)).len) ≤ length bs.now in
+    let enough : Enough = (let total = total-len rb.BITS span in_head (bit_loan_stretches e) placed in let as_many = asked.1.0 in omega (arith, total, as_many)) in
     nothing ! $ owned ! bool _ (bool_Makes 𝓛) tl _ refl $ fjoin ! $ owned ! bool _ (bool_Makes 𝓛) hd _ refl $ fjoin ! $ move ! (7 ∷ 0 ∷ []) $ fjoin ! $ move ! (1 ∷ 0 ∷ []) $ fjoin ! $
     -- [the arguments; what the loan ends as; the tokens; what the lender keeps; the way back; the token of the list's]
     move ! (2 ∷ []) $ split ! $ move ! (6 ∷ 1 ∷ []) $ fjoin ! $ move ! (1 ∷ 0 ∷ []) $ join ! $ join ! $ use0 𝓛 (raw (fact 𝓤 Enough)) (fact_i 𝓤 _ (emp 𝓤) enough) $ use0 𝓛 (raw (fact 𝓤 (ω ⊑ O.lives))) (fact_i 𝓤 _ (emp 𝓤) alive_o) $ join ! $ use0 𝓛 (raw (fact 𝓤 (αs ⊑ X.lives))) (fact_i 𝓤 _ (emp 𝓤) alive') $ join ! $ move ! (1 ∷ 0 ∷ []) $ join ! $
     use1 𝓛 (raw (J.pre z2)) (id⊢ 𝓤 _) $
     calls_at ! (framed 𝓤 H 𝓜 𝓣) J (met_h 𝓤 𝓛 𝓜 𝓡 (code.calls-bitvec_domain::domain::written::write_domain 𝓡.env wired) X O L LO copy rb rbd rc rcd rd rdd re red rp rpd ro rod rq rqd rh rhd rg rgd obo obod ooc oocd oba obad m1 m2 m3 m4 m5 m6 m7 m8 m9 m10 m11 m12) z2 (and_then ! (get ! refl) (and_then ! (get ! refl) (and_then ! (get ! refl) (and_then ! (get ! refl) (no_more !))))) (λ w.
-    let Front : Row.Denot → Type 0 = λ p. IfSome p.front (λ (r : MutBor (List X.Denot)). RunIsWritten rb.BITS oba.at_of bs.now 0 (run_places e).0 (map rb.number (run_words e).0) (map rb.number r.now)) in
-    let Body : Row.Denot → Type 0 = λ p. IfSome p.body (λ (r : MutBor (List X.Denot)). RunIsWritten rb.BITS oba.at_of bs.now (run_places e).0.len (body_place (run_places e)) (map rb.number (run_words e).1) (map rb.number r.now)) in
-    let Back : Row.Denot → Type 0 = λ p. IfSome p.back (λ (r : MutBor (List X.Denot)). RunIsWritten rb.BITS oba.at_of bs.now ((run_places e).0.len + (body_place (run_places e)).len) (tail_place (run_places e)) (map rb.number (run_words e).2) (map rb.number r.now)) in
+    let Front : Row.Denot → Type 0 = λ p. IfSome p.front (λ (r : MutBor (List X.Denot)). StretchIsWritten rb.BITS oba.at_of bs.now 0 (bit_loan_stretches e).0 (map rb.number (bit_loan_words e).0) (map rb.number r.now)) in
+    let Body : Row.Denot → Type 0 = λ p. IfSome p.body (λ (r : MutBor (List X.Denot)). StretchIsWritten rb.BITS oba.at_of bs.now (bit_loan_stretches e).0.len (body_place (bit_loan_stretches e)) (map rb.number (bit_loan_words e).1) (map rb.number r.now)) in
+    let Back : Row.Denot → Type 0 = λ p. IfSome p.back (λ (r : MutBor (List X.Denot)). StretchIsWritten rb.BITS oba.at_of bs.now ((bit_loan_stretches e).0.len + (body_place (bit_loan_stretches e)).len) (tail_place (bit_loan_stretches e)) (map rb.number (bit_loan_words e).2) (map rb.number r.now)) in
     use1 𝓛 (later (some (λ (p : Row.Denot). ((‵ (flft αs (left t)) ⊛ ‵ others'') ⊛ ‵ (Row.own_val p (w ∷ []))) ⊛ some (λ (zs : Lasts (h.ended X O rb rbd rc rcd rd rdd re red rp rpd ro rod rq rqd rh rhd rg rgd obo obod ooc oocd oba obad) κs'' (e, (bs, (hd, (tl, tt))))). ‵ (lasts (h.ended X O rb rbd rc rcd rd rdd re red rp rpd ro rod rq rqd rh rhd rg rgd obo obod ooc oocd oba obad) κs'' (e, (bs, (hd, (tl, tt)))) zs)
-    ⊛ raw (fact 𝓤 (names_of p ≡ names_if hd tl (run_names e))) ⊛ raw (fact 𝓤 (Front p)) ⊛ raw (fact 𝓤 (Body p)) ⊛ raw (fact 𝓤 (Back p)))))) (id⊢ 𝓤 _) $ await ! tt $ pick ! (λ p. split ! $ split ! $ move ! (2 ∷ []) $ pick ! (λ zs. split ! $ drop ! $ split ! $ heard ! _ (λ put. let nm : names_of p ≡ names_if (has_head span) (has_tail rb.BITS span) (run_names e) = put ∙ (λ k. names_if (asked.1.1.0 k) (asked.1.1.1 k) (run_names e)) in split ! $ heard ! _ (λ pf. split ! $ heard ! _ (λ pb. heard ! _ (λ pk.
+    ⊛ raw (fact 𝓤 (names_of p ≡ names_if hd tl (bit_loan_names e))) ⊛ raw (fact 𝓤 (Front p)) ⊛ raw (fact 𝓤 (Body p)) ⊛ raw (fact 𝓤 (Back p)))))) (id⊢ 𝓤 _) $ await ! tt $ pick ! (λ p. split ! $ split ! $ move ! (2 ∷ []) $ pick ! (λ zs. split ! $ drop ! $ split ! $ heard ! _ (λ put. let nm : names_of p ≡ names_if (has_head span) (has_tail rb.BITS span) (bit_loan_names e) = put ∙ (λ k. names_if (asked.1.1.0 k) (asked.1.1.1 k) (bit_loan_names e)) in split ! $ heard ! _ (λ pf. split ! $ heard ! _ (λ pb. heard ! _ (λ pk.
     move ! (1 ∷ []) $ peeks ! Row (Is Row) (shows 𝓛 Row) p (w ∷ []) (λ as_pieces. lands_as ! refl refl (((LP.lawful 𝓛).typed p (w ∷ []) as_pieces).0) $ sets ! (of_opd ! (unit_lit !)) refl (tt, tt) $
     -- [the pieces; the tokens; what the loan ends as; what the lender keeps; the way back]
     let v0 : List X.Denot = take i xs in let v1 : List X.Denot = take n (drop_l i xs) in let v2 : List X.Denot = drop_l n (drop_l i xs) in

@@ -1,5 +1,5 @@
 use Rattle.std.proofs.Common.{◌+◌, ◌*◌, ◌<◌, length, map, nat_abs, sym, ap, ◌∙◌, arith}
-use Rattle.bitvec_ptr.specs.Memory.{memory_bits, copied}
+use Rattle.bitvec_ptr.specs.Memory.{memory_bits, list_with_copy}
 use Rattle.bitvec_ptr.proofs.CopyLemmas.{copied_none, met_covers}
 use Rattle.bitvec_ptr.proofs.PlaceLemmas.{words_met-none}
 use Rattle.bitvec_ptr.proofs.ptr.single.BitPtr.copy_through.Goals as goal
@@ -15,7 +15,7 @@ returns-then-count-eq0-clause-bits g c =
     let R2 = g.R2.BitRegister in
     let source = memory_bits R.BITS g.O.BitAt.at_of (map R.number c.args.memory.now) in
     let target = memory_bits R2.BITS g.O2.BitAt.at_of (map R2.number c.args.writer.now.words.now) in
-    copied_none source (nat_abs c.args.self.word * R.BITS + c.args.self.bit) target (nat_abs c.args.dest.word * R2.BITS + c.args.dest.bit) ∙ ap (λ n. copied source (nat_abs c.args.self.word * R.BITS + c.args.self.bit) target (nat_abs c.args.dest.word * R2.BITS + c.args.dest.bit) n) (sym c.if-count-eq0.true)
+    copied_none source (nat_abs c.args.self.word * R.BITS + c.args.self.bit) target (nat_abs c.args.dest.word * R2.BITS + c.args.dest.bit) ∙ ap (λ n. list_with_copy source (nat_abs c.args.self.word * R.BITS + c.args.self.bit) target (nat_abs c.args.dest.word * R2.BITS + c.args.dest.bit) n) (sym c.if-count-eq0.true)
 
 pub copy_across-requires-clause-from_in : goal.copy_across-requires-clause-from_in
 copy_across-requires-clause-from_in g c =
@@ -53,8 +53,8 @@ returns-clause-bits g c =
     let source = memory_bits R.BITS g.O.BitAt.at_of (map R.number c.args.memory.now) in
     let target = memory_bits R2.BITS g.O2.BitAt.at_of (map R2.number c.args.writer.now.words.now) in
     c.copy_across.ensures.bits
-    ∙ ap (λ v. copied source v target (c.at-2.result.word * R2.BITS + c.at-2.result.bit) c.args.count) c.at.ensures.place
-    ∙ ap (λ v. copied source (nat_abs c.args.self.word * R.BITS + c.args.self.bit) target v c.args.count) c.at-2.ensures.place
+    ∙ ap (λ v. list_with_copy source v target (c.at-2.result.word * R2.BITS + c.at-2.result.bit) c.args.count) c.at.ensures.place
+    ∙ ap (λ v. list_with_copy source (nat_abs c.args.self.word * R.BITS + c.args.self.bit) target v c.args.count) c.at-2.ensures.place
 
 pub returns-clause-none : goal.returns-clause-none
 returns-clause-none g c = λ e. absurd (omega arith)

@@ -1,5 +1,5 @@
 use Rattle.std.proofs.Common.{◌+◌, ◌*◌, ◌<◌, length, map, nat_abs, sym, ap, ◌∙◌, arith}
-use Rattle.bitvec_ptr.specs.Memory.{memory_bits, copied}
+use Rattle.bitvec_ptr.specs.Memory.{memory_bits, list_with_copy}
 use Rattle.bitvec_ptr.proofs.CopyLemmas.{copied_none, met_covers, from_rising, from_falling}
 use Rattle.bitvec_ptr.proofs.PlaceLemmas.{words_met-none}
 use Rattle.bitvec_ptr.proofs.ptr.single.BitPtr.copy_within_through.Goals as goal
@@ -13,7 +13,7 @@ pub returns-then-count-eq0-clause-bits : goal.returns-then-count-eq0-clause-bits
 returns-then-count-eq0-clause-bits g c =
     let R = g.R.BitRegister in
     let old = memory_bits R.BITS g.O.BitAt.at_of (map R.number c.args.writer.now.words.now) in
-    copied_none old (nat_abs c.args.self.word * R.BITS + c.args.self.bit) old (nat_abs c.args.dest.word * R.BITS + c.args.dest.bit) ∙ ap (λ n. copied old (nat_abs c.args.self.word * R.BITS + c.args.self.bit) old (nat_abs c.args.dest.word * R.BITS + c.args.dest.bit) n) (sym c.if-count-eq0.true)
+    copied_none old (nat_abs c.args.self.word * R.BITS + c.args.self.bit) old (nat_abs c.args.dest.word * R.BITS + c.args.dest.bit) ∙ ap (λ n. list_with_copy old (nat_abs c.args.self.word * R.BITS + c.args.self.bit) old (nat_abs c.args.dest.word * R.BITS + c.args.dest.bit) n) (sym c.if-count-eq0.true)
 
 pub move_across-requires-clause-from_in : goal.move_across-requires-clause-from_in
 move_across-requires-clause-from_in g c =
@@ -63,8 +63,8 @@ returns-clause-bits g c =
     let R = g.R.BitRegister in
     let old = memory_bits R.BITS g.O.BitAt.at_of (map R.number c.args.writer.now.words.now) in
     c.move_across.ensures.bits
-    ∙ ap (λ v. copied old v old (c.at-2.result.word * R.BITS + c.at-2.result.bit) c.args.count) c.at.ensures.place
-    ∙ ap (λ v. copied old (nat_abs c.args.self.word * R.BITS + c.args.self.bit) old v c.args.count) c.at-2.ensures.place
+    ∙ ap (λ v. list_with_copy old v old (c.at-2.result.word * R.BITS + c.at-2.result.bit) c.args.count) c.at.ensures.place
+    ∙ ap (λ v. list_with_copy old (nat_abs c.args.self.word * R.BITS + c.args.self.bit) old v c.args.count) c.at-2.ensures.place
 
 pub returns-clause-none : goal.returns-clause-none
 returns-clause-none g c = λ e. absurd (omega arith)

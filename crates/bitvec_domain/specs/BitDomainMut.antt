@@ -1,0 +1,39 @@
+-- What a `BitDomainMut` shows.
+use Rattle.std.specs.Prelude.{ℕ, Bool, List, [], Option, Some, None, map}
+use Rattle.std.specs.Borrow.{Fml, GName, RattleType, MutBor}
+use Rattle.bitvec_domain.specs.declared.domain.bit_words_mut.BitWordsMut.{BitWordsMut}
+use Rattle.bitvec_domain.specs.declared.domain.bit_domain_mut.BitDomainMut.{BitDomainMut}
+use Rattle.bitvec_domain.specs.declared.domain.bit_domain_mut.BitDomainMut.TheVariants.{Enclave, Region}
+use Rattle.bitvec_domain.specs.Lending.{LendsNamed}
+use Rattle.bitvec_domain.specs.BitLoans.{names_if}
+use Rattle.bitvec_domain.specs.BitParts.{WordBits, BitParts, bit_enclave, bit_region}
+use Rattle.bitvec_domain.specs.Stretch.{Stretch, stretch_bits}
+use Rattle.bitvec_domain.specs.BitWordsMut.{words_memory, stretch_in}
+
+-- the words of a stretch, its head and its length
+abbrev pub lent_word_bits : {R O : Type 0} {a b c d e f g : _} → (R → ℕ) → BitWordsMut R O a b c d e f g → WordBits
+lent_word_bits number stretch = stretch_bits (stretch_in stretch) (map number (words_memory stretch).now)
+
+-- the stretches of bits of a domain
+abbrev pub lent_bits : {R O : Type 0} {a b c d e f g : _} → (R → ℕ) → BitDomainMut R O a b c d e f g → BitParts
+lent_bits number (Enclave stretch) = bit_enclave (lent_word_bits number stretch)
+lent_bits number (Region head body tail) = bit_region (lent_word_bits number head) (lent_word_bits number body) (lent_word_bits number tail)
+
+-- the name of the loan of one stretch alone, or of the head's, and then those of the body's and of the tail's
+abbrev pub bit_loan_names : {R O : Type 0} {a b c d e f g : _} → BitDomainMut R O a b c d e f g → GName × Option (GName × GName)
+bit_loan_names (Enclave stretch) = ((words_memory stretch).ghost_name, None)
+bit_loan_names (Region head body tail) = ((words_memory head).ghost_name, Some ((words_memory body).ghost_name, (words_memory tail).ghost_name))
+
+-- where the stretches lie in their loans, in the same way
+abbrev pub bit_loan_stretches : {R O : Type 0} {a b c d e f g : _} → BitDomainMut R O a b c d e f g → Stretch × Option (Stretch × Stretch)
+bit_loan_stretches (Enclave stretch) = (stretch_in stretch, None)
+bit_loan_stretches (Region head body tail) = (stretch_in head, Some (stretch_in body, stretch_in tail))
+
+-- the words behind the loans before, in and behind the body; an enclave's are before it
+abbrev pub bit_loan_words : {R O : Type 0} {a b c d e f g : _} → BitDomainMut R O a b c d e f g → List R × List R × List R
+bit_loan_words (Enclave stretch) = ((words_memory stretch).now, [], [])
+bit_loan_words (Region head body tail) = ((words_memory head).now, (words_memory body).now, (words_memory tail).now)
+
+-- s ends as the last words behind the loans of the domain's stretches, one behind the other, and where there is no head or no tail its words are as they were
+abbrev pub LendsBits : (R : RattleType) {O : Type 0} {a b c d e f g : _} → MutBor (List R.Denot) → ℕ → ℕ → Bool → Bool → BitDomainMut R.Denot O a b c d e f g → Fml
+LendsBits R s i n head tail domain = LendsNamed R s i n (names_if head tail (bit_loan_names domain))

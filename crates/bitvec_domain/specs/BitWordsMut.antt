@@ -1,0 +1,13 @@
+-- What a `BitWordsMut` shows.
+use Rattle.std.specs.Prelude.{List}
+use Rattle.std.specs.Borrow.{MutBor}
+use Rattle.bitvec_domain.specs.declared.domain.bit_words_mut.BitWordsMut.{BitWordsMut}
+use Rattle.bitvec_domain.specs.Stretch.{Stretch}
+
+-- the memory that it borrows
+abbrev pub words_memory : {R O : Type 0} {a b c d e f g : _} → BitWordsMut R O a b c d e f g → MutBor (List R)
+words_memory bits = bits.memory
+
+-- where its bits lie in that memory
+abbrev pub stretch_in : {R O : Type 0} {a b c d e f g : _} → BitWordsMut R O a b c d e f g → Stretch
+stretch_in bits = record { first = bits.first; count = bits.count; head = bits.head; len = bits.len }

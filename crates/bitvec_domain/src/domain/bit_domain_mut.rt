@@ -1,0 +1,223 @@
+//! The bits of a span by the words in which they lie, for writing.
+
+ghost use Rattle.std.specs.Prelude.{◌≡◌, ◌/◌, ◌≤◌, true, false, if◌then◌else◌, MatchOption, IfSome};
+ghost use Rattle.std.specs.Prelude.{Some, None, is_some, [], length, map};
+ghost use Rattle.std.specs.Borrow.{sem};
+ghost use Rattle.bitvec_domain.specs.Span.{region_max_bits, Fits};
+ghost use Rattle.bitvec_domain.specs.Parts.{HasShortBody, parts_of};
+ghost use Rattle.bitvec_domain.specs.Loans.{has_head, has_tail, words_before, body_words, slots_of};
+ghost use Rattle.bitvec_domain.specs.Loans.{lists_of};
+ghost use Rattle.bitvec_domain.specs.BitParts.{optional_bits, body_bits, bit_enclave, bit_region};
+ghost use Rattle.bitvec_domain.specs.BitParts.{bit_parts_of, is_bit_enclave};
+ghost use Rattle.bitvec_domain.specs.Stretch.{slot_stretch_if, whole_stretch};
+ghost use Rattle.bitvec_domain.specs.BitLoans.{names_if, stretches_of};
+
+use crate::domain::{BitWordsMut, DomainMut, PartialElementMut};
+use crate::ptr::span::BitSpan;
+use bitvec_mem::mem::BitRegister;
+use bitvec_order::order::Lsb0;
+use std::marker::PhantomData;
+
+/// The bits that a span has in the words of a memory borrowed for writing: one stretch of them, or
+/// those of a head, of whole words and of a tail.
+///
+/// Our own, for the Rust crate's `BitDomain` over a mutable memory.
+#[derive(Drop)]
+#[derive_where(Debug)]
+pub enum BitDomainMut<'a, R: BitRegister = usize, O = Lsb0> {
+    /// Bits of one word, with neither its first nor its last.
+    Enclave(BitWordsMut<'a, R, O>),
+    /// The last bits of a word, all bits of whole words, and the first bits of a word; each of the
+    /// three may have none.
+    Region {
+        /// The bits of the first word, where the span does not begin with its first bit.
+        head: BitWordsMut<'a, R, O>,
+        /// The bits of the whole words.
+        body: BitWordsMut<'a, R, O>,
+        /// The bits of the last word, where the span does not end with its last bit.
+        tail: BitWordsMut<'a, R, O>,
+    },
+}
+
+/// A head, a body and a tail without bits.
+impl<'a, R: BitRegister, O> Default for BitDomainMut<'a, R, O> {
+    ghost use Rattle.std.specs.Prelude.{◌≡◌};
+    ghost use Rattle.bitvec_domain.specs.BitParts.{no_bits, bit_region};
+    ghost use Rattle.bitvec_domain.specs.BitDomainMut.{lent_bits};
+
+    ghost is_default = { λ d. lent_bits R.number d ≡ bit_region no_bits no_bits no_bits };
+
+    fn default() -> Self {
+        BitDomainMut::Region {
+            head: BitWordsMut::default(),
+            body: BitWordsMut::default(),
+            tail: BitWordsMut::default(),
+        }
+    }
+}
+
+impl<'a, R: BitRegister, O> BitDomainMut<'a, R, O> {
+    ghost use Rattle.bitvec_domain.specs.BitWordsMut.{words_memory, stretch_in};
+    ghost use Rattle.bitvec_domain.specs.BitDomainMut.{lent_word_bits, lent_bits, bit_loan_names};
+    ghost use Rattle.bitvec_domain.specs.BitDomainMut.{bit_loan_stretches, bit_loan_words};
+
+    /// The bits of one word, where the domain is those alone.
+    ///
+    /// The stretch keeps its loan. The Rust crate gives a bit slice.
+    pub fn enclave(self) -> Option<BitWordsMut<'a, R, O>>
+        ensures bits { MatchOption result (is_bit_enclave (lent_bits R.number self.entry) ≡ false)
+            (λ stretch. lent_bits R.number self.entry
+            ≡ bit_enclave (lent_word_bits R.number stretch)) }
+        ensures names { IfSome result (λ stretch. bit_loan_names self.entry
+            ≡ ((words_memory stretch).ghost_name, None)) }
+        ensures places { IfSome result (λ stretch. bit_loan_stretches self.entry
+            ≡ (stretch_in stretch, None)) }
+        ensures words { IfSome result (λ stretch. bit_loan_words self.entry
+            ≡ ((words_memory stretch).now, [], [])) }
+    {
+        match self {
+            BitDomainMut::Enclave(stretch) => Some(stretch),
+            BitDomainMut::Region {
+                head: _head,
+                body: _body,
+                tail: _tail,
+            } => None,
+        }
+    }
+
+    /// The head, the body and the tail, where the domain is not one stretch alone.
+    ///
+    /// Each stretch keeps its loan. The Rust crate gives bit slices.
+    pub fn region(
+        self,
+    ) -> Option<
+        (
+            BitWordsMut<'a, R, O>,
+            BitWordsMut<'a, R, O>,
+            BitWordsMut<'a, R, O>,
+        ),
+    >
+        ensures bits { MatchOption result (is_bit_enclave (lent_bits R.number self.entry) ≡ true)
+            (λ all. lent_bits R.number self.entry
+            ≡ bit_region (lent_word_bits R.number all.0) (lent_word_bits R.number all.1)
+            (lent_word_bits R.number all.2)) }
+        ensures names { IfSome result (λ all. bit_loan_names self.entry
+            ≡ (
+              (words_memory all.0).ghost_name,
+              Some
+                  ((words_memory all.1).ghost_name, (words_memory all.2).ghost_name),
+            )) }
+        ensures places { IfSome result (λ all. bit_loan_stretches self.entry
+            ≡ (stretch_in all.0, Some (stretch_in all.1, stretch_in all.2))) }
+        ensures words { IfSome result (λ all. bit_loan_words self.entry
+            ≡ ((words_memory all.0).now, (words_memory all.1).now, (words_memory all.2).now)) }
+    {
+        match self {
+            BitDomainMut::Enclave(_) => None,
+            BitDomainMut::Region { head, body, tail } => Some((head, body, tail)),
+        }
+    }
+}
+
+impl<'a, R: BitRegister, O> BitWordsMut<'a, R, O> {
+    ghost use Rattle.bitvec_domain.specs.BitWordsMut.{words_memory, stretch_in};
+    ghost use Rattle.bitvec_domain.specs.DomainMut.{part_name, part_words, part_slot, lent_part_if};
+    ghost use Rattle.bitvec_domain.specs.BitDomainMut.{lent_word_bits};
+
+    // The bits of a part, or none.
+    fn of_part(part: Option<PartialElementMut<'a, R, O>>) -> Self
+        ensures name { (if is_some (part_name part.entry) then Some (words_memory result).ghost_name
+            else None) ≡ part_name part.entry }
+        ensures words { (words_memory result).now ≡ part_words part.entry }
+        ensures place { stretch_in result ≡ slot_stretch_if (part_slot part.entry) }
+        ensures bits { lent_word_bits R.number result
+            ≡ optional_bits (lent_part_if R.number part.entry) }
+    {
+        let stretch = match part {
+            Some(part) => Some(part.into_bitslice()),
+            None => None,
+        };
+        stretch.unwrap_or_default()
+    }
+
+    // All bits of whole words.
+    fn of_body(body: &'a mut [R]) -> Self
+        requires { length body.old ≤ region_max_bits / R.BITS }
+        ensures name { (words_memory result).ghost_name ≡ body.entry.ghost_name }
+        ensures words { (words_memory result).now ≡ body.old }
+        ensures place { stretch_in result ≡ whole_stretch R.BITS (length body.old) }
+        ensures bits { lent_word_bits R.number result ≡ body_bits R.BITS (map R.number body.old) }
+    {
+        let count = body.len();
+        BitWordsMut {
+            memory: body,
+            first: 0,
+            count,
+            head: 0,
+            len: count * usize::from(R::BITS),
+            order: PhantomData,
+        }
+    }
+}
+
+impl<'a, R: BitRegister, O> DomainMut<'a, R, O> {
+    ghost use Rattle.bitvec_domain.specs.DomainMut.{loan_names, loan_words, loan_slots, lent_parts};
+    ghost use Rattle.bitvec_domain.specs.BitDomainMut.{lent_bits, bit_loan_names};
+    ghost use Rattle.bitvec_domain.specs.BitDomainMut.{bit_loan_stretches, bit_loan_words};
+
+    /// The bits of the parts: each part's as its
+    /// [`into_bitslice`](PartialElementMut::into_bitslice) has them, and all bits of the body.
+    ///
+    /// Each stretch has the loan of its part, and lies in it where the part does; an absent part is
+    /// a stretch without bits. Requires a body that is no longer than one span's can be, as each
+    /// from [`domain_mut`](BitSpan::domain_mut) is. Our own, for the Rust crate's `into_bit_domain`
+    /// over a mutable memory.
+    pub fn into_bit_domain(self) -> BitDomainMut<'a, R, O>
+        requires { HasShortBody R.BITS (lent_parts R.number self) }
+        ensures bits { lent_bits R.number result
+            ≡ bit_parts_of R.BITS (lent_parts R.number self.entry) }
+        ensures names { names_if (is_some (loan_names self.entry).0)
+            (is_some (loan_names self.entry).2) (bit_loan_names result) ≡ loan_names self.entry }
+        ensures places { bit_loan_stretches result
+            ≡ stretches_of R.BITS (loan_slots self.entry) (length (loan_words self.entry).1) }
+        ensures words { bit_loan_words result ≡ loan_words self.entry }
+    {
+        match self {
+            DomainMut::Enclave(part) => BitDomainMut::Enclave(part.into_bitslice()),
+            DomainMut::Region { head, body, tail } => BitDomainMut::Region {
+                head: BitWordsMut::of_part(head),
+                body: BitWordsMut::of_body(body),
+                tail: BitWordsMut::of_part(tail),
+            },
+        }
+    }
+}
+
+impl<R: BitRegister, O> BitSpan<R, O> {
+    ghost use Rattle.bitvec_domain.specs.BitSpan.{span_of};
+    ghost use Rattle.bitvec_domain.specs.BitDomainMut.{lent_bits, bit_loan_stretches};
+    ghost use Rattle.bitvec_domain.specs.BitDomainMut.{bit_loan_words, LendsBits};
+
+    /// The bits of the span in a memory, by the words in which they lie, each stretch for writing,
+    /// all at once.
+    ///
+    /// They are those of [`bit_domain`](BitSpan::bit_domain). When the loans end, the memory is the
+    /// last words of the head's loan, of the body's and of the tail's, one behind the other; the
+    /// words of an absent part are as before. The loans are those of
+    /// [`domain_mut`](BitSpan::domain_mut). Requires that the span lies within the memory. Our own,
+    /// for the Rust crate's `bit_domain_mut`.
+    pub fn bit_domain_mut<'a>(self, memory: &'a mut [R]) -> BitDomainMut<'a, R, O>
+        requires { Fits R.BITS (span_of self) (length memory.old) }
+        ensures* ends { sem 𝓛 (LendsBits R.row memory.entry (words_before (span_of self))
+            (body_words R.BITS (span_of self)) (has_head (span_of self))
+            (has_tail R.BITS (span_of self)) result) }
+        ensures bits { lent_bits R.number result
+            ≡ bit_parts_of R.BITS (parts_of R.BITS (span_of self) (map R.number memory.old)) }
+        ensures places { bit_loan_stretches result
+            ≡ stretches_of R.BITS (slots_of R.BITS (span_of self))
+            (body_words R.BITS (span_of self)) }
+        ensures words { bit_loan_words result ≡ lists_of R.BITS (span_of self) memory.old }
+    {
+        self.domain_mut(memory).into_bit_domain()
+    }
+}

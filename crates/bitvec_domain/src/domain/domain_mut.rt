@@ -1,0 +1,347 @@
+//! The words and parts of words that a span meets, for writing.
+
+ghost use Rattle.std.specs.Prelude.{◌≡◌, ℕ, pos, ◌+◌, ◌-◌, ◌<◌, ◌≤◌, ◌≤ℤ◌, nat_abs, if◌then◌else◌};
+ghost use Rattle.std.specs.Prelude.{not, true, false, length, map, IfSome, MatchOption, is_some};
+ghost use Rattle.std.specs.Prelude.{Some, None, [], replicate};
+ghost use Rattle.std.specs.Borrow.{sem};
+ghost use Rattle.bitvec_ptr.specs.Place.{words_met};
+ghost use Rattle.bitvec_ptr.specs.Memory.{bit_of};
+ghost use Rattle.bitvec_domain.specs.Span.{Covers, Fits, list_of};
+ghost use Rattle.bitvec_domain.specs.Parts.{parts_of, enclave, region, is_enclave, HasShortBody};
+ghost use Rattle.bitvec_domain.specs.Slot.{slot_at};
+ghost use Rattle.bitvec_domain.specs.Loans.{is_inside, has_head, has_tail, words_before};
+ghost use Rattle.bitvec_domain.specs.Loans.{body_words, slots_of, lists_of, word_of_bit};
+ghost use Rattle.bitvec_domain.specs.Loans.{filled_slot, filled_slot_if, filled};
+ghost use Rattle.bitvec_domain.specs.Lending.{name_of};
+ghost use Rattle.bitvec_domain.specs.PartialElementMut.{memory_of, slot_in};
+ghost use Rattle.bitvec_domain.specs.Pieces.{names_of, piece_list, piece_lists};
+ghost use Rattle.bitvec_domain.specs.DomainMut.{part_name, part_slot, part_words, loan_names};
+ghost use Rattle.bitvec_domain.specs.DomainMut.{loan_slots, loan_words, lent_part, lent_part_if};
+ghost use Rattle.bitvec_domain.specs.DomainMut.{lent_parts, LendsDomain};
+
+use super::partial_element_mut::PartialElementMut;
+use crate::lend::{Pieces, pieces_mut};
+use crate::ptr::span::BitSpan;
+use bitvec_mem::mem::BitRegister;
+use bitvec_order::order::{BitOrder, Lsb0};
+
+/// The words that a span meets, borrowed for writing: one part of a word, or whole words with
+/// perhaps a part before them and perhaps a part behind them.
+///
+/// Our own, for the Rust crate's `Domain` over a mutable memory.
+#[derive(Drop)]
+#[derive_where(Debug)]
+pub enum DomainMut<'a, R: BitRegister = usize, O = Lsb0> {
+    /// Some bits of one word, with neither its first nor its last.
+    Enclave(PartialElementMut<'a, R, O>),
+    /// Perhaps the last bits of a word, whole words, and perhaps the first bits of a word.
+    Region {
+        /// The last bits of the first word, where the span does not begin with its first bit.
+        head: Option<PartialElementMut<'a, R, O>>,
+        /// The whole words.
+        body: &'a mut [R],
+        /// The first bits of the last word, where the span does not end with its last bit.
+        tail: Option<PartialElementMut<'a, R, O>>,
+    },
+}
+
+/// The region of no words.
+impl<'a, R: BitRegister, O> Default for DomainMut<'a, R, O> {
+    ghost use Rattle.std.specs.Prelude.{[], None, ◌≡◌};
+    ghost use Rattle.bitvec_domain.specs.Parts.{region};
+    ghost use Rattle.bitvec_domain.specs.DomainMut.{lent_parts};
+
+    ghost is_default = { λ d. lent_parts R.number d ≡ region None [] None };
+
+    fn default() -> Self {
+        DomainMut::Region {
+            head: None,
+            body: &mut [],
+            tail: None,
+        }
+    }
+}
+
+impl<'a, R: BitRegister, O> DomainMut<'a, R, O> {
+    /// The part of one word, where the domain is that alone.
+    pub fn enclave(self) -> Option<PartialElementMut<'a, R, O>>
+        ensures parts { MatchOption result
+            (is_enclave (lent_parts R.number self.entry) ≡ false)
+            (λ part. lent_parts R.number self.entry ≡ enclave (lent_part R.number part)) }
+        ensures names { IfSome result (λ part. loan_names self.entry
+            ≡ (part_name (Some part), None, None)) }
+        ensures words { IfSome result (λ part. loan_words self.entry
+            ≡ (part_words (Some part), [], [])) }
+        ensures slots { IfSome result (λ part. loan_slots self.entry
+            ≡ (part_slot (Some part), false, None)) }
+    {
+        match self {
+            DomainMut::Enclave(part) => Some(part),
+            DomainMut::Region {
+                head: _head,
+                body: _body,
+                tail: _tail,
+            } => None,
+        }
+    }
+
+    /// The head, the body and the tail, where the domain is not one part alone.
+    pub fn region(
+        self,
+    ) -> Option<
+        (
+            Option<PartialElementMut<'a, R, O>>,
+            &'a mut [R],
+            Option<PartialElementMut<'a, R, O>>,
+        ),
+    >
+        ensures parts { MatchOption result (is_enclave (lent_parts R.number self.entry) ≡ true)
+            (λ all. lent_parts R.number self.entry
+            ≡ region (lent_part_if R.number all.0) (map R.number all.1.now)
+            (lent_part_if R.number all.2)) }
+        ensures names { IfSome result (λ all. loan_names self.entry
+            ≡ (part_name all.0, Some all.1.ghost_name, part_name all.2)) }
+        ensures words { IfSome result (λ all. loan_words self.entry
+            ≡ (part_words all.0, all.1.now, part_words all.2)) }
+        ensures slots { IfSome result (λ all. loan_slots self.entry
+            ≡ (part_slot all.0, true, part_slot all.2)) }
+    {
+        match self {
+            DomainMut::Enclave(_) => None,
+            DomainMut::Region { head, body, tail } => Some((head, body, tail)),
+        }
+    }
+}
+
+impl<R: BitRegister, O> BitSpan<R, O> {
+    ghost use Rattle.bitvec_domain.specs.BitSpan.{span_of};
+
+    // Whether the span does not begin with its first word's first bit.
+    pub(super) fn has_head(self) -> bool
+        ensures { result ≡ has_head (span_of self) }
+    {
+        self.len() != 0 && self.head().into_inner() != 0
+    }
+
+    // Whether the span has bits of one word alone, with neither its first nor its last.
+    fn is_inside(self) -> bool
+        ensures { result ≡ is_inside R.BITS (span_of self) }
+    {
+        self.len() != 0
+            && self.head().into_inner() != 0
+            && self.tail().into_inner() != R::BITS
+            && self.elements() == 1
+    }
+
+    // Whether there are whole words or may be.
+    fn has_body(self) -> bool
+        ensures { result ≡ not (is_inside R.BITS (span_of self)) }
+    {
+        !self.is_inside()
+    }
+
+    // Whether there is a part behind the whole words.
+    pub(super) fn has_tail(self) -> bool
+        ensures { result ≡ has_tail R.BITS (span_of self) }
+    {
+        self.len() != 0 && self.tail().into_inner() != R::BITS && !self.is_inside()
+    }
+
+    // How many words there are before the whole words.
+    fn words_before(self) -> usize
+        requires { pos 0 ≤ℤ (span_of self).word }
+        ensures { result ≡ words_before (span_of self) }
+    {
+        self.address() as usize + if self.has_head() { 1 } else { 0 }
+    }
+
+    // How many whole words there are.
+    fn body_words(self) -> usize
+        ensures { result ≡ body_words R.BITS (span_of self) }
+    {
+        let head = if self.has_head() { 1 } else { 0 };
+        let tail = if self.has_tail() { 1 } else { 0 };
+        self.elements() - head - tail
+    }
+
+    // The domain whose parts lie in these pieces; without a body it is an enclave.
+    fn assemble<'a>(self, pieces: Pieces<'a, R>) -> DomainMut<'a, R, O>
+        requires word { pos 0 ≤ℤ (span_of self).word }
+        requires front { IfSome pieces.front
+            (λ s. (nat_abs (span_of self).word < length s.now)
+            × (0 < words_met R.BITS (span_of self).head (span_of self).len)) }
+        requires back { IfSome pieces.back
+            (λ s. (0 < length s.now)
+            × (0 < words_met R.BITS (span_of self).head (span_of self).len)) }
+        requires enclave { is_some pieces.body ≡ false → (is_some pieces.front ≡ true)
+            × (is_some pieces.back ≡ false) }
+        ensures names { loan_names result ≡ names_of pieces.entry }
+        ensures words { loan_words result ≡ piece_lists pieces.entry }
+        ensures slots { loan_slots result
+            ≡ (
+              (if is_some pieces.entry.front
+                  then Some (slot_at R.BITS (span_of self) 0 (nat_abs (span_of self).word)) else None),
+              is_some pieces.entry.body,
+              (if is_some pieces.entry.back
+                  then Some (slot_at R.BITS (span_of self)
+                  (words_met R.BITS (span_of self).head (span_of self).len - 1) 0) else None),
+            ) }
+    {
+        let Pieces { front, body, back } = pieces;
+        let head = match front {
+            Some(memory) => Some(self.part_at(memory, self.address() as usize, 0)),
+            None => None,
+        };
+        let tail = match back {
+            Some(memory) => Some(self.part_at(memory, 0, self.elements() - 1)),
+            None => None,
+        };
+        match body {
+            Some(body) => DomainMut::Region { head, body, tail },
+            None => match head {
+                Some(part) => DomainMut::Enclave(part),
+                None => DomainMut::default(),
+            },
+        }
+    }
+
+    /// The words and parts of words of a memory that the span meets, for writing, all at once.
+    ///
+    /// They are those of [`domain`](BitSpan::domain), and none is copied. The head's loan has all
+    /// words up to its own, which is its last, and the tail's all words from its own on. When the
+    /// loans end, the memory is what they leave, one behind the other; words that no loan has are
+    /// as before. Requires a span that [`fits`](BitSpan::fits), and the body is no longer than one
+    /// span's can be. Our own, for the Rust crate's domains over a mutable memory.
+    pub fn domain_mut<'a>(self, memory: &'a mut [R]) -> DomainMut<'a, R, O>
+        requires { Fits R.BITS (span_of self) (length memory.old) }
+        ensures* ends { sem 𝓛 (LendsDomain R.row memory.entry (words_before (span_of self))
+            (body_words R.BITS (span_of self)) result) }
+        ensures parts { lent_parts R.number result
+            ≡ parts_of R.BITS (span_of self) (map R.number memory.old) }
+        ensures slots { loan_slots result ≡ slots_of R.BITS (span_of self) }
+        ensures words { loan_words result ≡ lists_of R.BITS (span_of self) memory.old }
+        ensures short { HasShortBody R.BITS (lent_parts R.number result) }
+    {
+        let before = self.words_before();
+        let count = self.body_words();
+        let head = self.has_head();
+        let body = self.has_body();
+        let tail = self.has_tail();
+        let pieces = pieces_mut(memory, before, count, head, body, tail);
+        self.assemble(pieces)
+    }
+}
+
+// Makes each bit of some words the same.
+fn fill_words<R: BitRegister>(words: &mut [R], bit: bool)
+    ensures { map R.number words.new ≡ replicate (length words.old) (word_of_bit R.BITS bit) }
+{
+    let word = if bit { R::ALL } else { R::ZERO };
+    let mut k = 0;
+    while k < words.len() {
+        words[k] = word;
+        k += 1;
+    }
+}
+
+// Makes each bit of a part the same, and gives the words that it borrows.
+fn fill_part<'a, R: BitRegister, O: BitOrder<R>>(
+    part: PartialElementMut<'a, R, O>,
+    bit: bool,
+) -> &'a mut [R]
+    ensures reference { result.ghost_name ≡ (memory_of part.entry).ghost_name }
+    ensures words { map R.number result.now
+        ≡ filled_slot R.BITS O.at_of bit (slot_in part.entry)
+        (map R.number (memory_of part.entry).now) }
+{
+    let mut part = part;
+    if bit {
+        part.set();
+    } else {
+        part.clear();
+    }
+    part.into_memory()
+}
+
+// The same of a part that may not be there.
+fn fill_part_if<'a, R: BitRegister, O: BitOrder<R>>(
+    part: Option<PartialElementMut<'a, R, O>>,
+    bit: bool,
+) -> Option<&'a mut [R]>
+    ensures reference { name_of result ≡ part_name part.entry }
+    ensures words { map R.number (piece_list result)
+        ≡ filled_slot_if R.BITS O.at_of bit (part_slot part.entry)
+        (map R.number (part_words part.entry)) }
+{
+    match part {
+        Some(part) => Some(fill_part(part, bit)),
+        None => None,
+    }
+}
+
+// Makes each bit of a domain the same, and gives the words that it borrows.
+fn fill_domain<'a, R: BitRegister, O: BitOrder<R>>(
+    domain: DomainMut<'a, R, O>,
+    bit: bool,
+) -> Pieces<'a, R>
+    ensures names { names_of result ≡ loan_names domain.entry }
+    ensures front { map R.number (piece_list result.front)
+        ≡ filled_slot_if R.BITS O.at_of bit (loan_slots domain.entry).0
+        (map R.number (loan_words domain.entry).0) }
+    ensures body { map R.number (piece_list result.body)
+        ≡ replicate (length (loan_words domain.entry).1) (word_of_bit R.BITS bit) }
+    ensures back { map R.number (piece_list result.back)
+        ≡ filled_slot_if R.BITS O.at_of bit (loan_slots domain.entry).2
+        (map R.number (loan_words domain.entry).2) }
+{
+    match domain {
+        DomainMut::Enclave(part) => Pieces {
+            front: Some(fill_part(part, bit)),
+            body: None,
+            back: None,
+        },
+        DomainMut::Region { head, body, tail } => {
+            fill_words(body, bit);
+            let front = fill_part_if(head, bit);
+            let back = fill_part_if(tail, bit);
+            Pieces {
+                front,
+                body: Some(body),
+                back,
+            }
+        }
+    }
+}
+
+impl<R: BitRegister, O: BitOrder<R>> BitSpan<R, O> {
+    ghost use Rattle.bitvec_domain.specs.BitSpan.{span_of};
+
+    // Makes each bit of the span in a memory the same, by the parts that the memory is lent as.
+    fn fill_pieces(self, memory: &mut [R], bit: bool)
+        requires { Fits R.BITS (span_of self) (length memory.old) }
+        ensures { map R.number memory.new
+            ≡ filled R.BITS O.at_of bit (span_of self) (map R.number memory.old) }
+    {
+        let domain = self.domain_mut(memory);
+        let Pieces {
+            front: _,
+            body: _,
+            back: _,
+        } = fill_domain(domain, bit);
+    }
+
+    /// Makes each bit of the span in a memory the same, and leaves every other bit as it is.
+    ///
+    /// Requires a span that [`fits`](BitSpan::fits). Our own.
+    pub fn fill(self, memory: &mut [R], bit: bool)
+        requires { Fits R.BITS (span_of self) (length memory.old) }
+        ensures list { list_of R.BITS O.at_of (span_of self) (map R.number memory.new)
+            ≡ replicate (span_of self).len bit }
+        ensures others { (place : ℕ) → ¬ Covers R.BITS (span_of self) (pos place)
+            → bit_of R.BITS O.at_of (map R.number memory.new) place
+            ≡ bit_of R.BITS O.at_of (map R.number memory.old) place }
+        ensures words { length memory.new ≡ length memory.old }
+    {
+        self.fill_pieces(memory, bit);
+    }
+}

@@ -1,0 +1,281 @@
+//! Parts of words for writing.
+
+ghost use Rattle.std.specs.Prelude.{◌≡◌, ℕ, ◌<◌, ◌≤◌, ◌^◌, Bool, true, false, not, if◌then◌else◌};
+ghost use Rattle.std.specs.Prelude.{length, map, slice_index, slice_set};
+ghost use Rattle.bitvec_mem.specs.Digit.{digit};
+ghost use Rattle.bitvec_order.specs.Order.{IsMaskOf};
+ghost use Rattle.bitvec_ptr.specs.Place.{words_met};
+ghost use Rattle.bitvec_domain.specs.Span.{Fits};
+ghost use Rattle.bitvec_domain.specs.Parts.{value_of};
+ghost use Rattle.bitvec_domain.specs.Slot.{slot_part, slot_at, slot_of, EditsPart};
+ghost use Rattle.bitvec_domain.specs.BitParts.{part_bits};
+ghost use Rattle.bitvec_domain.specs.Stretch.{slot_stretch};
+
+use crate::domain::BitWordsMut;
+use crate::ptr::span::BitSpan;
+use bitvec_mem::mem::BitRegister;
+use bitvec_order::index::{BitEnd, BitIdx, BitMask, Limits};
+use bitvec_order::order::BitOrder;
+use std::marker::PhantomData;
+
+/// Some bits of one word, borrowed for writing: those with indices from a head to before a tail.
+///
+/// It borrows the memory in which the word lies, and changes that word alone. Our own, for the Rust
+/// crate's `PartialElement` over a mutable word.
+#[derive_where(Debug)]
+pub struct PartialElementMut<'a, R: BitRegister, O> {
+    memory: &'a mut [R],
+    word: usize,
+    head: u8,
+    tail: u8,
+    order: PhantomData<O>,
+    pub ghost in_memory: { word < length memory.now },
+    pub ghost head_in: { head < R.BITS },
+    pub ghost tail_in: { tail ≤ R.BITS },
+    pub ghost ordered: { head ≤ tail },
+}
+
+impl<R: BitRegister, O> Drop for PartialElementMut<'_, R, O> {
+    ghost use Rattle.bitvec_domain.specs.PartialElementMut.{memory_of};
+
+    fn drop(self)
+        ensures { self.exit.0.now ≡ (memory_of self.entry).now }
+    {
+        let PartialElementMut {
+            memory: _,
+            word: _,
+            head: _,
+            tail: _,
+            order: _,
+        } = self;
+    }
+}
+
+// A word with the digits of a mask taken from another.
+fn stored<R: BitRegister>(old: R, mask: R, value: R) -> R
+    ensures below { R.number result < 2 ^ R.BITS }
+    ensures digits { (p : ℕ) → p < R.BITS → digit (R.number result) p
+        ≡ (if digit (R.number mask) p then digit (R.number value) p else digit (R.number old) p) }
+{
+    old.and(mask.not()).or(value.and(mask))
+}
+
+impl<'a, R: BitRegister, O> PartialElementMut<'a, R, O> {
+    ghost use Rattle.bitvec_domain.specs.PartialElementMut.{memory_of, slot_in};
+
+    // The memory that it borrows, as the edits left it: the whole loan, past the part's word.
+    pub(super) fn into_memory(self) -> &'a mut [R]
+        ensures reference { result.ghost_name ≡ (memory_of self.entry).ghost_name }
+        ensures memory { result.now ≡ (memory_of self.entry).now }
+    {
+        let PartialElementMut {
+            memory,
+            word: _,
+            head: _,
+            tail: _,
+            order: _,
+        } = self;
+        memory
+    }
+
+    // The word in which the bits lie.
+    fn word(&self) -> R
+        ensures { R.number result ≡ slice_index (map R.number (memory_of self.now).now)
+            (slot_in self.now).word }
+    {
+        self.memory[self.word]
+    }
+
+    // Puts a whole word in its place.
+    fn put(&mut self, word: R)
+        ensures reference { (memory_of self.new).ghost_name ≡ (memory_of self.old).ghost_name }
+        ensures slot { slot_in self.new ≡ slot_in self.old }
+        ensures memory { (memory_of self.new).now
+            ≡ slice_set (memory_of self.old).now (slot_in self.old).word word }
+    {
+        let at = self.word;
+        let memory = &mut *self.memory;
+        memory[at] = word;
+    }
+
+    /// The index of the first bit.
+    pub fn head(&self) -> BitIdx<R>
+        ensures { result ≡ (slot_in self.now).head }
+    {
+        BitIdx::new_unchecked(self.head)
+    }
+
+    /// One past the index of the last bit.
+    pub fn tail(&self) -> BitEnd<R>
+        ensures { result ≡ (slot_in self.now).tail }
+    {
+        BitEnd::new_unchecked(self.tail)
+    }
+
+    /// The head and the tail.
+    pub fn bounds(&self) -> (BitIdx<R>, BitEnd<R>)
+        ensures head { result.0 ≡ (slot_in self.now).head }
+        ensures tail { result.1 ≡ (slot_in self.now).tail }
+    {
+        (self.head(), self.tail())
+    }
+}
+
+impl<'a, R: BitRegister, O: BitOrder<R>> PartialElementMut<'a, R, O> {
+    ghost use Rattle.bitvec_domain.specs.PartialElementMut.{memory_of, slot_in};
+
+    /// The positions of the bits.
+    pub fn mask(&self) -> BitMask<R>
+        ensures { IsMaskOf R.BITS O.at_of (slot_in self.now).head (slot_in self.now).tail result }
+    {
+        O::mask(Some(self.head()), Some(self.tail()))
+    }
+
+    /// The digits of the word at the positions of the bits, where they stand in it, and all others
+    /// zero.
+    pub fn load_value(&self) -> R
+        ensures { R.number result ≡ value_of R.BITS O.at_of
+            (slot_part (slot_in self.now) (map R.number (memory_of self.now).now)) }
+    {
+        self.word().and(self.mask().into_inner())
+    }
+
+    /// Puts the digits of `value` at the positions of the bits, without a shift, and returns the
+    /// previous ones as [`load_value`](PartialElementMut::load_value) does.
+    ///
+    /// Every other digit stays, and every other word.
+    pub fn store_value(&mut self, value: R) -> R
+        ensures reference { (memory_of self.new).ghost_name ≡ (memory_of self.old).ghost_name }
+        ensures slot { slot_in self.new ≡ slot_in self.old }
+        ensures edit { EditsPart R.BITS O.at_of (slot_in self.old)
+            (λ i. digit (R.number value) (O.at_of i)) (map R.number (memory_of self.old).now)
+            (map R.number (memory_of self.new).now) (R.number result) }
+    {
+        let old = self.word();
+        let mask = self.mask().into_inner();
+        self.put(stored(old, mask, value));
+        old.and(mask)
+    }
+
+    /// Turns each of the bits over, and returns the previous ones.
+    pub fn invert(&mut self) -> R
+        ensures reference { (memory_of self.new).ghost_name ≡ (memory_of self.old).ghost_name }
+        ensures slot { slot_in self.new ≡ slot_in self.old }
+        ensures edit { EditsPart R.BITS O.at_of (slot_in self.old)
+            (λ i. not
+            (digit (slice_index (map R.number (memory_of self.old).now) (slot_in self.old).word)
+            (O.at_of i))) (map R.number (memory_of self.old).now)
+            (map R.number (memory_of self.new).now) (R.number result) }
+    {
+        let old = self.word();
+        let mask = self.mask().into_inner();
+        self.put(old.xor(mask));
+        old.and(mask)
+    }
+
+    /// Makes each of the bits zero, and returns the previous ones.
+    pub fn clear(&mut self) -> R
+        ensures reference { (memory_of self.new).ghost_name ≡ (memory_of self.old).ghost_name }
+        ensures slot { slot_in self.new ≡ slot_in self.old }
+        ensures edit { EditsPart R.BITS O.at_of (slot_in self.old) (λ i. false)
+            (map R.number (memory_of self.old).now) (map R.number (memory_of self.new).now)
+            (R.number result) }
+    {
+        let old = self.word();
+        let mask = self.mask().into_inner();
+        self.put(old.and(mask.not()));
+        old.and(mask)
+    }
+
+    /// Makes each of the bits one, and returns the previous ones.
+    pub fn set(&mut self) -> R
+        ensures reference { (memory_of self.new).ghost_name ≡ (memory_of self.old).ghost_name }
+        ensures slot { slot_in self.new ≡ slot_in self.old }
+        ensures edit { EditsPart R.BITS O.at_of (slot_in self.old) (λ i. true)
+            (map R.number (memory_of self.old).now) (map R.number (memory_of self.new).now)
+            (R.number result) }
+    {
+        let old = self.word();
+        let mask = self.mask().into_inner();
+        self.put(old.or(mask));
+        old.and(mask)
+    }
+}
+
+impl<'a, R: BitRegister, O> PartialElementMut<'a, R, O> {
+    ghost use Rattle.bitvec_domain.specs.PartialElementMut.{memory_of, slot_in};
+    ghost use Rattle.bitvec_domain.specs.BitWordsMut.{words_memory, stretch_in};
+    ghost use Rattle.bitvec_domain.specs.DomainMut.{lent_part};
+    ghost use Rattle.bitvec_domain.specs.BitDomainMut.{lent_word_bits};
+
+    /// The bits of the part, in its one word.
+    pub fn into_bitslice(self) -> BitWordsMut<'a, R, O>
+        ensures reference { (words_memory result).ghost_name ≡ (memory_of self.entry).ghost_name }
+        ensures memory { (words_memory result).now ≡ (memory_of self.entry).now }
+        ensures stretch { stretch_in result ≡ slot_stretch (slot_in self.entry) }
+        ensures bits { lent_word_bits R.number result ≡ part_bits (lent_part R.number self.entry) }
+    {
+        let PartialElementMut {
+            memory,
+            word,
+            head,
+            tail,
+            order,
+        } = self;
+        BitWordsMut {
+            memory,
+            first: word,
+            count: 1,
+            head,
+            len: usize::from(tail - head),
+            order,
+        }
+    }
+}
+
+impl<R: BitRegister, O> BitSpan<R, O> {
+    ghost use Rattle.bitvec_domain.specs.BitSpan.{span_of};
+    ghost use Rattle.bitvec_domain.specs.PartialElementMut.{memory_of, slot_in};
+
+    /// The part of the `k`-th word that the span meets, counted from 0, for writing.
+    ///
+    /// Its bounds are those of [`part`](BitSpan::part). Our own.
+    pub fn part_mut<'a>(self, memory: &'a mut [R], k: usize) -> PartialElementMut<'a, R, O>
+        requires fits { Fits R.BITS (span_of self) (length memory.old) }
+        requires met { k < words_met R.BITS (span_of self).head (span_of self).len }
+        ensures reference { (memory_of result).ghost_name ≡ memory.entry.ghost_name }
+        ensures memory { (memory_of result).now ≡ memory.old }
+        ensures slot { slot_in result ≡ slot_of R.BITS (span_of self) k }
+    {
+        let word = self.address() as usize + k;
+        self.part_at(memory, word, k)
+    }
+
+    // The part of the `k`-th word that the span meets, as that of the word `word` of a memory.
+    pub(crate) fn part_at<'a>(
+        self,
+        memory: &'a mut [R],
+        word: usize,
+        k: usize,
+    ) -> PartialElementMut<'a, R, O>
+        requires word { word < length memory.old }
+        requires met { k < words_met R.BITS (span_of self).head (span_of self).len }
+        ensures reference { (memory_of result).ghost_name ≡ memory.entry.ghost_name }
+        ensures memory { (memory_of result).now ≡ memory.old }
+        ensures slot { slot_in result ≡ slot_at R.BITS (span_of self) k word }
+    {
+        let head = if k == 0 { self.head() } else { BitIdx::MIN };
+        let tail = if k + 1 == self.elements() {
+            self.tail()
+        } else {
+            BitEnd::MAX
+        };
+        PartialElementMut {
+            memory,
+            word,
+            head: head.into_inner(),
+            tail: tail.into_inner(),
+            order: PhantomData,
+        }
+    }
+}
