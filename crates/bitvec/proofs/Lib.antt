@@ -1,3 +1,4 @@
+pub mod AppendedRuns
 pub mod BitCommandLemmas
 pub mod CommandLemmas
 pub mod LaterLemmas
@@ -5,7 +6,6 @@ pub mod LawLemmas
 pub mod MoveLemmas
 pub mod RequestLemmas
 pub mod RisingLemmas
-pub mod RunLemmas
 pub mod SpanLemmas
 pub mod TurnLemmas
 pub mod WordLemmas

@@ -1,5 +1,5 @@
 -- One list under two orders.
-use Rattle.std.proofs.Common.{◌≡◌, ℕ, zero, suc, ◌+◌, ◌-◌, ◌*◌, ◌/◌, ◌%◌, ◌<◌, ◌≤◌, Bool, true, false, cond, eqb, List, [], ◌∷◌, length, get_or, ap, ◌∙◌, sym, refl, subst, arith}
+use Rattle.std.proofs.Common.{◌≡◌, ℕ, ◌+◌, ◌-◌, ◌*◌, ◌/◌, ◌%◌, ◌<◌, ◌≤◌, Bool, true, false, cond, eqb, List, [], ◌∷◌, length, get_or, ap, ◌∙◌, sym, refl, subst, arith}
 use Rattle.std.specs.Prelude.{nat_abs, nat_le, ◌&&◌}
 use Rattle.std.specs.List.{AllZip}
 use Rattle.std.proofs.lemmas.Nat.{mod_below}
@@ -7,7 +7,7 @@ use Rattle.std.proofs.Math.Nat.{mul-le-mul_right}
 use Rattle.bitvec_mem.specs.Digit.{digit}
 use Rattle.bitvec_order.specs.Order.{IsOneToOne}
 use Rattle.bitvec_order.proofs.IndexLemmas.{digit-number_of_at}
-use Rattle.bitvec_ptr.specs.Memory.{bit_of, memory_bits}
+use Rattle.bitvec_ptr.specs.Memory.{memory_bits}
 use Rattle.bitvec_ptr.specs.Place.{words_met}
 use Rattle.bitvec_ptr.proofs.MemoryLemmas.{tabulate_same}
 use Rattle.bitvec_ptr.proofs.BitLemmas.{length-memory_bits, get_or-memory_bits}
@@ -16,7 +16,7 @@ use Rattle.bitvec_domain.proofs.WordsLemmas.{met_within}
 use Rattle.bitvec.specs.declared.run.command.Command.{Command}
 use Rattle.bitvec.specs.declared.run.command.Command.TheVariants.{Load, Store, Set, Clear, Invert, Read, Replace, Swap, Copy}
 use Rattle.bitvec.specs.declared.run.command.Reply.{Reply}
-use Rattle.bitvec.specs.declared.run.command.Reply.TheVariants.{Word, Bit, Done, PastEnd, NoSpan}
+use Rattle.bitvec.specs.declared.run.command.Reply.TheVariants.{Word, Bit, Done, PastEnd}
 use Rattle.bitvec.specs.Commands.{replies_to, list_after_all, reply_to, list_after, with_word}
 use Rattle.bitvec.specs.Laws.{AreSameCommands, AreSameReplies, IsTurned}
 

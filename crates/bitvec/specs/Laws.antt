@@ -1,7 +1,7 @@
 -- What registers, orders and places have no part in: the replies and the lists of requests under two orders. `bits` is the
 -- width of a word, `at` takes an index in a word to its position in the number, and a memory is the list of its words'
 -- numbers.
-use Rattle.std.specs.Prelude.{ℕ, ◌≡◌, ◌<◌, Bool, List, length, slice_get, Some, All}
+use Rattle.std.specs.Prelude.{ℕ, ◌≡◌, ◌<◌, List, length, slice_get, Some, All}
 use Rattle.std.specs.List.{AllZip}
 use Rattle.bitvec_mem.specs.Digit.{digit}
 use Rattle.bitvec_ptr.specs.Memory.{memory_bits}

@@ -13,9 +13,9 @@ pub mod LoanLemmas
 pub mod PartLemmas
 pub mod PlacedLemmas
 pub mod PointerLemmas
-pub mod RunLemmas
 pub mod SameSpans
 pub mod SliceLemmas
+pub mod StretchLemmas
 pub mod TextLemmas
 pub mod WordsLemmas
 pub mod WrittenLemmas

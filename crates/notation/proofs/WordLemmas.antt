@@ -1,10 +1,10 @@
 -- The numbers of words.
-use Rattle.std.proofs.Common.{◌≡◌, ℕ, ◌^◌, ◌<◌, ◌≤◌, List, [], ◌∷◌, ◌++◌, ◌⊎◌, inl, inr, length, get_or, map, take, take_all, append_assoc, refl, sym, subst, ap, ◌∙◌, arith}
+use Rattle.std.proofs.Common.{◌≡◌, ℕ, ◌^◌, ◌<◌, ◌≤◌, List, [], ◌∷◌, ◌++◌, inl, inr, length, get_or, map, take, take_all, append_assoc, refl, sym, subst, ap, ◌∙◌, arith}
 use Rattle.std.proofs.lemmas.Bool.{cases_lt}
 use Rattle.std.proofs.Math.Pow.{pow_mono}
 use Rattle.std.specs.Prelude.{codes}
 use Rattle.std.specs.List.{All, flat_map}
-use Rattle.std.specs.Str.Parse.{AllDigits, digits_value}
+use Rattle.std.specs.Str.Parse.{IsNumeral, digits_value}
 use Rattle.std.proofs.lemmas.List.{map-append}
 use Rattle.std.proofs.lemmas.List.Elements.{All-get_or, All-push, All-same}
 use Rattle.notation.specs.Words.{hexadecimal, memory_text, IsWordText, IsMemoryText, pieces}
@@ -23,12 +23,10 @@ text_whole number first rest memory k old mid new whole all begun ended =
     ∙ ap (λ m. old ++ memory_text (map number m)) (sym whole)
 
 -- what is no number of 128 bits is no word
-pub no_number : (bits : ℕ) (text : List ℕ) → bits ≤ 128 → (text ≡ []) ⊎ (AllDigits 16 text → ⊥) ⊎ (340282366920938463463374607431768211455 < digits_value 16 text) → IsWordText bits text → ⊥
-no_number bits text small (inl e) w = absurd (omega (arith, w.0, ap length e))
-no_number bits text small (inr (inl wrong)) w = wrong w.1
-no_number bits text small (inr (inr large)) w =
+pub no_number : (bits : ℕ) (text : List ℕ) → bits ≤ 128 → (IsNumeral 16 text × (digits_value 16 text ≤ 340282366920938463463374607431768211455) → ⊥) → IsWordText bits text → ⊥
+no_number bits text small wrong w =
     let most : 2 ^ bits ≤ 2 ^ 128 = pow_mono small in
-    omega (arith, w.2)
+    wrong (w.0, omega (arith, w.1))
 
 -- where a piece is no word, a text stands for no memory
 pub no_memory : (bits : ℕ) (text piece : List ℕ) (k : ℕ) → (text ≡ codes "-" → ⊥) → (k < length (pieces text)) × (piece ≡ get_or (pieces text) k piece) → (IsWordText bits piece → ⊥) → (numbers : List ℕ) → IsMemoryText bits text numbers → ⊥
@@ -46,7 +44,7 @@ words_more bits number now ys y ws vs w all same here is more =
 
 -- nor is a number that is too large
 pub too_large : (bits : ℕ) (text : List ℕ) (n : ℕ) → n ≡ digits_value 16 text → 2 ^ bits ≤ n → IsWordText bits text → ⊥
-too_large bits text n e large w = omega (arith, w.2)
+too_large bits text n e large w = omega (arith, w.1)
 
 -- a number that is not too large fits
 pub fits : (n bits : ℕ) → (2 ^ bits ≤ n → ⊥) → n < 2 ^ bits

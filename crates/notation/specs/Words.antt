@@ -1,7 +1,7 @@
 -- Memories as text.
-use Rattle.std.specs.Prelude.{◌≡◌, ℕ, ◌<◌, ◌^◌, ◌⊎◌, ◌==◌, false, List, [], ◌∷◌, ◌++◌, length, map, codes}
+use Rattle.std.specs.Prelude.{◌≡◌, ℕ, ◌<◌, ◌^◌, ◌⊎◌, ◌==◌, false, List, [], ◌∷◌, ◌++◌, map, codes}
 use Rattle.std.specs.List.{All, flat_map, slice_split}
-use Rattle.std.specs.Str.Parse.{AllDigits, digits_value}
+use Rattle.std.specs.Str.Parse.{IsNumeral, digits_value}
 use Rattle.bitvec.specs.Numeral.{numeral}
 
 -- a number in hexadecimal, in one digit at least
@@ -15,7 +15,7 @@ memory_text (n ∷ ns) = hexadecimal n ++ flat_map (λ m. codes "," ++ hexadecim
 
 -- a text is a word of so many bits: hexadecimal digits, at least one, of a number that fits
 abbrev pub IsWordText : ℕ → List ℕ → Type 0
-IsWordText bits text = (0 < length text) × AllDigits 16 text × (digits_value 16 text < 2 ^ bits)
+IsWordText bits text = IsNumeral 16 text × (digits_value 16 text < 2 ^ bits)
 
 -- the pieces of a text between its commas
 abbrev pub pieces : List ℕ → List (List ℕ)

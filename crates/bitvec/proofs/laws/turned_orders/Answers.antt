@@ -1,7 +1,7 @@
-use Rattle.std.proofs.Common.{◌<◌, ◌≡◌, Bool, List, length, ap, ◌∙◌, subst, arith}
+use Rattle.std.proofs.Common.{◌<◌, Bool, List, length, ap, ◌∙◌, subst, arith}
 use Rattle.std.specs.List.{AllZip}
 use Rattle.std.proofs.lemmas.Option.{get_or_from_slice_get, slice_get_within}
-use Rattle.bitvec_domain.specs.Span.{Span, Fits, list_of}
+use Rattle.bitvec_domain.specs.Span.{Fits, list_of}
 use Rattle.bitvec.specs.Commands.{replies_to, list_after_all, own_commands}
 use Rattle.bitvec.specs.Laws.{IsTurned, AreSameReplies}
 use Rattle.bitvec.proofs.BitCommandLemmas.{own_same}

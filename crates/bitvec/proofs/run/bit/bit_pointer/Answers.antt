@@ -1,4 +1,4 @@
-use Rattle.std.proofs.Common.{◌≡◌, ◌+◌, ◌/◌, ◌<◌, ◌+ℤ◌, pos, ap, sym, ◌∙◌, refl, arith}
+use Rattle.std.proofs.Common.{◌+◌, ◌/◌, ◌<◌, ◌+ℤ◌, pos, ap, sym, ◌∙◌, refl, arith}
 use Rattle.std.proofs.lemmas.Nat.{mod_below}
 use Rattle.bitvec_ptr.specs.BitPtr.{ptr_of}
 use Rattle.bitvec_ptr.specs.Place.{Ptr, place_of}

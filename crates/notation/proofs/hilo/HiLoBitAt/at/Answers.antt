@@ -1,4 +1,4 @@
-use Rattle.std.proofs.Common.{◌≡◌, ◌<◌, bit_xor, subst, rules}
+use Rattle.std.proofs.Common.{rules}
 use Rattle.notation.specs.HiLo.{swapped_one_to_one}
 use Rattle.notation.proofs.hilo.HiLoBitAt.at.Goals as goal
 

@@ -19,7 +19,7 @@ use denote.Laws.{Is, shows}
 use denote.RattleType.{RattleType, owns}
 use denote.Signature.{types_at, plain, mut_slice_of, named_lft}
 use denote.Steps.{nothing, heard, owned, peeks}
-use denote.Param.{param, list_with_copy, bounded}
+use denote.Param.{param, copied, bounded}
 use denote.Param.Laws.{param_laws, copied_laws}
 use denote.Slice.{slice_val, mut_slice_vals, mut_slice_Tells}
 use denote.Struct.Laws.{makes}
@@ -55,7 +55,7 @@ use Rattle.bitvec_domain.proofs.domain.domain_mut.DomainMut.into_bit_domain.Met.
 
 pub bit_domain_mut_spec : {M : Type 1} → statement M
 bit_domain_mut_spec 𝓤 𝓛 𝓜 𝓡 wired X O L LO copy rb rbd rc rcd rd rdd re red rp rpd ro rod rq rqd rh rhd rg rgd m1 m2 m3 m4 m5 m6 m7 m8 m9 =
-    let H = 𝓛.H in let 𝓣 = tables 𝓤 H 𝓜 𝓡 𝓡.env in let R : RattleType = list_with_copy 0 X in let Or : RattleType = param 1 O in let En = f.ended X O rb rbd rc rcd rd rdd re red rp rpd ro rod rq rqd rh rhd rg rgd in
+    let H = 𝓛.H in let 𝓣 = tables 𝓤 H 𝓜 𝓡 𝓡.env in let R : RattleType = copied 0 X in let Or : RattleType = param 1 O in let En = f.ended X O rb rbd rc rcd rd rdd re red rp rpd ro rod rq rqd rh rhd rg rgd in
     let inst = bounded (a_type ∷ a_type ∷ []) (X, (O, tt)) (dcons rbd (dcons rcd (dcons rdd (dcons red (dcons rpd (dcons rod (dcons rqd (dcons rhd (dcons rgd dnil))))))))) in let fn = inst_fn inst code.function in
     let c = f.clauses X O rb rbd rc rcd rd rdd re red rp rpd ro rod rq rqd rh rhd rg rgd 𝓛 𝓜.mem 𝓡.returns in
     let LR = copied_laws 0 X L in let LOr = param_laws 1 O LO in

@@ -26,7 +26,7 @@ use denote.RattleType.{RattleType, owns}
 use denote.Ref.{at_last}
 use denote.Signature.{types_at, plain, named_lft}
 use denote.Steps.{nothing, heard, owned, peeks}
-use denote.Param.{param, list_with_copy, bounded}
+use denote.Param.{param, copied, bounded}
 use denote.Param.Laws.{param_laws, copied_laws}
 use denote.Builtin.{bool}
 use denote.Plain.{bool_vals, bool_Tells, bool_Makes}
@@ -64,7 +64,7 @@ use Rattle.bitvec_domain.proofs.domain.domain_mut.fill_domain.Met.{met as met_h}
 
 pub fill_pieces_spec : {M : Type 1} → statement M
 fill_pieces_spec 𝓤 𝓛 𝓜 𝓡 wired X O L LO copy rb rbd rc rcd rd rdd re red rp rpd ro rod rq rqd rh rhd rg rgd obo obod ooc oocd oba obad m1 m2 m3 m4 m5 m6 m7 m8 m9 m10 m11 m12 =
-    let H = 𝓛.H in let 𝓣 = tables 𝓤 H 𝓜 𝓡 𝓡.env in let R : RattleType = list_with_copy 0 X in let Or : RattleType = param 1 O in let En = f.ended X O rb rbd rc rcd rd rdd re red rp rpd ro rod rq rqd rh rhd rg rgd obo obod ooc oocd oba obad in
+    let H = 𝓛.H in let 𝓣 = tables 𝓤 H 𝓜 𝓡 𝓡.env in let R : RattleType = copied 0 X in let Or : RattleType = param 1 O in let En = f.ended X O rb rbd rc rcd rd rdd re red rp rpd ro rod rq rqd rh rhd rg rgd obo obod ooc oocd oba obad in
     let inst = bounded (a_type ∷ a_type ∷ []) (X, (O, tt)) (dcons rbd (dcons rcd (dcons rdd (dcons red (dcons rpd (dcons rod (dcons rqd (dcons rhd (dcons rgd (dcons obod (dcons oocd (dcons obad dnil)))))))))))) in let fn = inst_fn inst code.function in
     let c = f.clauses X O rb rbd rc rcd rd rdd re red rp rpd ro rod rq rqd rh rhd rg rgd obo obod ooc oocd oba obad 𝓛 𝓜.mem 𝓡.returns in
     let LR = copied_laws 0 X L in let LOr = param_laws 1 O LO in
