@@ -7,8 +7,8 @@ use Rattle.std.proofs.Math.Nat.{div-eq_of_lt-le}
 use Rattle.bitvec.specs.Order.{IsOneToOne}
 
 -- the position of index i three further on, round the end of the word
-abbrev pub rotated : ℕ → ℕ → ℕ
-rotated width i = (i + 3) % width
+abbrev pub rotated_index : ℕ → ℕ → ℕ
+rotated_index width i = (i + 3) % width
 
 -- a number below twice the width, less the width where it is not below it
 rest_of : (width n : ℕ) → 0 < width → n < width + width → ((n < width) × (n % width ≡ n)) ⊎ ((width ≤ n) × (n % width + width ≡ n))
@@ -21,7 +21,7 @@ rest_of width n some h =
       | inr above ↦ inr (above, past above)
     ]
 
-pub rotated_one_to_one : (width : ℕ) → 8 ≤ width → IsOneToOne width (rotated width)
+pub rotated_one_to_one : (width : ℕ) → 8 ≤ width → IsOneToOne width (rotated_index width)
 rotated_one_to_one width wide = record {
   below = λ i h. mod_below (i + 3) width (omega arith);
   apart = λ i j h k e.
@@ -32,14 +32,14 @@ rotated_one_to_one width wide = record {
 }
 
 -- the position of index i of a byte, by a table
-abbrev pub tabled : ℕ → ℕ
-tabled i = slice_index (5 ∷ 2 ∷ 7 ∷ 0 ∷ 3 ∷ 6 ∷ 1 ∷ 4 ∷ []) i
+abbrev pub table_position : ℕ → ℕ
+table_position i = slice_index (5 ∷ 2 ∷ 7 ∷ 0 ∷ 3 ∷ 6 ∷ 1 ∷ 4 ∷ []) i
 
 -- the index of a position
 index_at : ℕ → ℕ
 index_at p = slice_index (3 ∷ 6 ∷ 1 ∷ 4 ∷ 7 ∷ 0 ∷ 5 ∷ 2 ∷ []) p
 
-back : (i : ℕ) → i < 8 → (index_at (tabled i) ≡ i) × (tabled i < 8)
+back : (i : ℕ) → i < 8 → (index_at (table_position i) ≡ i) × (table_position i < 8)
 unfolding index_at
 back zero h = (refl, omega arith)
 back (suc zero) h = (refl, omega arith)
@@ -51,7 +51,7 @@ back (suc (suc (suc (suc (suc (suc zero)))))) h = (refl, omega arith)
 back (suc (suc (suc (suc (suc (suc (suc zero))))))) h = (refl, omega arith)
 back (suc (suc (suc (suc (suc (suc (suc (suc i)))))))) h = absurd (omega arith)
 
-pub tabled_one_to_one : IsOneToOne 8 tabled
+pub tabled_one_to_one : IsOneToOne 8 table_position
 tabled_one_to_one = record {
   below = λ i h. (back i h).1;
   apart = λ i j h k e. sym (back i h).0 ∙ ap index_at e ∙ (back j k).0;

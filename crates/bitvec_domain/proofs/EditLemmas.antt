@@ -2,7 +2,7 @@
 use Rattle.std.proofs.Common.{◌≡◌, ℕ, ◌<◌, ◌≤◌, ◌^◌, Bool, true, false, not, ◌&&◌, ◌||◌, if◌then◌else◌, nat_le, nat_lt, List, map, refl, ap, ◌∙◌}
 use Rattle.std.proofs.lemmas.List.{map-set}
 use Rattle.std.specs.Prelude.{slice_index, slice_set}
-use Rattle.bitvec_mem.specs.Digit.{digit, differ}
+use Rattle.bitvec_mem.specs.Digit.{digit, exclusive_or}
 use Rattle.bitvec_order.specs.Order.{IsOneToOne, IsMaskOf}
 use Rattle.bitvec_order.proofs.IndexLemmas.{digit-mask_at, number_of-from_digits}
 use Rattle.bitvec_domain.specs.Slot.{Slot, slot_part, EditsPart}
@@ -21,7 +21,7 @@ set true false = refl
 set false true = refl
 set false false = refl
 
-pub inverted : (o m : Bool) → differ o m ≡ (if m then not o else o)
+pub inverted : (o m : Bool) → exclusive_or o m ≡ (if m then not o else o)
 inverted true true = refl
 inverted true false = refl
 inverted false true = refl

@@ -11,7 +11,7 @@ use Rattle.bitvec_domain.specs.Pieces.{names_of, piece_list}
 use Rattle.bitvec_domain.specs.declared.lend.Pieces.{Pieces}
 use Rattle.bitvec_domain.specs.declared.domain.domain_mut.DomainMut.{DomainMut}
 use Rattle.bitvec_domain.specs.declared.domain.domain_mut.DomainMut.TheVariants.{Enclave, Region}
-use Rattle.bitvec_domain.specs.Loans.{is_inside, has_head, has_tail, words_before, body_words, slots_of, lists_of, word_of_bit, filled_slot_if, filled}
+use Rattle.bitvec_domain.specs.Loans.{is_inside, has_head, has_tail, words_before, body_words, slots_of, lists_of, word_of_bit, filled_slot_if, filled_memory}
 use Rattle.bitvec_domain.specs.DomainMut.{loan_names, loan_slots, loan_words}
 use Rattle.bitvec_domain.proofs.LoanEnds.{last_of}
 use Rattle.bitvec_domain.proofs.LoanLemmas.{loans-within, inside-none}
@@ -56,7 +56,7 @@ module _ {R : Type 0} (number : R → ℕ) (bits : ℕ) (at : ℕ → ℕ) (bit 
       → map number (piece_list pieces.body) ≡ replicate (length (loan_words domain).1) (word_of_bit bits bit)
       → map number (piece_list pieces.back) ≡ filled_slot_if bits at bit (loan_slots domain).2 (map number (loan_words domain).2)
       → map number (last_of pieces.front (take (words_before span) memory) ++ (last_of pieces.body (take (body_words bits span) (drop (words_before span) memory)) ++ last_of pieces.back (drop (body_words bits span) (drop (words_before span) memory))))
-      ≡ filled bits at bit span (map number memory)
+      ≡ filled_memory bits at bit span (map number memory)
   filled-loans span memory fits domain pieces slots words names front body back =
       let i : ℕ = words_before span in
       let n : ℕ = body_words bits span in

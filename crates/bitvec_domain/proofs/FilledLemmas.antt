@@ -16,7 +16,7 @@ use Rattle.bitvec_ptr.proofs.MemoryLemmas.{tabulate-from_elements}
 use Rattle.bitvec_domain.specs.Span.{Span, Covers, Fits, list_of}
 use Rattle.bitvec_domain.specs.Parts.{part_head, part_tail, part_of}
 use Rattle.bitvec_domain.specs.Slot.{slot_at, edited_word}
-use Rattle.bitvec_domain.specs.Loans.{has_head, has_tail, body_words, word_of_bit, filled_slot_if, filled}
+use Rattle.bitvec_domain.specs.Loans.{has_head, has_tail, body_words, word_of_bit, filled_slot_if, filled_memory}
 use Rattle.bitvec_domain.proofs.PartLemmas.{inside-from_part, part-from_inside, bit_of-span}
 use Rattle.bitvec_domain.proofs.CoverLemmas.{covers-own}
 use Rattle.bitvec_domain.proofs.LoanLemmas.{rows, heads, tails, some_met}
@@ -194,7 +194,7 @@ module _ (bits : ℕ) (at : ℕ → ℕ) (bit : Bool) (span : Span) (old : List 
 
   module _ (law : IsOneToOne bits at) (in_head : span.head < bits) (fits : Fits bits span (length old)) where
     abbrev new : List ℕ
-    new = filled bits at bit span old
+    new = filled_memory bits at bit span old
 
     digit-edited : (k i : ℕ) → i < bits → digit (whole_edit k) (at i) ≡ (if nat_le (part_head span.head k) i && nat_lt i (part_tail bits span.head span.len k) then bit else digit (slice_index old (first + k)) (at i))
     digit-edited k i h = digit-number_of_at bits at _ i law h
@@ -292,7 +292,7 @@ module _ (bits : ℕ) (at : ℕ → ℕ) (bit : Bool) (span : Span) (old : List 
 
 -- the same of words as registers, from the equation of the pieces
 module _ {R : Type 0} (number : R → ℕ) (bits : ℕ) (at : ℕ → ℕ) (bit : Bool) (span : Span) (old new : List R)
-    (law : IsOneToOne bits at) (in_head : span.head < bits) (fits : Fits bits span (length old)) (is : map number new ≡ filled bits at bit span (map number old)) where
+    (law : IsOneToOne bits at) (in_head : span.head < bits) (fits : Fits bits span (length old)) (is : map number new ≡ filled_memory bits at bit span (map number old)) where
   fits_numbers : Fits bits span (length (map number old))
   fits_numbers = subst (Fits bits span) (sym (length-map old number)) fits
 

@@ -15,11 +15,11 @@ use Rattle.bitvec_ptr.specs.Place.{words_met, tail_of}
 use Rattle.bitvec_ptr.proofs.PlaceLemmas.{words_met-none, words_met-some, tail_of-some}
 use Rattle.bitvec_ptr.proofs.MemoryLemmas.{tabulate_same}
 use Rattle.bitvec_domain.specs.Span.{Span, Fits, list_of, word_of, words_of, region_max_bits}
-use Rattle.bitvec_domain.specs.Parts.{Part, Parts, enclave, region, whole, value_of, part_head, part_tail, part_of, parts_of, items, HasShortBody}
+use Rattle.bitvec_domain.specs.Parts.{Part, Parts, enclave, region, whole_part, value_of, part_head, part_tail, part_of, parts_of, items, HasShortBody}
 use Rattle.bitvec_domain.proofs.PartLemmas.{part_same, value_of-part_of, length-list_of}
 
 -- a whole word is its own value
-pub value_of-whole : (bits : ℕ) (at : ℕ → ℕ) (w : ℕ) → IsOneToOne bits at → w < 2 ^ bits → value_of bits at (whole bits w) ≡ w
+pub value_of-whole : (bits : ℕ) (at : ℕ → ℕ) (w : ℕ) → IsOneToOne bits at → w < 2 ^ bits → value_of bits at (whole_part bits w) ≡ w
 value_of-whole bits at w law small =
     sym (number_of-from_digits bits at (λ i. nat_le 0 i && nat_lt i bits && digit w (at i)) w law small (λ i h. sym (rw (le-leb 0 i (omega arith), lt-ltb i bits h) refl)))
 
@@ -73,11 +73,11 @@ module _ (bits : ℕ) (at : ℕ → ℕ) (span : Span) (words : List ℕ) (in_he
   before a n k h end most = elim end [ inl less ↦ inl (omega arith) | inr full ↦ inr full ]
 
   -- whole words, from the a-th that the span meets on
-  body : (a n from upto : ℕ) → from ≡ nat_abs span.word + a → upto ≡ nat_abs span.word + a + n → a + n ≤ words_met bits span.head span.len → (0 < a) ⊎ (span.head ≡ 0) → (a + n < words_met bits span.head span.len) ⊎ (tail_of bits span.head span.len ≡ bits) → map (λ w. value_of bits at (whole bits w)) (slice_range words from upto) ≡ map value_at (range_with_len a n)
+  body : (a n from upto : ℕ) → from ≡ nat_abs span.word + a → upto ≡ nat_abs span.word + a + n → a + n ≤ words_met bits span.head span.len → (0 < a) ⊎ (span.head ≡ 0) → (a + n < words_met bits span.head span.len) ⊎ (tail_of bits span.head span.len ≡ bits) → map (λ w. value_of bits at (whole_part bits w)) (slice_range words from upto) ≡ map value_at (range_with_len a n)
   body a n from upto e f most begin end =
-      ap (λ i. map (λ w. value_of bits at (whole bits w)) (slice_range words i upto)) e
-      ∙ ap (λ i. map (λ w. value_of bits at (whole bits w)) (slice_range words (nat_abs span.word + a) i)) f
-      ∙ map-slice_range (λ w. value_of bits at (whole bits w)) value_at words (nat_abs span.word + a) a n (omega arith) (λ k h.
+      ap (λ i. map (λ w. value_of bits at (whole_part bits w)) (slice_range words i upto)) e
+      ∙ ap (λ i. map (λ w. value_of bits at (whole_part bits w)) (slice_range words (nat_abs span.word + a) i)) f
+      ∙ map-slice_range (λ w. value_of bits at (whole_part bits w)) value_at words (nat_abs span.word + a) a n (omega arith) (λ k h.
       ap (value_of bits at) (part_same _ _ _ _ _ _ (ap (slice_index words) (let g : nat_abs span.word + a + k ≡ nat_abs span.word + (a + k) = omega arith in g))
       (first_bound (a + k) (after a k begin)) (last_bound (a + k) (before a n k h end most))))
 
@@ -196,10 +196,10 @@ short-words_of bits at span number memory parts in_head short fits is =
     rw is (short-parts_of bits at span (map number memory) in_head (let within = fits.1 in omega (arith, length-map memory number)) short)
 
 -- the items of whole words, the last of them behind the others
-pub items_last : {X : Type 0} (bits : ℕ) (at : ℕ → ℕ) (number : X → ℕ) (before : List ℕ) (body : List X) (word : X) → value_of bits at (whole bits (number word)) ≡ number word
-    → before ++ (map (λ w. value_of bits at (whole bits w)) (map number (body ++ (word ∷ []))) ++ []) ≡ (before ++ (map (λ w. value_of bits at (whole bits w)) (map number body) ++ [])) ++ (number word ∷ [])
+pub items_last : {X : Type 0} (bits : ℕ) (at : ℕ → ℕ) (number : X → ℕ) (before : List ℕ) (body : List X) (word : X) → value_of bits at (whole_part bits (number word)) ≡ number word
+    → before ++ (map (λ w. value_of bits at (whole_part bits w)) (map number (body ++ (word ∷ []))) ++ []) ≡ (before ++ (map (λ w. value_of bits at (whole_part bits w)) (map number body) ++ [])) ++ (number word ∷ [])
 items_last bits at number before body word value =
-    let f : ℕ → ℕ = λ w. value_of bits at (whole bits w) in
+    let f : ℕ → ℕ = λ w. value_of bits at (whole_part bits w) in
     ap (λ xs. before ++ xs) (append-nil _ ∙ ap (map f) (map-append number body (word ∷ [])) ∙ map-append f (map number body) (number word ∷ []) ∙ ap (λ v. map f (map number body) ++ (v ∷ [])) value)
     ∙ sym (append_assoc before (map f (map number body)) (number word ∷ []))
     ∙ ap (λ xs. (before ++ xs) ++ (number word ∷ [])) (sym (append-nil _))

@@ -2,9 +2,9 @@
 use Rattle.std.proofs.Common.{◌≡◌, ℕ, List, [], ◌∷◌, ◌++◌, length, map, take, Option, None, refl, sym, ap, subst, ◌∙◌, arith}
 use Rattle.std.proofs.Math.Seq.{take-append_seam}
 use Rattle.std.proofs.lemmas.List.{map-append, length-append}
-use Rattle.bitvec_domain.specs.Parts.{Part, Parts, region, before_last, LeavesBeforeLast}
+use Rattle.bitvec_domain.specs.Parts.{Part, Parts, region, parts_before_last, LeavesBeforeLast}
 
-last-whole : (head : Option Part) (ws : List ℕ) (w : ℕ) → region head ws None ≡ before_last (region head (ws ++ (w ∷ [])) None)
+last-whole : (head : Option Part) (ws : List ℕ) (w : ℕ) → region head ws None ≡ parts_before_last (region head (ws ++ (w ∷ [])) None)
 last-whole head [] w = refl
 last-whole head (v ∷ ws) w =
     ap (λ l. region head l None)

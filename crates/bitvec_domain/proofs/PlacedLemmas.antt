@@ -11,7 +11,7 @@ use Rattle.bitvec_domain.specs.Span.{Span}
 use Rattle.bitvec_domain.specs.Parts.{part_head, part_tail}
 use Rattle.bitvec_domain.specs.Slot.{Slot, slot_at}
 use Rattle.bitvec_domain.specs.Stretch.{Stretch, slot_stretch_if, whole_stretch}
-use Rattle.bitvec_domain.specs.Written.{IsWritten, StretchIsWritten, body_place, tail_place}
+use Rattle.bitvec_domain.specs.Written.{IsWritten, StretchIsWritten, body_stretch, tail_stretch}
 use Rattle.bitvec_domain.specs.Lending.{name_of}
 use Rattle.bitvec_domain.specs.Pieces.{names_of}
 use Rattle.bitvec_domain.specs.BitLoans.{names_if, stretches_of}
@@ -160,12 +160,12 @@ tail-outside bits span =
 abbrev total : (bits : ℕ) → Span → Bool → Bool → Bool → ℕ → ℕ
 total bits span hd ins tl n =
     let p = stretches_of bits ((if hd then Some (slot_at bits span 0 (nat_abs span.word)) else None), not ins, (if tl then Some (slot_at bits span (words_met bits span.head span.len - 1) 0) else None)) n in
-    p.0.len + ((body_place p).len + (tail_place p).len)
+    p.0.len + ((body_stretch p).len + (tail_stretch p).len)
 
 -- the stretches have as many bits as the span
-pub total-len : (bits : ℕ) (span : Span) (in_head : span.head < bits) → (p : Stretch × Option (Stretch × Stretch)) → p ≡ stretches_of bits (slots_of bits span) (body_words bits span) → p.0.len + ((body_place p).len + (tail_place p).len) ≡ span.len
+pub total-len : (bits : ℕ) (span : Span) (in_head : span.head < bits) → (p : Stretch × Option (Stretch × Stretch)) → p ≡ stretches_of bits (slots_of bits span) (body_words bits span) → p.0.len + ((body_stretch p).len + (tail_stretch p).len) ≡ span.len
 total-len bits span in_head p is =
-    ap (λ (p : Stretch × Option (Stretch × Stretch)). p.0.len + ((body_place p).len + (tail_place p).len)) is
+    ap (λ (p : Stretch × Option (Stretch × Stretch)). p.0.len + ((body_stretch p).len + (tail_stretch p).len)) is
     ∙ rows (span.len == 0) (span.head == 0) (tail_of bits span.head span.len == bits) (words_met bits span.head span.len == 1)
     (λ e b f o. (span.head == 0) ≡ b → (tail_of bits span.head span.len == bits) ≡ f → total bits span (heads e b) (inside e b f o) (tails e b f o) (words_met bits span.head span.len - one bits span in_head (heads e b) - one bits span in_head (tails e b f o)) ≡ span.len)
     (λ e b f.
@@ -233,7 +233,7 @@ first-place bits head tail true n = refl
 first-place bits head tail false n = refl
 
 other-places : (bits : ℕ) (head tail : Option Slot) (inside : Bool) (n : ℕ) → not inside ≡ true
-    → (body_place (stretches_of bits (head, not inside, tail) n) ≡ whole_stretch bits n) × (tail_place (stretches_of bits (head, not inside, tail) n) ≡ slot_stretch_if tail)
+    → (body_stretch (stretches_of bits (head, not inside, tail) n) ≡ whole_stretch bits n) × (tail_stretch (stretches_of bits (head, not inside, tail) n) ≡ slot_stretch_if tail)
 other-places bits head tail true n e = differ (sym e)
 other-places bits head tail false n e = (refl, refl)
 
@@ -262,8 +262,8 @@ module _ {R : Type 0} (number : R → ℕ) (bits : ℕ) (at : ℕ → ℕ) (xs :
   pub written-loans : {O : Type 0} {a b c d e f g : _} (span : Span) (memory : List R) → span.head < bits → nat_abs span.word + words_met bits span.head span.len ≤ length memory → (domain : BitDomainMut R O a b c d e f g) (pieces : Pieces R)
       → bit_loan_stretches domain ≡ stretches_of bits (slots_of bits span) (body_words bits span) → bit_loan_words domain ≡ lists_of bits span memory → names_of pieces ≡ names_if (has_head span) (has_tail bits span) (bit_loan_names domain)
       → IfSome pieces.front (λ (r : MutBor (List R)). StretchIsWritten bits at xs 0 (bit_loan_stretches domain).0 (map number (bit_loan_words domain).0) (map number r.now))
-      → IfSome pieces.body (λ (r : MutBor (List R)). StretchIsWritten bits at xs (bit_loan_stretches domain).0.len (body_place (bit_loan_stretches domain)) (map number (bit_loan_words domain).1) (map number r.now))
-      → IfSome pieces.back (λ (r : MutBor (List R)). StretchIsWritten bits at xs ((bit_loan_stretches domain).0.len + (body_place (bit_loan_stretches domain)).len) (tail_place (bit_loan_stretches domain)) (map number (bit_loan_words domain).2) (map number r.now))
+      → IfSome pieces.body (λ (r : MutBor (List R)). StretchIsWritten bits at xs (bit_loan_stretches domain).0.len (body_stretch (bit_loan_stretches domain)) (map number (bit_loan_words domain).1) (map number r.now))
+      → IfSome pieces.back (λ (r : MutBor (List R)). StretchIsWritten bits at xs ((bit_loan_stretches domain).0.len + (body_stretch (bit_loan_stretches domain)).len) (tail_stretch (bit_loan_stretches domain)) (map number (bit_loan_words domain).2) (map number r.now))
       → IsWritten bits at xs 0 (nat_abs span.word * bits + span.head) span.len (map number memory)
       (map number (last_of pieces.front (take (words_before span) memory) ++ (last_of pieces.body (take (body_words bits span) (drop (words_before span) memory)) ++ last_of pieces.back (drop (body_words bits span) (drop (words_before span) memory)))))
   written-loans span memory in_head fits domain pieces places words names front body back =
@@ -296,13 +296,13 @@ module _ {R : Type 0} (number : R → ℕ) (bits : ℕ) (at : ℕ → ℕ) (xs :
       let there = named hd tl inside (bit_loan_names domain) (named-stretches domain ∙ ap (λ (p : Stretch × Option (Stretch × Stretch)). is_some p.1) places ∙ some-places bits head tail inside n) (inside-alone bits span) in
       let place0 : (bit_loan_stretches domain).0 ≡ s0 = ap (λ (p : Stretch × Option (Stretch × Stretch)). p.0) places ∙ first-place bits head tail inside n in
       let others = other-places bits head tail inside n in
-      let place1 : not inside ≡ true → body_place (bit_loan_stretches domain) ≡ s1 = λ e. ap body_place places ∙ (others e).0 in
+      let place1 : not inside ≡ true → body_stretch (bit_loan_stretches domain) ≡ s1 = λ e. ap body_stretch places ∙ (others e).0 in
       let outside : tl ≡ true → not inside ≡ true = tail-outside bits span in
-      let place2 : tl ≡ true → tail_place (bit_loan_stretches domain) ≡ s2 = λ e. ap tail_place places ∙ (others (outside e)).1 in
+      let place2 : tl ≡ true → tail_stretch (bit_loan_stretches domain) ≡ s2 = λ e. ap tail_stretch places ∙ (others (outside e)).1 in
       let len0 : (bit_loan_stretches domain).0.len ≡ s0.len = ap (λ (s : Stretch). s.len) place0 in
       let w0 = piece-written pieces.front hd 0 0 (bit_loan_stretches domain).0 s0 (bit_loan_words domain).0 v0 (ap (λ (m : Option GName × Option GName × Option GName). is_some m.0) names ∙ there.0) (λ e. refl) (λ e. place0) (no_slot hd slot0) (λ k. (words k).0) front in
-      let w1 = piece-written pieces.body (not inside) (bit_loan_stretches domain).0.len s0.len (body_place (bit_loan_stretches domain)) s1 (bit_loan_words domain).1 v1 (ap (λ (m : Option GName × Option GName × Option GName). is_some m.1) names ∙ there.1.0) (λ e. len0) place1 (λ e. ap (λ m. m * bits) (inside-none bits span (not-false inside e)) ∙ omega arith) ((λ k. (words k).1) ∙ unless-if inside v1) body in
-      let w2 = piece-written pieces.back tl ((bit_loan_stretches domain).0.len + (body_place (bit_loan_stretches domain)).len) (s0.len + n * bits) (tail_place (bit_loan_stretches domain)) s2 (bit_loan_words domain).2 v2 (ap (λ (m : Option GName × Option GName × Option GName). is_some m.2) names ∙ there.1.1) (λ e. (λ k. len0 k + (place1 (outside e) k).len)) place2 (no_slot tl slot2) (λ k. (words k).2) back in
+      let w1 = piece-written pieces.body (not inside) (bit_loan_stretches domain).0.len s0.len (body_stretch (bit_loan_stretches domain)) s1 (bit_loan_words domain).1 v1 (ap (λ (m : Option GName × Option GName × Option GName). is_some m.1) names ∙ there.1.0) (λ e. len0) place1 (λ e. ap (λ m. m * bits) (inside-none bits span (not-false inside e)) ∙ omega arith) ((λ k. (words k).1) ∙ unless-if inside v1) body in
+      let w2 = piece-written pieces.back tl ((bit_loan_stretches domain).0.len + (body_stretch (bit_loan_stretches domain)).len) (s0.len + n * bits) (tail_stretch (bit_loan_stretches domain)) s2 (bit_loan_words domain).2 v2 (ap (λ (m : Option GName × Option GName × Option GName). is_some m.2) names ∙ there.1.1) (λ e. (λ k. len0 k + (place1 (outside e) k).len)) place2 (no_slot tl slot2) (λ k. (words k).2) back in
       let agree = all-agree bits span in_head in
       let p0 = placed-piece bits at xs start span.len 0 0 (s0.first * bits + s0.head) s0.len (map number v0) (map number c0) w0 (subst (λ (m : ℕ). Agrees start span.len 0 m 0 (s0.first * bits + s0.head) s0.len) (sym size0) agree.0) in
       let p1 = placed-piece bits at xs start span.len (0 + length (map number v0) * bits) s0.len (0 * bits + 0) (n * bits) (map number v1) (map number c1) w1

@@ -55,8 +55,8 @@ filled_slot_if bits at bit None words = words
 
 -- a memory with each bit of a span made the same: its words up to the head's, those of the body, and those from the
 -- tail's on
-abbrev pub filled : ℕ → (ℕ → ℕ) → Bool → Span → List ℕ → List ℕ
-filled bits at bit span words =
+abbrev pub filled_memory : ℕ → (ℕ → ℕ) → Bool → Span → List ℕ → List ℕ
+filled_memory bits at bit span words =
     filled_slot_if bits at bit (slots_of bits span).0 (take (words_before span) words)
     ++ (replicate (body_words bits span) (word_of_bit bits bit)
     ++ filled_slot_if bits at bit (slots_of bits span).2 (drop (body_words bits span) (drop (words_before span) words)))

@@ -12,8 +12,8 @@ pub record Part : Type 0 where
   pub tail : ℕ
 
 -- a whole word as a part
-abbrev pub whole : ℕ → ℕ → Part
-whole bits word = record { word = word; head = 0; tail = bits }
+abbrev pub whole_part : ℕ → ℕ → Part
+whole_part bits word = record { word = word; head = 0; tail = bits }
 
 -- the value of a part: the word's digits at the positions of its indices, and all others zero
 abbrev pub value_of : ℕ → (ℕ → ℕ) → Part → ℕ
@@ -59,7 +59,7 @@ part_items bits at None = []
 -- the values of the parts and the whole words, in order
 abbrev pub items : ℕ → (ℕ → ℕ) → Parts → List ℕ
 items bits at (enclave part) = value_of bits at part ∷ []
-items bits at (region head body tail) = part_items bits at head ++ (map (λ w. value_of bits at (whole bits w)) body ++ part_items bits at tail)
+items bits at (region head body tail) = part_items bits at head ++ (map (λ w. value_of bits at (whole_part bits w)) body ++ part_items bits at tail)
 
 -- whether the parts are one part of a word alone
 abbrev pub is_enclave : Parts → Bool
@@ -80,23 +80,23 @@ abbrev pub no_parts : Parts
 no_parts = region None [] None
 
 -- what is left once the first item is taken: the parts behind it, and behind the last of all no parts
-abbrev pub after_first : Parts → Parts
-after_first (enclave part) = no_parts
-after_first (region (Some head) body tail) = region None body tail
-after_first (region None (word ∷ body) tail) = region None body tail
-after_first (region None [] tail) = no_parts
+abbrev pub parts_after_first : Parts → Parts
+parts_after_first (enclave part) = no_parts
+parts_after_first (region (Some head) body tail) = region None body tail
+parts_after_first (region None (word ∷ body) tail) = region None body tail
+parts_after_first (region None [] tail) = no_parts
 
 -- what is left once the last item is taken, in the same way from the back
-abbrev pub before_last : Parts → Parts
-before_last (enclave part) = no_parts
-before_last (region head body (Some tail)) = region head body None
-before_last (region head (word ∷ body) None) = region head (take (length body) (word ∷ body)) None
-before_last (region head [] None) = no_parts
+abbrev pub parts_before_last : Parts → Parts
+parts_before_last (enclave part) = no_parts
+parts_before_last (region head body (Some tail)) = region head body None
+parts_before_last (region head (word ∷ body) None) = region head (take (length body) (word ∷ body)) None
+parts_before_last (region head [] None) = no_parts
 
 -- the parts that a call leaves which takes the first item, whose body is short where it was
 abbrev pub LeavesAfterFirst : ℕ → Parts → Parts → Type 0
-LeavesAfterFirst bits old new = (new ≡ after_first old) × (HasShortBody bits old → HasShortBody bits new)
+LeavesAfterFirst bits old new = (new ≡ parts_after_first old) × (HasShortBody bits old → HasShortBody bits new)
 
 -- those that a call leaves which takes the last
 abbrev pub LeavesBeforeLast : ℕ → Parts → Parts → Type 0
-LeavesBeforeLast bits old new = (new ≡ before_last old) × (HasShortBody bits old → HasShortBody bits new)
+LeavesBeforeLast bits old new = (new ≡ parts_before_last old) × (HasShortBody bits old → HasShortBody bits new)

@@ -4,16 +4,13 @@ use Rattle.std.specs.Prelude.{ℕ, ℤ, pos, nat_abs, ◌+◌, ◌-◌, ◌*◌,
 use Rattle.bitvec_order.specs.Order.{number_of}
 use Rattle.bitvec_ptr.specs.Memory.{bit_of, tabulate}
 use Rattle.bitvec_ptr.specs.Place.{place_at, words_met}
+pub use Rattle.bitvec_ptr.specs.Place.{region_max_bits}
 
 -- a span by its numbers: the interval of `len` places from the bit `head` of a word on
 pub record Span : Type 0 where
   pub word : ℤ
   pub head : ℕ
   pub len : ℕ
-
--- the greatest length of a span
-abbrev pub region_max_bits : ℕ
-region_max_bits = 2305843009213693951
 
 -- the span lies within a memory of so many words
 abbrev pub Fits : ℕ → Span → ℕ → Type 0

@@ -15,10 +15,10 @@ abbrev pub StretchIsWritten : ℕ → (ℕ → ℕ) → List Bool → ℕ → St
 StretchIsWritten bits at xs from stretch old new = IsWritten bits at xs from (stretch.first * bits + stretch.head) stretch.len old new
 
 -- where the body's stretch and the tail's lie, and no bits for one stretch alone
-abbrev pub body_place : Stretch × Option (Stretch × Stretch) → Stretch
-body_place (first, None) = no_stretch
-body_place (first, Some (body, last)) = body
+abbrev pub body_stretch : Stretch × Option (Stretch × Stretch) → Stretch
+body_stretch (first, None) = no_stretch
+body_stretch (first, Some (body, last)) = body
 
-abbrev pub tail_place : Stretch × Option (Stretch × Stretch) → Stretch
-tail_place (first, None) = no_stretch
-tail_place (first, Some (body, last)) = last
+abbrev pub tail_stretch : Stretch × Option (Stretch × Stretch) → Stretch
+tail_stretch (first, None) = no_stretch
+tail_stretch (first, Some (body, last)) = last

@@ -339,7 +339,8 @@ impl<'a, R: BitRegister, O: BitOrder<R>> Iterator for Domain<'a, R, O> {
     ghost use Rattle.bitvec_domain.specs.Parts.{items, LeavesAfterFirst};
     ghost use Rattle.bitvec_domain.specs.Domain.{domain_parts};
 
-    ghost next_gives = { λ d item rest. YieldsFirstBy R.number (λ d. items R.BITS O.at_of (domain_parts R.number d)) d item rest
+    ghost next_gives = { λ d item rest.
+        YieldsFirstBy R.number (λ d. items R.BITS O.at_of (domain_parts R.number d)) d item rest
         × LeavesAfterFirst R.BITS (domain_parts R.number d) (domain_parts R.number rest) };
 
     ghost remaining = { item_count (λ d. items R.BITS O.at_of (domain_parts R.number d)) };
@@ -395,7 +396,8 @@ impl<'a, R: BitRegister, O: BitOrder<R>> DoubleEndedIterator for Domain<'a, R, O
     ghost use Rattle.bitvec_domain.specs.Parts.{items, LeavesBeforeLast};
     ghost use Rattle.bitvec_domain.specs.Domain.{domain_parts};
 
-    ghost next_back_gives = { λ d item rest. YieldsLastBy R.number (λ d. items R.BITS O.at_of (domain_parts R.number d)) d item rest
+    ghost next_back_gives = { λ d item rest.
+        YieldsLastBy R.number (λ d. items R.BITS O.at_of (domain_parts R.number d)) d item rest
         × LeavesBeforeLast R.BITS (domain_parts R.number d) (domain_parts R.number rest) };
 
     /// Takes the last item; what is left are the parts before it, in the same way.

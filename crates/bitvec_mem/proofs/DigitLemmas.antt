@@ -10,7 +10,7 @@ use Rattle.std.proofs.lemmas.Bool.{cases_order, cases_eq, cases_lt, eqb-true, eq
 use Rattle.std.specs.Int.Bits.{bit_and, bit_or, bit_xor}
 use Rattle.std.specs.Int.Count.{ones}
 use mir.Val.{bits}
-use Rattle.bitvec_mem.specs.Digit.{digit, differ, count_below}
+use Rattle.bitvec_mem.specs.Digit.{digit, exclusive_or, count_below}
 use Rattle.bitvec_mem.specs.SameDigits.{bit_cases, two_bits, same_from_digits}
 
 not_same : (a b : ℕ) → (a ≡ b → ⊥) → (a == b) ≡ false
@@ -28,9 +28,9 @@ pub digit-or : (a b p : ℕ) → digit (bit_or a b) p ≡ (digit a p || digit b 
 unfolding digit
 digit-or a b p = ap (λ n. n == 1) (bit_at_or a b p) ∙ two_bits (λ x y. (max x y == 1) ≡ ((x == 1) || (y == 1))) refl refl refl refl a b p
 
-pub digit-xor : (a b p : ℕ) → digit (bit_xor a b) p ≡ differ (digit a p) (digit b p)
+pub digit-xor : (a b p : ℕ) → digit (bit_xor a b) p ≡ exclusive_or (digit a p) (digit b p)
 unfolding digit
-digit-xor a b p = ap (λ n. n == 1) (bit_at_xor a b p) ∙ two_bits (λ x y. ((x + y) % 2 == 1) ≡ differ (x == 1) (y == 1)) refl refl refl refl a b p
+digit-xor a b p = ap (λ n. n == 1) (bit_at_xor a b p) ∙ two_bits (λ x y. ((x + y) % 2 == 1) ≡ exclusive_or (x == 1) (y == 1)) refl refl refl refl a b p
 
 pub digit-not : (w : Width) (a p : ℕ) → a < 2 ^ bits w → p < bits w → digit (bit_not w a) p ≡ not (digit a p)
 unfolding digit

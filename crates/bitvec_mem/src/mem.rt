@@ -6,7 +6,7 @@ ghost use Rattle.std.specs.Prelude.{◌≡◌, ⊤, ℕ, List, codes, ◌+◌, �
 ghost use Rattle.std.specs.Prelude.{◌↔◌, ◌==◌, ◌&&◌, ◌||◌, if◌then◌else◌, not, true, false, IsNone};
 ghost use Rattle.std.specs.Prelude.{IfSome, refl};
 ghost use Rattle.std.specs.Ordering.{nat_cmp};
-ghost use Rattle.bitvec_mem.specs.Digit.{digit, differ, count_below};
+ghost use Rattle.bitvec_mem.specs.Digit.{digit, exclusive_or, count_below};
 
 mod registers;
 
@@ -82,8 +82,8 @@ pub trait BitRegister: Copy + Default + Eq + Ord + Hash + Debug {
     /// The digits that are one in just one of the two.
     fn xor(self, with: Self) -> Self
         ensures below { number result < 2 ^ BITS }
-        ensures digits { (p : ℕ) → p < BITS
-            → digit (number result) p ≡ differ (digit (number self) p) (digit (number with) p) };
+        ensures digits { (p : ℕ) → p < BITS → digit (number result) p
+            ≡ exclusive_or (digit (number self) p) (digit (number with) p) };
 
     /// Each digit turned over.
     fn not(self) -> Self
@@ -123,35 +123,35 @@ pub trait BitRegister: Copy + Default + Eq + Ord + Hash + Debug {
         ensures refused { IsNone result ↔ (2 ^ BITS ≤ n) }
         ensures made { IfSome result (λ value. number value ≡ n) };
 
-    ghost width_law: { BITS ≡ 2 ^ INDX };
+    ghost width_is_power_of_two: { BITS ≡ 2 ^ INDX };
 
-    ghost least_law: { 3 ≤ INDX };
+    ghost exponent_at_least_3: { 3 ≤ INDX };
 
-    ghost most_law: { INDX ≤ 7 };
+    ghost exponent_at_most_7: { INDX ≤ 7 };
 
     // These two follow from the laws above; with them, divisors and casts need no proof.
-    ghost eight_law: { 8 ≤ BITS };
+    ghost width_at_least_8: { 8 ≤ BITS };
 
-    ghost limit_law: { BITS ≤ 128 };
+    ghost width_at_most_128: { BITS ≤ 128 };
 
-    ghost mask_law: { MASK ≡ BITS - 1 };
+    ghost mask_is_greatest_index: { MASK ≡ BITS - 1 };
 
-    ghost zero_law: { number ZERO ≡ 0 };
+    ghost zero_is_0: { number ZERO ≡ 0 };
 
-    ghost one_law: { number ONE ≡ 1 };
+    ghost one_is_1: { number ONE ≡ 1 };
 
-    ghost all_law: { number ALL ≡ 2 ^ BITS - 1 };
+    ghost all_is_greatest: { number ALL ≡ 2 ^ BITS - 1 };
 
-    ghost digits_law: { (a b : Self) → number a < 2 ^ BITS → number b < 2 ^ BITS
+    ghost digits_injective: { (a b : Self) → number a < 2 ^ BITS → number b < 2 ^ BITS
         → ((p : ℕ) → p < BITS → digit (number a) p ≡ digit (number b) p) → a ≡ b };
 
-    ghost eq_law: { (a b : Self) → number a < 2 ^ BITS → number b < 2 ^ BITS
+    ghost eq_compares_numbers: { (a b : Self) → number a < 2 ^ BITS → number b < 2 ^ BITS
         → Self.eq a b ≡ (number a == number b) };
 
-    ghost order_law: { (a b : Self) → number a < 2 ^ BITS → number b < 2 ^ BITS
+    ghost cmp_compares_numbers: { (a b : Self) → number a < 2 ^ BITS → number b < 2 ^ BITS
         → Self.cmp a b ≡ nat_cmp (number a) (number b) };
 
-    ghost default_law: { (a : Self) → Self.is_default a → a ≡ ZERO };
+    ghost default_is_zero: { (a : Self) → Self.is_default a → a ≡ ZERO };
 }
 
 /// The width of a register in bits.

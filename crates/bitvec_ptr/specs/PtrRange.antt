@@ -1,7 +1,7 @@
 -- Ranges of pointers, and their places. `bits` is the width of a word.
 use Rattle.std.specs.Prelude.{ℕ, ℤ, pos, nat_abs, ◌+ℤ◌, ◌≤ℤ◌, ◌<ℤ◌, List}
 use Rattle.bitvec_ptr.specs.Memory.{tabulate}
-use Rattle.bitvec_ptr.specs.Place.{Ptr, place_of}
+use Rattle.bitvec_ptr.specs.Place.{Ptr, place_of, greatest_isize}
 use Rattle.bitvec_ptr.specs.Steps.{distance}
 
 -- a range by its two ends: from the place of the first to before that of the second
@@ -11,7 +11,7 @@ pub record PtrRange : Type 0 where
 
 -- two pointers bound a range: the first is not past the second, and their distance is an `isize`
 abbrev pub CanRange : ℕ → Ptr → Ptr → Type 0
-CanRange bits start end = (place_of bits start ≤ℤ place_of bits end) × (distance bits end start ≤ℤ pos 9223372036854775807)
+CanRange bits start end = (place_of bits start ≤ℤ place_of bits end) × (distance bits end start ≤ℤ greatest_isize)
 
 -- how many places a range has
 abbrev pub count_of : ℕ → PtrRange → ℕ

@@ -5,14 +5,14 @@ use Rattle.std.specs.Int.Bits.{xor_assoc, xor_self, xor_zero_r}
 use Rattle.bitvec.specs.Order.{IsOneToOne}
 
 -- the position of index i
-abbrev pub swapped : ℕ → ℕ
-swapped i = bit_xor i 4
+abbrev pub swapped_index : ℕ → ℕ
+swapped_index i = bit_xor i 4
 
-swapped_twice : (i : ℕ) → swapped (swapped i) ≡ i
+swapped_twice : (i : ℕ) → swapped_index (swapped_index i) ≡ i
 swapped_twice i = xor_assoc i 4 4 ∙ ap (bit_xor i) (xor_self 4) ∙ xor_zero_r i
 
-pub swapped_one_to_one : (width exponent : ℕ) → width ≡ 2 ^ exponent → 3 ≤ exponent → IsOneToOne width swapped
+pub swapped_one_to_one : (width exponent : ℕ) → width ≡ 2 ^ exponent → 3 ≤ exponent → IsOneToOne width swapped_index
 swapped_one_to_one width exponent e h = record {
   below = λ i l. subst (λ w. bit_xor i 4 < w) (sym e) (xor_lt exponent i 4 (subst (λ w. i < w) e l) (omega (arith, pow_below 2 exponent (omega arith))));
-  apart = λ i j k l q. sym (swapped_twice i) ∙ ap swapped q ∙ swapped_twice j;
+  apart = λ i j k l q. sym (swapped_twice i) ∙ ap swapped_index q ∙ swapped_twice j;
 }

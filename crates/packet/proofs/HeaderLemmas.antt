@@ -16,7 +16,7 @@ use Rattle.bitvec.specs.declared.run.command.Command.TheVariants.{Store}
 use Rattle.bitvec.specs.declared.run.command.Request.{Request}
 use Rattle.bitvec.specs.declared.run.command.Reply.{Reply}
 use Rattle.packet.specs.declared.header.Header.{Header}
-use Rattle.packet.specs.Field.{field_span, shifted}
+use Rattle.packet.specs.Field.{field_span, shifted_number}
 use Rattle.packet.specs.Header.{HasHeader}
 use Rattle.packet.proofs.FieldLemmas.{one_word, stored}
 
@@ -100,7 +100,7 @@ module _ {S : Type 0} (view : S → Span) (spans : List S) (at : ℕ → ℕ) (b
 pub header-written : {S : Type 0} (view : S → Span) (a b c d : S) → view a ≡ field_span 0 4 → view b ≡ field_span 4 6 → view c ≡ field_span 10 6 → view d ≡ field_span 16 16
     → (r0 r1 r2 r3 : Request ℕ) (k0 k1 k2 k3 : Command ℕ) (at : ℕ → ℕ) (header : Header)
     → r0 ≡ record { span = 0; command = k0 } → r1 ≡ record { span = 1; command = k1 } → r2 ≡ record { span = 2; command = k2 } → r3 ≡ record { span = 3; command = k3 }
-    → k0 ≡ Store 0 (shifted at 0 4 header.version) → k1 ≡ Store 0 (shifted at 4 6 header.class) → k2 ≡ Store 0 (shifted at 10 6 header.flags) → k3 ≡ Store 0 (shifted at 16 16 header.length)
+    → k0 ≡ Store 0 (shifted_number at 0 4 header.version) → k1 ≡ Store 0 (shifted_number at 4 6 header.class) → k2 ≡ Store 0 (shifted_number at 10 6 header.flags) → k3 ≡ Store 0 (shifted_number at 16 16 header.length)
     → (before after : List ℕ) (replies : List (Reply ℕ)) → IsRun 32 at view (a ∷ b ∷ c ∷ d ∷ []) (map (λ w. w) before) (map (request_number (λ w. w)) (r0 ∷ r1 ∷ r2 ∷ r3 ∷ [])) replies (map (λ w. w) after)
     → HasHeader at header after
 header-written view a b c d is_version is_class is_flags is_length r0 r1 r2 r3 k0 k1 k2 k3 at header t0 t1 t2 t3 s0 s1 s2 s3 before after replies ran =

@@ -11,7 +11,7 @@ use Rattle.bitvec.specs.Span.{list_of, element, word_of}
 use Rattle.bitvec.proofs.DigitLemmas.{digit-shr, digit-shl_high, digit_above, shr_fits}
 use Rattle.bitvec.proofs.IndexLemmas.{digit-number_of_at}
 use Rattle.bitvec.proofs.PartLemmas.{element-list_of, element_past}
-use Rattle.packet.specs.Field.{field_span, lowest_of, shifted, HasNumber, number_in, IsSteady}
+use Rattle.packet.specs.Field.{field_span, lowest_of, shifted_number, HasNumber, number_in, IsSteady}
 
 -- the orders of the Rust crate are steady
 pub lsb0_steady : IsSteady (λ i. i)
@@ -77,7 +77,7 @@ module _ (at : ℕ → ℕ) (start len : ℕ) (some : 1 ≤ len) (in_word : star
     bits_in_fit : bits_in < 2 ^ 32
     bits_in_fit = number_of_below 32 at bit_in 32 (λ i h passes. law.below i h)
 
-    digit-inside : (i : ℕ) → i < 32 → start ≤ i → i < start + len → digit bits_in (at i) ≡ digit (shifted at start len number) (at i)
+    digit-inside : (i : ℕ) → i < 32 → start ≤ i → i < start + len → digit bits_in (at i) ≡ digit (shifted_number at start len number) (at i)
     digit-inside i h from upto =
         let j : ℕ = 0 * 32 + i - start in
         let here : 0 * 32 + start + j ≡ i = omega (arith, from) in
@@ -99,7 +99,7 @@ module _ (at : ℕ → ℕ) (start len : ℕ) (some : 1 ≤ len) (in_word : star
               let place = index_of_digit steady p inside in
               sym (ap (digit bits_in) place.stands)
               ∙ elim (cases_lt p len) [
-                | inl l ↦ digit-inside place.index place.below (place.inside l).0 (place.inside l).1 ∙ ap (digit (shifted at start len number)) place.stands ∙ digit-shl_high 32 number lowest p inside
+                | inl l ↦ digit-inside place.index place.below (place.inside l).0 (place.inside l).1 ∙ ap (digit (shifted_number at start len number)) place.stands ∙ digit-shl_high 32 number lowest p inside
                 | inr l ↦ digit-outside place.index place.below (place.outside l) ∙ sym (digit_above number len p small l)
               ])
           | inr past ↦ digit_above bits_in 32 (lowest + p) bits_in_fit past ∙ sym (digit_above number len p small (past_len steady past))

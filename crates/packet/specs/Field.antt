@@ -14,13 +14,13 @@ abbrev pub lowest_of : (ℕ → ℕ) → ℕ → ℕ → ℕ
 lowest_of at start len = if nat_le (at start) (at (start + len - 1)) then at start else at (start + len - 1)
 
 -- a number shifted up to there, as a word
-abbrev pub shifted : (ℕ → ℕ) → ℕ → ℕ → ℕ → ℕ
-shifted at start len number = number * 2 ^ lowest_of at start len % 2 ^ 32
+abbrev pub shifted_number : (ℕ → ℕ) → ℕ → ℕ → ℕ → ℕ
+shifted_number at start len number = number * 2 ^ lowest_of at start len % 2 ^ 32
 
 -- a memory has a number in the field: its bit at each place there is the digit at the place's position, in the number
 -- shifted up to the field
 abbrev pub HasNumber : (ℕ → ℕ) → ℕ → ℕ → ℕ → List ℕ → Type 0
-HasNumber at start len number words = (place : ℕ) → start ≤ place → place < start + len → bit_of 32 at words place ≡ digit (shifted at start len number) (at place)
+HasNumber at start len number words = (place : ℕ) → start ≤ place → place < start + len → bit_of 32 at words place ≡ digit (shifted_number at start len number) (at place)
 
 -- the number that a memory has in the field: the word of the field's bits, each at its position, shifted down
 abbrev pub number_in : (ℕ → ℕ) → ℕ → ℕ → List ℕ → ℕ

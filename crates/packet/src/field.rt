@@ -8,7 +8,7 @@ ghost use Rattle.bitvec.specs.BitSpan.{span_of};
 ghost use Rattle.bitvec.specs.Memory.{bit_of};
 ghost use Rattle.bitvec.specs.declared.run.command.Command.TheVariants.{Store};
 ghost use Rattle.packet.specs.Field.{HasNumber, IsSteady, field_span, lowest_of, number_in};
-ghost use Rattle.packet.specs.Field.{shifted};
+ghost use Rattle.packet.specs.Field.{shifted_number};
 
 use bitvec::index::BitIdx;
 use bitvec::order::BitOrder;
@@ -55,7 +55,7 @@ impl Field {
     /// A store shifts nothing: it takes each digit from where it shall stand. So the number is
     /// shifted up to the field first. Digits that lie past the field are not written.
     pub fn store<O: BitOrder<u32>>(self, number: u32) -> Command<u32>
-        ensures { result ≡ Store 0 (shifted O.at_of self.start self.len number) }
+        ensures { result ≡ Store 0 (shifted_number O.at_of self.start self.len number) }
     {
         Command::Store(0, number << self.lowest::<O>())
     }

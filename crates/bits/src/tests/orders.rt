@@ -3,7 +3,8 @@
 ghost use Rattle.std.specs.Prelude.{◌≡◌, ℕ, ◌+◌, ◌%◌, ◌^◌, ◌<◌, ◌≤◌, ◌==◌, ◌&&◌, ◌||◌, Bool, true};
 ghost use Rattle.std.specs.Prelude.{false, is_none, unwrap_or, if◌then◌else◌};
 ghost use Rattle.bitvec.specs.Order.{mask_start, mask_end, plain_mask_of};
-ghost use Rattle.bits.specs.Orders.{rotated, rotated_one_to_one, tabled, tabled_one_to_one};
+ghost use Rattle.bits.specs.Orders.{rotated_index, rotated_one_to_one, table_position};
+ghost use Rattle.bits.specs.Orders.{tabled_one_to_one};
 
 use bitvec::index::{BitEnd, BitIdx, BitMask, BitPos, BitSel};
 use bitvec::mem::BitRegister;
@@ -19,7 +20,7 @@ use std::marker::PhantomData;
 struct Rotated;
 
 impl<R: BitRegister> Positions<R> for Rotated {
-    ghost at_of = { rotated R.BITS };
+    ghost at_of = { rotated_index R.BITS };
 
     fn position(index: u8) -> u8 {
         (index + 3) % R::BITS
@@ -27,7 +28,7 @@ impl<R: BitRegister> Positions<R> for Rotated {
 }
 
 impl<R: BitRegister> OneToOne<R> for Rotated {
-    ghost one_to_one = { rotated_one_to_one R.BITS R.eight_law };
+    ghost one_to_one = { rotated_one_to_one R.BITS R.width_at_least_8 };
 }
 
 /// The order of these positions, for every register.
@@ -37,7 +38,7 @@ type Rot = ByPosition<Rotated>;
 struct Tabled;
 
 impl Positions<u8> for Tabled {
-    ghost at_of = { tabled };
+    ghost at_of = { table_position };
 
     fn position(index: u8) -> u8 {
         [5, 2, 7, 0, 3, 6, 1, 4][usize::from(index)]

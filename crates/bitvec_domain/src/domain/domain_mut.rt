@@ -11,7 +11,7 @@ ghost use Rattle.bitvec_domain.specs.Parts.{parts_of, enclave, region, is_enclav
 ghost use Rattle.bitvec_domain.specs.Slot.{slot_at};
 ghost use Rattle.bitvec_domain.specs.Loans.{is_inside, has_head, has_tail, words_before};
 ghost use Rattle.bitvec_domain.specs.Loans.{body_words, slots_of, lists_of, word_of_bit};
-ghost use Rattle.bitvec_domain.specs.Loans.{filled_slot, filled_slot_if, filled};
+ghost use Rattle.bitvec_domain.specs.Loans.{filled_slot, filled_slot_if, filled_memory};
 ghost use Rattle.bitvec_domain.specs.Lending.{name_of};
 ghost use Rattle.bitvec_domain.specs.PartialElementMut.{memory_of, slot_in};
 ghost use Rattle.bitvec_domain.specs.Pieces.{names_of, piece_list, piece_lists};
@@ -320,7 +320,7 @@ impl<R: BitRegister, O: BitOrder<R>> BitSpan<R, O> {
     fn fill_pieces(self, memory: &mut [R], bit: bool)
         requires { Fits R.BITS (span_of self) (length memory.old) }
         ensures { map R.number memory.new
-            ≡ filled R.BITS O.at_of bit (span_of self) (map R.number memory.old) }
+            ≡ filled_memory R.BITS O.at_of bit (span_of self) (map R.number memory.old) }
     {
         let domain = self.domain_mut(memory);
         let Pieces {

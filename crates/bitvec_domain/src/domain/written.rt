@@ -8,7 +8,8 @@ ghost use Rattle.bitvec_domain.specs.Loans.{has_head, has_tail};
 ghost use Rattle.bitvec_domain.specs.Lending.{name_of};
 ghost use Rattle.bitvec_domain.specs.Pieces.{names_of};
 ghost use Rattle.bitvec_domain.specs.BitLoans.{names_if};
-ghost use Rattle.bitvec_domain.specs.Written.{IsWritten, StretchIsWritten, body_place, tail_place};
+ghost use Rattle.bitvec_domain.specs.Written.{IsWritten, StretchIsWritten, body_stretch};
+ghost use Rattle.bitvec_domain.specs.Written.{tail_stretch};
 ghost use Rattle.bitvec_domain.specs.BitWordsMut.{words_memory, stretch_in};
 ghost use Rattle.bitvec_domain.specs.BitDomainMut.{bit_loan_names, bit_loan_stretches};
 ghost use Rattle.bitvec_domain.specs.BitDomainMut.{bit_loan_words};
@@ -82,21 +83,21 @@ fn write_domain<'a, R: BitRegister, O: BitOrder<R>>(
     tail: bool,
 ) -> Pieces<'a, R>
     requires { (bit_loan_stretches domain).0.len +
-        ((body_place (bit_loan_stretches domain)).len +
-        (tail_place (bit_loan_stretches domain)).len) ≤ length bits.now }
+        ((body_stretch (bit_loan_stretches domain)).len +
+        (tail_stretch (bit_loan_stretches domain)).len) ≤ length bits.now }
     ensures names { names_of result ≡ names_if head tail (bit_loan_names domain.entry) }
     ensures front { IfSome result.front
         (λ r. StretchIsWritten R.BITS O.at_of bits.now 0 (bit_loan_stretches domain.entry).0
         (map R.number (bit_loan_words domain.entry).0) (map R.number r.now)) }
     ensures body { IfSome result.body
         (λ r. StretchIsWritten R.BITS O.at_of bits.now (bit_loan_stretches domain.entry).0.len
-        (body_place (bit_loan_stretches domain.entry))
+        (body_stretch (bit_loan_stretches domain.entry))
         (map R.number (bit_loan_words domain.entry).1) (map R.number r.now)) }
     ensures back { IfSome result.back
         (λ r. StretchIsWritten R.BITS O.at_of bits.now
         ((bit_loan_stretches domain.entry).0.len +
-        (body_place (bit_loan_stretches domain.entry)).len)
-        (tail_place (bit_loan_stretches domain.entry))
+        (body_stretch (bit_loan_stretches domain.entry)).len)
+        (tail_stretch (bit_loan_stretches domain.entry))
         (map R.number (bit_loan_words domain.entry).2) (map R.number r.now)) }
 {
     match domain {

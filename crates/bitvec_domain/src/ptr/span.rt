@@ -5,7 +5,7 @@ ghost use Rattle.std.specs.Prelude.{if◌then◌else◌, ◌+ℤ◌, ◌≤ℤ�
 ghost use Rattle.std.specs.Prelude.{IfOk, ◌++◌, codes, Some};
 ghost use Rattle.std.specs.Int.{int_div_euclid};
 ghost use Rattle.std.specs.Fmt.{DisplaysOnOk, WritesStyledOnOk};
-ghost use Rattle.bitvec_ptr.specs.Place.{place_at, place_of, words_met, tail_of};
+ghost use Rattle.bitvec_ptr.specs.Place.{place_at, place_of, words_met, tail_of, greatest_isize};
 ghost use Rattle.bitvec_ptr.specs.Steps.{CanOffset, IsIn};
 ghost use Rattle.bitvec_domain.specs.Span.{region_max_bits, Fits, AreDisjoint, span_places};
 ghost use Rattle.bitvec_domain.specs.SpanText.{case_text};
@@ -154,8 +154,8 @@ pub struct BitSpan<R: BitRegister = usize, O = Lsb0> {
     of: PhantomData<(R, O)>,
     pub ghost in_word: { head ≤ R.BITS - 1 },
     pub ghost short: { len ≤ region_max_bits },
-    pub ghost low: { int_div_euclid (place_at R.BITS word head +ℤ pos len) (pos R.BITS) ≤ℤ pos
-        9223372036854775807 },
+    pub ghost low: { int_div_euclid (place_at R.BITS word head +ℤ pos len) (pos R.BITS)
+        ≤ℤ greatest_isize },
 }
 
 impl<R: BitRegister, O> Clone for BitSpan<R, O> {
@@ -211,9 +211,9 @@ impl<R: BitRegister, O> SpanLimits for BitSpan<R, O> {
         of: PhantomData,
     };
 
-    const REGION_MAX_BITS: usize = 2305843009213693951;
+    const REGION_MAX_BITS: usize = MAX_BITS;
 
-    const REGION_MAX_ELTS: usize = words_for::<R>(2305843009213693951) + 1;
+    const REGION_MAX_ELTS: usize = words_for::<R>(MAX_BITS) + 1;
 
     ghost EMPTY = { empty_span };
 

@@ -84,31 +84,31 @@ impl BitRegister for u8 {
         u8::try_from(n).ok()
     }
 
-    ghost width_law = { refl };
+    ghost width_is_power_of_two = { refl };
 
-    ghost least_law = { lit≤ tt };
+    ghost exponent_at_least_3 = { lit≤ tt };
 
-    ghost most_law = { lit≤ tt };
+    ghost exponent_at_most_7 = { lit≤ tt };
 
-    ghost eight_law = { lit≤ tt };
+    ghost width_at_least_8 = { lit≤ tt };
 
-    ghost limit_law = { lit≤ tt };
+    ghost width_at_most_128 = { lit≤ tt };
 
-    ghost mask_law = { refl };
+    ghost mask_is_greatest_index = { refl };
 
-    ghost zero_law = { refl };
+    ghost zero_is_0 = { refl };
 
-    ghost one_law = { refl };
+    ghost one_is_1 = { refl };
 
-    ghost all_law = { refl };
+    ghost all_is_greatest = { refl };
 
-    ghost digits_law = { same_from_digits 8 };
+    ghost digits_injective = { same_from_digits 8 };
 
-    ghost eq_law = { λ a b h k. refl };
+    ghost eq_compares_numbers = { λ a b h k. refl };
 
-    ghost order_law = { λ a b h k. refl };
+    ghost cmp_compares_numbers = { λ a b h k. refl };
 
-    ghost default_law = { λ a h. h };
+    ghost default_is_zero = { λ a h. h };
 }
 
 #[tactic(auto, using(crate::proofs::Widths::digits_16))]
@@ -187,31 +187,31 @@ impl BitRegister for u16 {
         u16::try_from(n).ok()
     }
 
-    ghost width_law = { refl };
+    ghost width_is_power_of_two = { refl };
 
-    ghost least_law = { lit≤ tt };
+    ghost exponent_at_least_3 = { lit≤ tt };
 
-    ghost most_law = { lit≤ tt };
+    ghost exponent_at_most_7 = { lit≤ tt };
 
-    ghost eight_law = { lit≤ tt };
+    ghost width_at_least_8 = { lit≤ tt };
 
-    ghost limit_law = { lit≤ tt };
+    ghost width_at_most_128 = { lit≤ tt };
 
-    ghost mask_law = { refl };
+    ghost mask_is_greatest_index = { refl };
 
-    ghost zero_law = { refl };
+    ghost zero_is_0 = { refl };
 
-    ghost one_law = { refl };
+    ghost one_is_1 = { refl };
 
-    ghost all_law = { refl };
+    ghost all_is_greatest = { refl };
 
-    ghost digits_law = { same_from_digits 16 };
+    ghost digits_injective = { same_from_digits 16 };
 
-    ghost eq_law = { λ a b h k. refl };
+    ghost eq_compares_numbers = { λ a b h k. refl };
 
-    ghost order_law = { λ a b h k. refl };
+    ghost cmp_compares_numbers = { λ a b h k. refl };
 
-    ghost default_law = { λ a h. h };
+    ghost default_is_zero = { λ a h. h };
 }
 
 #[tactic(auto, using(crate::proofs::Widths::digits_32))]
@@ -290,31 +290,31 @@ impl BitRegister for u32 {
         u32::try_from(n).ok()
     }
 
-    ghost width_law = { refl };
+    ghost width_is_power_of_two = { refl };
 
-    ghost least_law = { lit≤ tt };
+    ghost exponent_at_least_3 = { lit≤ tt };
 
-    ghost most_law = { lit≤ tt };
+    ghost exponent_at_most_7 = { lit≤ tt };
 
-    ghost eight_law = { lit≤ tt };
+    ghost width_at_least_8 = { lit≤ tt };
 
-    ghost limit_law = { lit≤ tt };
+    ghost width_at_most_128 = { lit≤ tt };
 
-    ghost mask_law = { refl };
+    ghost mask_is_greatest_index = { refl };
 
-    ghost zero_law = { refl };
+    ghost zero_is_0 = { refl };
 
-    ghost one_law = { refl };
+    ghost one_is_1 = { refl };
 
-    ghost all_law = { refl };
+    ghost all_is_greatest = { refl };
 
-    ghost digits_law = { same_from_digits 32 };
+    ghost digits_injective = { same_from_digits 32 };
 
-    ghost eq_law = { λ a b h k. refl };
+    ghost eq_compares_numbers = { λ a b h k. refl };
 
-    ghost order_law = { λ a b h k. refl };
+    ghost cmp_compares_numbers = { λ a b h k. refl };
 
-    ghost default_law = { λ a h. h };
+    ghost default_is_zero = { λ a h. h };
 }
 
 #[tactic(auto, using(crate::proofs::Widths::digits_64))]
@@ -393,31 +393,31 @@ impl BitRegister for u64 {
         u64::try_from(n).ok()
     }
 
-    ghost width_law = { refl };
+    ghost width_is_power_of_two = { refl };
 
-    ghost least_law = { lit≤ tt };
+    ghost exponent_at_least_3 = { lit≤ tt };
 
-    ghost most_law = { lit≤ tt };
+    ghost exponent_at_most_7 = { lit≤ tt };
 
-    ghost eight_law = { lit≤ tt };
+    ghost width_at_least_8 = { lit≤ tt };
 
-    ghost limit_law = { lit≤ tt };
+    ghost width_at_most_128 = { lit≤ tt };
 
-    ghost mask_law = { refl };
+    ghost mask_is_greatest_index = { refl };
 
-    ghost zero_law = { refl };
+    ghost zero_is_0 = { refl };
 
-    ghost one_law = { refl };
+    ghost one_is_1 = { refl };
 
-    ghost all_law = { refl };
+    ghost all_is_greatest = { refl };
 
-    ghost digits_law = { same_from_digits 64 };
+    ghost digits_injective = { same_from_digits 64 };
 
-    ghost eq_law = { λ a b h k. refl };
+    ghost eq_compares_numbers = { λ a b h k. refl };
 
-    ghost order_law = { λ a b h k. refl };
+    ghost cmp_compares_numbers = { λ a b h k. refl };
 
-    ghost default_law = { λ a h. h };
+    ghost default_is_zero = { λ a h. h };
 }
 
 #[tactic(auto, using(crate::proofs::Widths::digits_64))]
@@ -496,31 +496,31 @@ impl BitRegister for usize {
         usize::try_from(n).ok()
     }
 
-    ghost width_law = { refl };
+    ghost width_is_power_of_two = { refl };
 
-    ghost least_law = { lit≤ tt };
+    ghost exponent_at_least_3 = { lit≤ tt };
 
-    ghost most_law = { lit≤ tt };
+    ghost exponent_at_most_7 = { lit≤ tt };
 
-    ghost eight_law = { lit≤ tt };
+    ghost width_at_least_8 = { lit≤ tt };
 
-    ghost limit_law = { lit≤ tt };
+    ghost width_at_most_128 = { lit≤ tt };
 
-    ghost mask_law = { refl };
+    ghost mask_is_greatest_index = { refl };
 
-    ghost zero_law = { refl };
+    ghost zero_is_0 = { refl };
 
-    ghost one_law = { refl };
+    ghost one_is_1 = { refl };
 
-    ghost all_law = { refl };
+    ghost all_is_greatest = { refl };
 
-    ghost digits_law = { same_from_digits 64 };
+    ghost digits_injective = { same_from_digits 64 };
 
-    ghost eq_law = { λ a b h k. refl };
+    ghost eq_compares_numbers = { λ a b h k. refl };
 
-    ghost order_law = { λ a b h k. refl };
+    ghost cmp_compares_numbers = { λ a b h k. refl };
 
-    ghost default_law = { λ a h. h };
+    ghost default_is_zero = { λ a h. h };
 }
 
 #[tactic(auto, using(crate::proofs::Widths::digits_128))]
@@ -599,29 +599,29 @@ impl BitRegister for u128 {
         Some(n)
     }
 
-    ghost width_law = { refl };
+    ghost width_is_power_of_two = { refl };
 
-    ghost least_law = { lit≤ tt };
+    ghost exponent_at_least_3 = { lit≤ tt };
 
-    ghost most_law = { lit≤ tt };
+    ghost exponent_at_most_7 = { lit≤ tt };
 
-    ghost eight_law = { lit≤ tt };
+    ghost width_at_least_8 = { lit≤ tt };
 
-    ghost limit_law = { lit≤ tt };
+    ghost width_at_most_128 = { lit≤ tt };
 
-    ghost mask_law = { refl };
+    ghost mask_is_greatest_index = { refl };
 
-    ghost zero_law = { refl };
+    ghost zero_is_0 = { refl };
 
-    ghost one_law = { refl };
+    ghost one_is_1 = { refl };
 
-    ghost all_law = { refl };
+    ghost all_is_greatest = { refl };
 
-    ghost digits_law = { same_from_digits 128 };
+    ghost digits_injective = { same_from_digits 128 };
 
-    ghost eq_law = { λ a b h k. refl };
+    ghost eq_compares_numbers = { λ a b h k. refl };
 
-    ghost order_law = { λ a b h k. refl };
+    ghost cmp_compares_numbers = { λ a b h k. refl };
 
-    ghost default_law = { λ a h. h };
+    ghost default_is_zero = { λ a h. h };
 }

@@ -5,7 +5,7 @@ ghost use Rattle.std.specs.Prelude.{false, length, map};
 ghost use Rattle.std.specs.Int.{int_div_euclid};
 ghost use Rattle.bitvec_ptr.specs.BitPtr.{ptr_of};
 ghost use Rattle.bitvec_ptr.specs.Memory.{memory_bits, list_with_copy};
-ghost use Rattle.bitvec_ptr.specs.Place.{place_of, index_of, words_met};
+ghost use Rattle.bitvec_ptr.specs.Place.{place_of, index_of, words_met, region_max_bits};
 ghost use Rattle.bitvec_ptr.specs.Steps.{RangeIsIn, AreApart};
 ghost use Rattle.bitvec_ptr.specs.WordWriter.{writer_memory, writer_of};
 
@@ -249,7 +249,7 @@ impl<R: BitRegister, O: BitOrder<R>> BitPtr<R, O> {
     pub fn copy_within_nonoverlapping(self, memory: &mut [R], dest: Self, count: usize)
         requires from_in { RangeIsIn R.BITS (ptr_of self) (length memory.old) count }
         requires to_in { RangeIsIn R.BITS (ptr_of dest) (length memory.old) count }
-        requires short { count ≤ 2305843009213693951 }
+        requires short { count ≤ region_max_bits }
         requires from_low { int_div_euclid (place_of R.BITS (ptr_of self) +ℤ pos count) (pos R.BITS)
             ≤ℤ isize.MAX }
         requires to_low { int_div_euclid (place_of R.BITS (ptr_of dest) +ℤ pos count) (pos R.BITS)

@@ -5,7 +5,7 @@ ghost use Rattle.std.specs.Prelude.{IsTrue, MatchOption, []};
 ghost use Rattle.std.specs.Iterator.{YieldsFirstBy, YieldsLastBy, MakesProgress, item_count};
 ghost use Rattle.std.specs.Range.Bound.{bound_map};
 ghost use Rattle.std.specs.declared.ops.Bound.TheVariants.{Included, Excluded};
-ghost use Rattle.bitvec_ptr.specs.Place.{place_of};
+ghost use Rattle.bitvec_ptr.specs.Place.{place_of, greatest_isize};
 ghost use Rattle.bitvec_ptr.specs.Steps.{CanOffset, distance};
 ghost use Rattle.bitvec_ptr.specs.BitPtr.{ptr_of};
 ghost use Rattle.bitvec_ptr.specs.PtrRange.{PtrRange, CanRange, Holds, count_of, places_of};
@@ -27,7 +27,7 @@ pub struct BitPtrRange<R: BitRegister = usize, O = Lsb0> {
     start: BitPtr<R, O>,
     end: BitPtr<R, O>,
     pub ghost ordered: { place_of R.BITS (ptr_of start) ≤ℤ place_of R.BITS (ptr_of end) },
-    pub ghost near: { distance R.BITS (ptr_of end) (ptr_of start) ≤ℤ pos 9223372036854775807 },
+    pub ghost near: { distance R.BITS (ptr_of end) (ptr_of start) ≤ℤ greatest_isize },
 }
 
 impl<R: BitRegister, O> Clone for BitPtrRange<R, O> {

@@ -11,7 +11,7 @@ use Rattle.bitvec.proofs.laws.turned_orders.Goals as goal
 pub returns : goal.returns
 returns g c = λ spans memory other_memory requests other_requests fits same same_requests s span is.
     let bits = g.R.BitRegister.BITS in
-    let some : 0 < g.R.BitRegister.BITS = omega (arith, g.met.R.BitRegister.eight_law) in
+    let some : 0 < g.R.BitRegister.BITS = omega (arith, g.met.R.BitRegister.width_at_least_8) in
     let at = g.O.BitAt.at_of in
     let other_at = g.O2.BitAt.at_of in
     let one = g.met.O.BitOrder.one_to_one in

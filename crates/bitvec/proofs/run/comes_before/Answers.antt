@@ -8,7 +8,7 @@ use Rattle.bitvec.proofs.run.comes_before.Goals as goal
 pub returns-else-is_empty : goal.returns-else-is_empty
 returns-else-is_empty g c =
     let width = g.R.BitRegister.BITS in
-    let eight = g.met.R.BitRegister.eight_law in
+    let eight = g.met.R.BitRegister.width_at_least_8 in
     let span = span_of c.args.span in
     let next = span_of c.args.next in
     let end = c.end.result in

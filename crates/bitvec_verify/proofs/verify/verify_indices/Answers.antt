@@ -13,7 +13,7 @@ returns-then-ne-clause-first g c =
     let index = c.new_unchecked-index.result in
     let wanted : c.select-want.result ≡ 2 ^ g.O.BitAt.at_of index = c.select-want.ensures.value ∙ ap (λ p. 2 ^ p) c.at-position.ensures in
     let other : c.select-got.result ≢ c.select-want.result =
-    differ-from_test _ _ _ _ _ (g.met.R.BitRegister.eq_law c.into_inner.result c.into_inner-in-loop-i.result (omega (arith, c.into_inner.ensures.value, c.into_inner.ensures.below)) (omega (arith, c.into_inner-in-loop-i.ensures.value, c.into_inner-in-loop-i.ensures.below))) c.into_inner.ensures.value c.into_inner-in-loop-i.ensures.value c.if-ne.ensures in
+    differ-from_test _ _ _ _ _ (g.met.R.BitRegister.eq_compares_numbers c.into_inner.result c.into_inner-in-loop-i.result (omega (arith, c.into_inner.ensures.value, c.into_inner.ensures.below)) (omega (arith, c.into_inner-in-loop-i.ensures.value, c.into_inner-in-loop-i.ensures.below))) c.into_inner.ensures.value c.into_inner-in-loop-i.ensures.value c.if-ne.ensures in
     index_tests_selector (scanned g) g.R.BitRegister.BITS index _
     (omega (arith, c.BITS-i-end.ensures, c.new_unchecked-index.ensures))
     (λ k h. c.loop-i.invariant.passed k (omega (arith, c.new_unchecked-index.ensures)))
@@ -24,7 +24,7 @@ returns-then-is_repeated-clause-first g c =
     let index = c.new_unchecked-index.result in
     let wanted : c.select-want.result ≡ 2 ^ g.O.BitAt.at_of index = c.select-want.ensures.value ∙ ap (λ p. 2 ^ p) c.at-position.ensures in
     let same : c.select-got.result ≡ c.select-want.result =
-    same-from_test _ _ _ _ _ (g.met.R.BitRegister.eq_law c.into_inner.result c.into_inner-in-loop-i.result (omega (arith, c.into_inner.ensures.value, c.into_inner.ensures.below)) (omega (arith, c.into_inner-in-loop-i.ensures.value, c.into_inner-in-loop-i.ensures.below))) c.into_inner.ensures.value c.into_inner-in-loop-i.ensures.value c.if-ne.ensures in
+    same-from_test _ _ _ _ _ (g.met.R.BitRegister.eq_compares_numbers c.into_inner.result c.into_inner-in-loop-i.result (omega (arith, c.into_inner.ensures.value, c.into_inner.ensures.below)) (omega (arith, c.into_inner-in-loop-i.ensures.value, c.into_inner-in-loop-i.ensures.below))) c.into_inner.ensures.value c.into_inner-in-loop-i.ensures.value c.if-ne.ensures in
     index_tests_repetition (scanned g) g.R.BitRegister.BITS index _
     (omega (arith, c.BITS-i-end.ensures, c.new_unchecked-index.ensures))
     (λ k h. c.loop-i.invariant.passed k (omega (arith, c.new_unchecked-index.ensures)))
@@ -37,7 +37,7 @@ loop-i-preserved g c =
     let place : index ≡ c.loop-i.i = c.new_unchecked-index.ensures in
     let wanted : c.select-want.result ≡ 2 ^ g.O.BitAt.at_of index = c.select-want.ensures.value ∙ ap (λ p. 2 ^ p) c.at-position.ensures in
     let same : c.select-got.result ≡ c.select-want.result =
-    same-from_test _ _ _ _ _ (g.met.R.BitRegister.eq_law c.into_inner.result c.into_inner-in-loop-i.result (omega (arith, c.into_inner.ensures.value, c.into_inner.ensures.below)) (omega (arith, c.into_inner-in-loop-i.ensures.value, c.into_inner-in-loop-i.ensures.below))) c.into_inner.ensures.value c.into_inner-in-loop-i.ensures.value c.if-ne.ensures in
+    same-from_test _ _ _ _ _ (g.met.R.BitRegister.eq_compares_numbers c.into_inner.result c.into_inner-in-loop-i.result (omega (arith, c.into_inner.ensures.value, c.into_inner.ensures.below)) (omega (arith, c.into_inner-in-loop-i.ensures.value, c.into_inner-in-loop-i.ensures.below))) c.into_inner.ensures.value c.into_inner-in-loop-i.ensures.value c.if-ne.ensures in
     let here : (fault_of (scanned g) (selector index) ≡ None) × (fault_of (scanned g) (repetition index) ≡ None) =
     (selector_passes (scanned g) index c.select-got.result c.select-want.result c.select-got.ensures wanted same, repetition_passes (scanned g) index (sym c.if-is_repeated.ensures)) in
     record {

@@ -10,7 +10,7 @@ returns-in_default g c =
     let s = c.split-word-items.ensures in
     let road = YieldsList-at c.into_iter-word-iterator.ensures.into_iter_gives (YieldsList-from_str_split {s = c.split-word-items.result} 44 c.args.text.now (lit< tt) s.text s.has_more s.pattern) in
     let place = YieldsList-turn road c.loop-word.yielded _ c.loop-word.yielded_by _ _ c.in-Some.word c.in-Some.is c.next.ensures.steps in
-    let wrong = no_number g.R.BitRegister.BITS c.in-Some.word.now g.met.R.BitRegister.limit_law c.in_default.ensures in
+    let wrong = no_number g.R.BitRegister.BITS c.in-Some.word.now g.met.R.BitRegister.width_at_most_128 c.in_default.ensures in
     let some : c.args.text.now ≡ codes "-" → ⊥ = search rules in
     no_memory g.R.BitRegister.BITS c.args.text.now c.in-Some.word.now _ some place wrong
 

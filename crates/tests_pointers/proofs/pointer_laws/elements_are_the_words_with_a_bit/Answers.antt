@@ -11,7 +11,7 @@ returns-then-first-word g c =
     let width = g.R.BitRegister.BITS in
     let span = span_of c.args.span in
     let word = c.args.word in
-    let below = bit_below width span.head g.met.R.BitRegister.eight_law c.args.span.in_word in
+    let below = bit_below width span.head g.met.R.BitRegister.width_at_least_8 c.args.span.in_word in
     let from : span.word ≤ℤ word = search (rules, arith, ints) in
     let distance : c.abs_diff.result ≡ unsigned_abs (word -ℤ span.word) = grind (arith, to_z-of_z, c.abs_diff.ensures, c.address-first.ensures) in
     let on = distance-on span.word word c.abs_diff.result from distance in (
@@ -23,7 +23,7 @@ pub returns-else-first-word : goal.returns-else-first-word
 returns-else-first-word g c =
     let width = g.R.BitRegister.BITS in
     let span = span_of c.args.span in
-    let below = bit_below width span.head g.met.R.BitRegister.eight_law c.args.span.in_word in (
+    let below = bit_below width span.head g.met.R.BitRegister.width_at_least_8 c.args.span.in_word in (
       λ t. absurd (search rules),
       λ has. let from = from-bit width span c.args.word below has in grind (arith, ints, from, c.address-first.ensures),
     )

@@ -7,7 +7,7 @@ use Rattle.tests_pointers.proofs.pointer_laws.pointers_are_equal_at_one_place.Go
 pub returns : goal.returns
 returns g c =
     let width = g.R.BitRegister.BITS in
-    let eight = g.met.R.BitRegister.eight_law in
+    let eight = g.met.R.BitRegister.width_at_least_8 in
     let here = c.args.here in
     let there = c.args.there in
     let parts : IsTrue c.eq.result ↔ (ptr_of here ≡ ptr_of there) = search rules in

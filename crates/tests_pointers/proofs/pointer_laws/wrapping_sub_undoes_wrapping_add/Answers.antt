@@ -11,8 +11,8 @@ pub returns : goal.returns
 returns g c =
     let width = g.R.BitRegister.BITS in
     let pointer = c.args.pointer in
-    let below = bit_below width pointer.bit g.met.R.BitRegister.eight_law pointer.in_word in
-    let back = wrapped_back width c.args.count (ptr_of pointer) below (omega (arith, g.met.R.BitRegister.limit_law)) (omega (arith, ints)) (omega (arith, ints, c.requires)) in
+    let below = bit_below width pointer.bit g.met.R.BitRegister.width_at_least_8 pointer.in_word in
+    let back = wrapped_back width c.args.count (ptr_of pointer) below (omega (arith, g.met.R.BitRegister.width_at_most_128)) (omega (arith, ints)) (omega (arith, ints, c.requires)) in
     record {
       answer = c.wrapping_sub.ensures ∙ ap (λ t. wrapped_ptr width t (int_wrap w64 (neg_ℤ (pos c.args.count)))) c.wrapping_add.ensures ∙ back;
       law = back;

@@ -32,5 +32,5 @@ returns g c =
     let both = c.order_between_spans_does_not_matter.ensures (map span_of spans) old here there requests other_requests replies other_replies fits below other_below same run other_run in
     record {
       same_replies = subst (λ (n : ℕ). HaveSameOwnReplies n requests replies other_requests other_replies) long both.0;
-      same_memory = same_words number (2 ^ bits) (λ a b h k e. g.met.R.BitRegister.digits_law a b h k (λ p _. ap (λ n. digit n p) e)) c.run.new.memory c.run-2.new.memory c.numbers_are_below.ensures c.numbers_are_below-2.ensures both.1;
+      same_memory = same_words number (2 ^ bits) (λ a b h k e. g.met.R.BitRegister.digits_injective a b h k (λ p _. ap (λ n. digit n p) e)) c.run.new.memory c.run-2.new.memory c.numbers_are_below.ensures c.numbers_are_below-2.ensures both.1;
     }

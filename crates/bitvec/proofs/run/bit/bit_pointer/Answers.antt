@@ -13,7 +13,7 @@ returns g c =
     let width = g.R.BitRegister.BITS in
     let span = c.args.span in
     let index = c.args.index in
-    let eight = g.met.R.BitRegister.eight_law in
+    let eight = g.met.R.BitRegister.width_at_least_8 in
     let some : 0 < width = omega (arith, eight) in
     place_same width (ptr_of c.add.result) (pointer_at width (span_of span) index) (bit_below width c.add.result.bit eight c.add.result.in_word) (mod_below (span.head + index) width some)
     (c.add.ensures ∙ ap (λ (p : Ptr). place_of width p +ℤ pos index) c.to_bitptr.ensures.pointer ∙ sym (step_place span.word (pos ((span.head + index) / width)) (pos index) (pos (span.head + index)) span.head _ width some refl refl refl))

@@ -12,7 +12,7 @@ returns-then-k-elements g c =
     let width = g.R.BitRegister.BITS in
     let span = c.args.span in
     let words = map g.R.BitRegister.number c.args.memory.now in
-    step-clear width g.O.BitAt.at_of (span_of span) c.args.k words _ _ g.met.O.BitOrder.one_to_one (bit_below width span.head g.met.R.BitRegister.eight_law span.in_word)
+    step-clear width g.O.BitAt.at_of (span_of span) c.args.k words _ _ g.met.O.BitOrder.one_to_one (bit_below width span.head g.met.R.BitRegister.width_at_least_8 span.in_word)
     (subst (λ (n : ℕ). Fits width (span_of span) n) (sym (length-map c.args.memory.now g.R.BitRegister.number)) c.requires) (omega (arith, c.elements.ensures.value)) c.clear.ensures
 
 pub returns-else-k-elements : goal.returns-else-k-elements

@@ -18,7 +18,7 @@ copy_within-requires-clause-from_in g c =
     let span = c.args.span in
     let within = c.if-can_copy.ensures.0 (search rules) in
     subst (λ (p : Ptr). RangeIsIn width p (length c.args.memory.now) c.args.count) (sym c.bit_pointer-source.ensures)
-    (range-pointer_at width (span_of span) (length c.args.memory.now) (bit_below width span.head g.met.R.BitRegister.eight_law span.in_word) c.requires c.args.from c.args.count (omega (arith, c.len-len.ensures, within.0)))
+    (range-pointer_at width (span_of span) (length c.args.memory.now) (bit_below width span.head g.met.R.BitRegister.width_at_least_8 span.in_word) c.requires c.args.from c.args.count (omega (arith, c.len-len.ensures, within.0)))
 
 pub copy_within-requires-clause-to_in : goal.copy_within-requires-clause-to_in
 copy_within-requires-clause-to_in g c =
@@ -26,7 +26,7 @@ copy_within-requires-clause-to_in g c =
     let span = c.args.span in
     let within = c.if-can_copy.ensures.0 (search rules) in
     subst (λ (p : Ptr). RangeIsIn width p (length c.args.memory.now) c.args.count) (sym c.bit_pointer-target.ensures)
-    (range-pointer_at width (span_of span) (length c.args.memory.now) (bit_below width span.head g.met.R.BitRegister.eight_law span.in_word) c.requires c.args.to c.args.count (omega (arith, c.len-len.ensures, within.1)))
+    (range-pointer_at width (span_of span) (length c.args.memory.now) (bit_below width span.head g.met.R.BitRegister.width_at_least_8 span.in_word) c.requires c.args.to c.args.count (omega (arith, c.len-len.ensures, within.1)))
 
 pub returns-then-can_copy : goal.returns-then-can_copy
 returns-then-can_copy g c =
@@ -35,7 +35,7 @@ returns-then-can_copy g c =
     let span = c.args.span in
     let old = c.args.memory.now in
     let within = c.if-can_copy.ensures.0 (search rules) in
-    let below = bit_below width span.head g.met.R.BitRegister.eight_law span.in_word in
+    let below = bit_below width span.head g.met.R.BitRegister.width_at_least_8 span.in_word in
     let fits = subst (λ (n : ℕ). Fits width (span_of span) n) (sym (length-map old number)) c.requires in
     step-copy width g.O.BitAt.at_of (span_of span) (map number old) (map number c.copy_within.new.memory) below fits (simp length-map c.copy_within.ensures.words)
     c.args.from c.args.to c.args.count _ _ (omega (arith, c.len-len.ensures, within.0)) (omega (arith, c.len-len.ensures, within.1))

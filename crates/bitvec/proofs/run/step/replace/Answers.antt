@@ -15,7 +15,7 @@ pub replace-requires : goal.replace-requires
 replace-requires g c =
     let width = g.R.BitRegister.BITS in
     let span = c.args.span in
-    subst (λ (p : Ptr). IsIn p (length c.args.memory.now)) (sym c.bit_pointer.ensures) (in-pointer_at width (span_of span) (length c.args.memory.now) (bit_below width span.head g.met.R.BitRegister.eight_law span.in_word) c.requires c.args.index (omega (arith, c.len.ensures)))
+    subst (λ (p : Ptr). IsIn p (length c.args.memory.now)) (sym c.bit_pointer.ensures) (in-pointer_at width (span_of span) (length c.args.memory.now) (bit_below width span.head g.met.R.BitRegister.width_at_least_8 span.in_word) c.requires c.args.index (omega (arith, c.len.ensures)))
 
 pub returns-then-index-len : goal.returns-then-index-len
 returns-then-index-len g c =
@@ -24,7 +24,7 @@ returns-then-index-len g c =
     let span = c.args.span in
     let old = c.args.memory.now in
     let new = c.replace.new.memory in
-    let below = bit_below width span.head g.met.R.BitRegister.eight_law span.in_word in
+    let below = bit_below width span.head g.met.R.BitRegister.width_at_least_8 span.in_word in
     let fits = subst (λ (n : ℕ). Fits width (span_of span) n) (sym (length-map old number)) c.requires in
     step-replace width g.O.BitAt.at_of (span_of span) (map number old) (map number new) below fits (simp length-map c.replace.ensures.words)
     c.args.index _ c.args.bit c.replace.result (omega (arith, c.len.ensures))

@@ -17,13 +17,13 @@ pub swap_within-requires-clause-self_in : goal.swap_within-requires-clause-self_
 swap_within-requires-clause-self_in g c =
     let width = g.R.BitRegister.BITS in
     let span = c.args.span in
-    subst (λ (p : Ptr). IsIn p (length c.args.memory.now)) (sym c.bit_pointer-here.ensures) (in-pointer_at width (span_of span) (length c.args.memory.now) (bit_below width span.head g.met.R.BitRegister.eight_law span.in_word) c.requires c.args.index (omega (arith, c.len-len.ensures)))
+    subst (λ (p : Ptr). IsIn p (length c.args.memory.now)) (sym c.bit_pointer-here.ensures) (in-pointer_at width (span_of span) (length c.args.memory.now) (bit_below width span.head g.met.R.BitRegister.width_at_least_8 span.in_word) c.requires c.args.index (omega (arith, c.len-len.ensures)))
 
 pub swap_within-requires-clause-with_in : goal.swap_within-requires-clause-with_in
 swap_within-requires-clause-with_in g c =
     let width = g.R.BitRegister.BITS in
     let span = c.args.span in
-    subst (λ (p : Ptr). IsIn p (length c.args.memory.now)) (sym c.bit_pointer-there.ensures) (in-pointer_at width (span_of span) (length c.args.memory.now) (bit_below width span.head g.met.R.BitRegister.eight_law span.in_word) c.requires c.args.with (omega (arith, c.len-len.ensures)))
+    subst (λ (p : Ptr). IsIn p (length c.args.memory.now)) (sym c.bit_pointer-there.ensures) (in-pointer_at width (span_of span) (length c.args.memory.now) (bit_below width span.head g.met.R.BitRegister.width_at_least_8 span.in_word) c.requires c.args.with (omega (arith, c.len-len.ensures)))
 
 pub returns-then-with-len : goal.returns-then-with-len
 returns-then-with-len g c =
@@ -31,7 +31,7 @@ returns-then-with-len g c =
     let number = g.R.BitRegister.number in
     let span = c.args.span in
     let old = c.args.memory.now in
-    let below = bit_below width span.head g.met.R.BitRegister.eight_law span.in_word in
+    let below = bit_below width span.head g.met.R.BitRegister.width_at_least_8 span.in_word in
     let fits = subst (λ (n : ℕ). Fits width (span_of span) n) (sym (length-map old number)) c.requires in
     step-swap width g.O.BitAt.at_of (span_of span) (map number old) (map number c.swap_within.new.memory) below fits (simp length-map c.swap_within.ensures.words)
     c.args.index c.args.with _ _ (omega (arith, c.len-len.ensures)) (omega (arith, c.len-len.ensures))

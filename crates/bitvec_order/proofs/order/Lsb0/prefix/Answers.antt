@@ -19,7 +19,7 @@ pub returns-clause-value : goal.returns-clause-value
 returns-clause-value g c =
     c.new.ensures
     ∙ low_prefix g.R.BitRegister.BITS c.args.upto c.into_inner-count.result (g.R.BitRegister.number c.ALL-2.result) (g.R.BitRegister.number c.shl.result) (g.R.BitRegister.number c.not.result)
-    (ap g.R.BitRegister.number c.ALL-2.ensures ∙ g.met.R.BitRegister.all_law) c.shl.ensures.low c.shl.ensures.moved c.not.ensures.digits c.not.ensures.below
+    (ap g.R.BitRegister.number c.ALL-2.ensures ∙ g.met.R.BitRegister.all_is_greatest) c.shl.ensures.low c.shl.ensures.moved c.not.ensures.digits c.not.ensures.below
     c.into_inner-count.ensures.value c.into_inner-count.ensures.below
 
 pub returns-clause-set : goal.returns-clause-set

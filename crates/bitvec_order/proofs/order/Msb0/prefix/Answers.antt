@@ -8,10 +8,10 @@ returns-clause-value g c =
     let law = g.met.R.BitRegister in
     let others : c.new_unchecked-others.result ≡ g.R.BitRegister.BITS - c.args.upto = omega (arith, c.new_unchecked-others.ensures, c.BITS.ensures, c.into_inner.ensures.value) in
     high_prefix g.R.BitRegister.BITS g.R.BitRegister.MASK c.args.upto c.new_unchecked-others.result c.prefix.result c.not.result
-    law.eight_law law.mask_law c.into_inner.ensures.below others c.prefix.ensures.set c.not.ensures.below c.not.ensures.digits
+    law.width_at_least_8 law.mask_is_greatest_index c.into_inner.ensures.below others c.prefix.ensures.set c.not.ensures.below c.not.ensures.digits
 
 pub returns-clause-set : goal.returns-clause-set
 returns-clause-set g c =
     let law = g.met.R.BitRegister in
-    mask_from_value g.R.BitRegister.BITS (λ i. g.R.BitRegister.MASK - i) 0 c.args.upto c.not.result (high_one_to_one g.R.BitRegister.BITS g.R.BitRegister.MASK law.eight_law law.mask_law)
+    mask_from_value g.R.BitRegister.BITS (λ i. g.R.BitRegister.MASK - i) 0 c.args.upto c.not.result (high_one_to_one g.R.BitRegister.BITS g.R.BitRegister.MASK law.width_at_least_8 law.mask_is_greatest_index)
     c.into_inner.ensures.below (returns-clause-value g c)

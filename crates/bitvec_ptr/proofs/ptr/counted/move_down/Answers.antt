@@ -22,27 +22,27 @@ pub advanced-middle-requires : goal.advanced-middle-requires
 advanced-middle-requires g c =
     let R = g.R.BitRegister in
     let head : c.from-head.result ≡ R.BITS - c.args.to.bit = c.from-head.ensures ∙ ap (λ n. n - c.args.to.bit) c.BITS.ensures in
-    place_below R.BITS (c.args.from.word * R.BITS + c.args.from.bit + c.from-head.result) (length c.args.writer.now.words.now) (omega (arith, g.met.R.BitRegister.eight_law)) (omega (arith, head, c.whole_and_last-whole.ensures.all, c.requires.from_in)) (omega arith)
+    place_below R.BITS (c.args.from.word * R.BITS + c.args.from.bit + c.from-head.result) (length c.args.writer.now.words.now) (omega (arith, g.met.R.BitRegister.width_at_least_8)) (omega (arith, head, c.whole_and_last-whole.ensures.all, c.requires.from_in)) (omega arith)
 
 pub advanced-end-requires : goal.advanced-end-requires
 advanced-end-requires g c =
     let R = g.R.BitRegister in
-    place_below R.BITS (c.args.from.word * R.BITS + c.args.from.bit + (c.args.count - c.from-tail.result)) (length c.args.writer.now.words.now) (omega (arith, g.met.R.BitRegister.eight_law)) (omega (arith, c.requires.from_in)) (omega arith)
+    place_below R.BITS (c.args.from.word * R.BITS + c.args.from.bit + (c.args.count - c.from-tail.result)) (length c.args.writer.now.words.now) (omega (arith, g.met.R.BitRegister.width_at_least_8)) (omega (arith, c.requires.from_in)) (omega arith)
 
 pub move_row-requires-clause-way : goal.move_row-requires-clause-way
 move_row-requires-clause-way g c =
     let R = g.R.BitRegister in
     let head : c.from-head.result ≡ R.BITS - c.args.to.bit = c.from-head.ensures ∙ ap (λ n. n - c.args.to.bit) c.BITS.ensures in
-    let inside : c.args.to.bit < R.BITS = omega (arith, c.args.to.in_word, g.met.R.BitRegister.eight_law) in
-    let small : c.advanced-middle.result.bit < R.BITS = omega (arith, c.advanced-middle.result.in_word, g.met.R.BitRegister.eight_law) in
+    let inside : c.args.to.bit < R.BITS = omega (arith, c.args.to.in_word, g.met.R.BitRegister.width_at_least_8) in
+    let small : c.advanced-middle.result.bit < R.BITS = omega (arith, c.advanced-middle.result.in_word, g.met.R.BitRegister.width_at_least_8) in
     allows_on c.args.way R.BITS g.O.BitAt.at_of R.BITS g.O.BitAt.at_of c.args.from.bit c.args.to.bit c.advanced-middle.result.bit 0 c.requires.way
     (λ w e. zero_index R.BITS c.advanced-middle.result.word c.advanced-middle.result.bit (c.args.from.word + 1) small (omega (arith, w, e, head, inside, c.advanced-middle.ensures)))
 
 pub move_bits-requires-3-clause-way : goal.move_bits-requires-3-clause-way
 move_bits-requires-3-clause-way g c =
     let R = g.R.BitRegister in
-    let inside : c.args.to.bit < R.BITS = omega (arith, c.args.to.in_word, g.met.R.BitRegister.eight_law) in
-    let small : c.advanced-end.result.bit < R.BITS = omega (arith, c.advanced-end.result.in_word, g.met.R.BitRegister.eight_law) in
+    let inside : c.args.to.bit < R.BITS = omega (arith, c.args.to.in_word, g.met.R.BitRegister.width_at_least_8) in
+    let small : c.advanced-end.result.bit < R.BITS = omega (arith, c.advanced-end.result.in_word, g.met.R.BitRegister.width_at_least_8) in
     let whole = c.whole_and_last-whole.result.0 in
     allows_on c.args.way R.BITS g.O.BitAt.at_of R.BITS g.O.BitAt.at_of c.args.from.bit c.args.to.bit c.advanced-end.result.bit 0 c.requires.way
     (λ w e.
@@ -78,7 +78,7 @@ returns-clause-bits g c =
     let first = c.BITS.result - c.args.to.bit in
     let whole = c.whole_and_last-whole.result.0 in
     let last = c.whole_and_last-whole.result.1 in
-    let inside : c.args.to.bit < R.BITS = omega (arith, c.args.to.in_word, g.met.R.BitRegister.eight_law) in
+    let inside : c.args.to.bit < R.BITS = omega (arith, c.args.to.in_word, g.met.R.BitRegister.width_at_least_8) in
     let some : 0 < R.BITS = omega arith in
     let width = c.BITS.ensures in
     let all : first + (whole * R.BITS + last) ≡ c.args.count = omega (arith, width, c.whole_and_last-whole.ensures.all) in

@@ -28,7 +28,7 @@ pub words_on-read-requires-clause-inside : goal.words_on-read-requires-clause-in
 words_on-read-requires-clause-inside g c =
     let R = g.R.BitRegister in
     let less = row_less R.BITS (c.args.count - 1 - c.loop-done.done) c.args.count (omega arith) in
-    place_below R.BITS (c.args.from.word * R.BITS + c.args.from.bit + (c.args.count - 1 - c.loop-done.done) * R.BITS) (length c.args.writer.now.words.now) (omega (arith, g.met.R.BitRegister.eight_law)) (omega (arith, less)) (omega arith)
+    place_below R.BITS (c.args.from.word * R.BITS + c.args.from.bit + (c.args.count - 1 - c.loop-done.done) * R.BITS) (length c.args.writer.now.words.now) (omega (arith, g.met.R.BitRegister.width_at_least_8)) (omega (arith, less)) (omega arith)
 
 pub move_bits-requires-clause-way : goal.move_bits-requires-clause-way
 move_bits-requires-clause-way g c =

@@ -31,7 +31,7 @@ words_on-read-requires-clause-inside g c =
     let R = g.R.BitRegister in
     let R2 = g.R2.BitRegister in
     let less = row_less R2.BITS (c.loop-k.k) c.args.count (omega arith) in
-    place_below R.BITS (c.args.from.word * R.BITS + c.args.from.bit + (c.loop-k.k) * R2.BITS) (length c.args.source.now) (omega (arith, g.met.R.BitRegister.eight_law)) (omega (arith, less)) (omega arith)
+    place_below R.BITS (c.args.from.word * R.BITS + c.args.from.bit + (c.loop-k.k) * R2.BITS) (length c.args.source.now) (omega (arith, g.met.R.BitRegister.width_at_least_8)) (omega (arith, less)) (omega arith)
 
 pub put_bits-requires-clause-way : goal.put_bits-requires-clause-way
 put_bits-requires-clause-way g c =

@@ -29,4 +29,4 @@ returns g c = λ p h.
     let room = c.requires.to_in in
     c.shl.ensures.moved p (omega arith) ∙ ap (λ n. digit n p) (c.word_of-here.ensures ∙ c.to_u128.ensures.number) ∙ c.and-digits.ensures.digits p (omega arith)
     ∙ carried_digit bits c.BITS.result c.args.from count (number c.args.word) (number c.shr.result) (number c.ALL.result) (number c.shr-lowest.result) p
-    wide (ap number c.ALL.ensures ∙ g.met.R.BitRegister.all_law) h fits c.shr.ensures.moved c.shr-lowest.ensures.moved
+    wide (ap number c.ALL.ensures ∙ g.met.R.BitRegister.all_is_greatest) h fits c.shr.ensures.moved c.shr-lowest.ensures.moved

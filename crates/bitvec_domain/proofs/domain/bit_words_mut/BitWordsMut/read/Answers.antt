@@ -12,7 +12,7 @@ use Rattle.bitvec_domain.proofs.domain.bit_words_mut.BitWordsMut.read.Goals as g
 pub read-requires : goal.read-requires
 read-requires g c =
     let width = g.R.BitRegister.BITS in
-    let some : 0 < width = omega (arith, g.met.R.BitRegister.eight_law) in
+    let some : 0 < width = omega (arith, g.met.R.BitRegister.width_at_least_8) in
     let bits = c.args.self.now in
     let number = g.R.BitRegister.number in
     let long : length c.words.result.now ≡ bits.count = sym (length-map c.words.result.now number) ∙ ap length c.words.ensures ∙ length_stretch number bits.memory.now bits.first bits.count bits.in_memory in
@@ -21,7 +21,7 @@ read-requires g c =
 pub returns : goal.returns
 returns g c =
     let width = g.R.BitRegister.BITS in
-    let some : 0 < width = omega (arith, g.met.R.BitRegister.eight_law) in
+    let some : 0 < width = omega (arith, g.met.R.BitRegister.width_at_least_8) in
     let bits = c.args.self.now in
     let number = g.R.BitRegister.number in
     let shown = stretch_bits (stretch_in bits) (map number (words_memory bits).now) in

@@ -14,7 +14,7 @@ use Rattle.bitvec_domain.proofs.domain.bit_words_mut.BitWordsMut.replace.Goals a
 pub replace-requires : goal.replace-requires
 replace-requires g c =
     let width = g.R.BitRegister.BITS in
-    let some : 0 < width = omega (arith, g.met.R.BitRegister.eight_law) in
+    let some : 0 < width = omega (arith, g.met.R.BitRegister.width_at_least_8) in
     let bits = c.args.self.now in
     let count : bits.first + bits.count - bits.first ≡ bits.count = omega arith in
     let long : length (take (bits.first + bits.count - bits.first) (drop bits.first bits.memory.now)) ≡ bits.count = ap (λ n. length (take n (drop bits.first bits.memory.now))) count ∙ length-take-le bits.count (drop bits.first bits.memory.now) (omega (arith, bits.in_memory, length-drop bits.first bits.memory.now)) in
@@ -23,7 +23,7 @@ replace-requires g c =
 pub returns-clause-previous : goal.returns-clause-previous
 returns-clause-previous g c =
     let width = g.R.BitRegister.BITS in
-    let some : 0 < width = omega (arith, g.met.R.BitRegister.eight_law) in
+    let some : 0 < width = omega (arith, g.met.R.BitRegister.width_at_least_8) in
     let bits = c.args.self.now in
     let number = g.R.BitRegister.number in
     let shown = stretch_bits (stretch_in bits) (map number (words_memory bits).now) in
@@ -34,7 +34,7 @@ returns-clause-previous g c =
 pub returns-clause-bits : goal.returns-clause-bits
 returns-clause-bits g c =
     let width = g.R.BitRegister.BITS in
-    let some : 0 < width = omega (arith, g.met.R.BitRegister.eight_law) in
+    let some : 0 < width = omega (arith, g.met.R.BitRegister.width_at_least_8) in
     let bits = c.args.self.now in
     let number = g.R.BitRegister.number in
     let at = g.O.BitAt.at_of in

@@ -18,7 +18,7 @@ loop-i-preserved g c =
     let before = c.loop-i.invariant in
     let after = c.replace.ensures in
     let below : c.loop-i.i < stretch.len = omega (arith, c.loop-i-test.true, c.len-i-end.ensures) in
-    let inside = met_within width stretch.head stretch.len c.loop-i.i stretch.count (omega (arith, g.met.R.BitRegister.eight_law)) below stretch.fits in (
+    let inside = met_within width stretch.head stretch.len c.loop-i.i stretch.count (omega (arith, g.met.R.BitRegister.width_at_least_8)) below stretch.fits in (
       after.reference ∙ before.0,
       (
         after.stretch ∙ before.1.0,

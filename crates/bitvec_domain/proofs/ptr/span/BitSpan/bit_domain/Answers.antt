@@ -11,4 +11,4 @@ returns-clause-joined g c =
     let width = g.R.BitRegister.BITS in
     let number = g.R.BitRegister.number in
     ap (joined_bits width g.O.BitAt.at_of) c.into_bit_domain.ensures
-    ∙ joined-words_of width g.O.BitAt.at_of (span_of c.args.self) number c.args.memory.now (domain_parts number c.domain.result) (bit_below width c.args.self.head g.met.R.BitRegister.eight_law c.args.self.in_word) c.requires c.domain.ensures.parts
+    ∙ joined-words_of width g.O.BitAt.at_of (span_of c.args.self) number c.args.memory.now (domain_parts number c.domain.result) (bit_below width c.args.self.head g.met.R.BitRegister.width_at_least_8 c.args.self.in_word) c.requires c.domain.ensures.parts

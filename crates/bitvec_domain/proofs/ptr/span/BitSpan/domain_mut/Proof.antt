@@ -189,7 +189,7 @@ domain_mut_spec 𝓤 𝓛 𝓜 𝓡 wired X O L LO copy rb rbd rc rcd rd rdd re 
     let words : loan_words e ≡ lists_of rb.BITS span xs = listed ∙ (λ k. (l0 k, l1 k, l2 k)) in
     let slots : loan_slots e ≡ slots_of rb.BITS span = slotted ∙ (λ k. ((if fr.0 k then Some (slot_at rb.BITS span 0 (nat_abs span.word)) else None), bo.0 k, (if ba.0 k then Some (slot_at rb.BITS span (words_met rb.BITS span.head span.len - 1) 0) else None))) in
     let parts : lent_parts rb.number e ≡ parts_of rb.BITS span (map rb.number xs) = lent_parts-of rb.BITS span rb.number xs e slots words in
-    let short : HasShortBody rb.BITS (lent_parts rb.number e) = short-words_of rb.BITS (λ k. k) span rb.number xs (lent_parts rb.number e) (bit_below rb.BITS s.head m1.eight_law s.in_word) s.short fits parts in
+    let short : HasShortBody rb.BITS (lent_parts rb.number e) = short-words_of rb.BITS (λ k. k) span rb.number xs (lent_parts rb.number e) (bit_below rb.BITS s.head m1.width_at_least_8 s.in_word) s.short fits parts in
     use0 𝓛 (raw (fact 𝓤 (HasShortBody rb.BITS (lent_parts rb.number e)))) (fact_i 𝓤 _ (emp 𝓤) short) $ use0 𝓛 (raw (fact 𝓤 (loan_words e ≡ lists_of rb.BITS span xs))) (fact_i 𝓤 _ (emp 𝓤) words) $ join ! $ use0 𝓛 (raw (fact 𝓤 (loan_slots e ≡ slots_of rb.BITS span))) (fact_i 𝓤 _ (emp 𝓤) slots) $ join ! $
     use0 𝓛 (raw (fact 𝓤 (lent_parts rb.number e ≡ parts_of rb.BITS span (map rb.number xs)))) (fact_i 𝓤 _ (emp 𝓤) parts) $ join ! $ move ! (3 ∷ 0 ∷ []) $ join ! $
     -- [the `ensures`; the domain; the tokens]

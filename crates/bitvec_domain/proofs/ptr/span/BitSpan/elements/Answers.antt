@@ -4,4 +4,4 @@ use Rattle.bitvec_domain.proofs.ptr.span.BitSpan.elements.Goals as goal
 
 pub returns-clause-value : goal.returns-clause-value
 returns-clause-value g c =
-    words_met-from_span g.R.BitRegister.BITS c.head.result c.args.self.now.head c.args.self.now.len c.span.result.0 (omega (arith, g.met.R.BitRegister.eight_law)) c.head.ensures (λ e. (c.span.ensures.empty e).0) c.span.ensures.elements
+    words_met-from_span g.R.BitRegister.BITS c.head.result c.args.self.now.head c.args.self.now.len c.span.result.0 (omega (arith, g.met.R.BitRegister.width_at_least_8)) c.head.ensures (λ e. (c.span.ensures.empty e).0) c.span.ensures.elements

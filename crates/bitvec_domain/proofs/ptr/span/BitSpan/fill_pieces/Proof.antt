@@ -42,7 +42,7 @@ use Rattle.bitvec_domain.specs.BitSpan.{span_of}
 use Rattle.bitvec_domain.specs.Parts.{parts_of, HasShortBody}
 use Rattle.bitvec_domain.specs.Lending.{LendsNamed}
 use Rattle.bitvec_domain.specs.Pieces.{names_of, piece_list}
-use Rattle.bitvec_domain.specs.Loans.{words_before, body_words, slots_of, lists_of, word_of_bit, filled_slot_if, filled}
+use Rattle.bitvec_domain.specs.Loans.{words_before, body_words, slots_of, lists_of, word_of_bit, filled_slot_if, filled_memory}
 use Rattle.bitvec_domain.specs.DomainMut.{loan_names, loan_words, loan_slots, lent_parts}
 use Rattle.bitvec_domain.proofs.LentSlices.{named_as, Kept, lends_whole, whole_back}
 use Rattle.bitvec_domain.proofs.LoanEnds.{last_of, AllEnd, whole_end, pieces_gone}
@@ -141,7 +141,7 @@ fill_pieces_spec 𝓤 𝓛 𝓜 𝓡 wired X O L LO copy rb rbd rc rcd rd rdd re
     -- [the slice; the token of κ; that of R's; that of O's]
     returns ! (look_at ! 0 refl) $ free_all ! refl $
     move ! (2 ∷ 3 ∷ []) $ fjoin ! $ move ! (2 ∷ 0 ∷ []) $ join ! $ nothing ! $ nothing ! $ fjoin ! $ move ! (2 ∷ 0 ∷ []) $ fjoin ! $ nothing ! $ fjoin ! $
-    use0 𝓛 (raw (fact 𝓤 (map rb.number all ≡ filled rb.BITS oba.at_of bit span (map rb.number xs)))) (fact_i 𝓤 _ (emp 𝓤) (filled-loans rb.number rb.BITS oba.at_of bit span xs fits.1 e p slots listed nm pf pb pk)) $
+    use0 𝓛 (raw (fact 𝓤 (map rb.number all ≡ filled_memory rb.BITS oba.at_of bit span (map rb.number xs)))) (fact_i 𝓤 _ (emp 𝓤) (filled-loans rb.number rb.BITS oba.at_of bit span xs fits.1 e p slots listed nm pf pb pk)) $
     feq_i ! (List Val) (vunit ∷ []) (vunit ∷ []) refl $
     -- [the result; the `ensures`; the slice; the tokens]
     keep ! (3 ∷ 2 ∷ 0 ∷ 1 ∷ []) $ by ! (leaves 𝓛 En hs c y vunit tt (tt, (all, (tt, tt))) (tt, (as_long, (tt, tt))))))))))))))))))))))))))))

@@ -23,7 +23,7 @@ returns-then-is_empty g c =
 pub returns-then-le : goal.returns-then-le
 returns-then-le g c =
     let width = g.R.BitRegister.BITS in
-    let eight = g.met.R.BitRegister.eight_law in
+    let eight = g.met.R.BitRegister.width_at_least_8 in
     let a = span_of c.args.self.now in
     let b = span_of c.args.other.now in
     let end = c.end.result in
@@ -36,7 +36,7 @@ returns-then-le g c =
 pub returns-else-le : goal.returns-else-le
 returns-else-le g c =
     let width = g.R.BitRegister.BITS in
-    let eight = g.met.R.BitRegister.eight_law in
+    let eight = g.met.R.BitRegister.width_at_least_8 in
     let a = span_of c.args.self.now in
     let b = span_of c.args.other.now in
     let end = c.end.result in

@@ -25,4 +25,4 @@ returns-clause-word g c =
     let width = g.R.BitRegister.BITS in
     let span = span_of c.args.self in
     let words = map g.R.BitRegister.number c.args.memory.now in
-    ap (value_of width g.O.BitAt.at_of) (returns-clause-part g c) ∙ value_of-part_of width g.O.BitAt.at_of span words c.args.k (bit_below g.R.BitRegister.BITS c.args.self.head g.met.R.BitRegister.eight_law c.args.self.in_word) c.requires.met
+    ap (value_of width g.O.BitAt.at_of) (returns-clause-part g c) ∙ value_of-part_of width g.O.BitAt.at_of span words c.args.k (bit_below g.R.BitRegister.BITS c.args.self.head g.met.R.BitRegister.width_at_least_8 c.args.self.in_word) c.requires.met

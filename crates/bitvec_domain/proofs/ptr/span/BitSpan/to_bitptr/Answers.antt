@@ -12,20 +12,20 @@ pub returns-clause-steps : goal.returns-clause-steps
 returns-clause-steps g c =
     let width = g.R.BitRegister.BITS in
     let span = c.args.self in
-    let some : 0 < width = omega (arith, g.met.R.BitRegister.eight_law) in
+    let some : 0 < width = omega (arith, g.met.R.BitRegister.width_at_least_8) in
     let ends : (span.word +ℤ pos ((span.head + span.len) / width)) ≤ℤ pos 9223372036854775807 = rw (floor_place width span.word span.head span.len some) at span.low in
     let pointer : ptr_of c.new.result ≡ record { word = span.word; bit = span.head } = search rules in
     let word : c.new.result.word ≡ span.word = ap (λ (p : Ptr). p.word) pointer in
     let bit : c.new.result.bit ≡ span.head = ap (λ (p : Ptr). p.bit) pointer in
     λ index most.
     let up = quotient_up (span.head + index) (span.head + span.len) width some (omega (arith, most)) in
-    rw (word, bit) (omega (arith, ints, span.short, span.in_word, g.met.R.BitRegister.limit_law, most), omega (arith, ints, ends, up))
+    rw (word, bit) (omega (arith, ints, span.short, span.in_word, g.met.R.BitRegister.width_at_most_128, most), omega (arith, ints, ends, up))
 
 pub returns-clause-inside : goal.returns-clause-inside
 returns-clause-inside g c =
     let width = g.R.BitRegister.BITS in
     let span = c.args.self in
-    let eight = g.met.R.BitRegister.eight_law in
+    let eight = g.met.R.BitRegister.width_at_least_8 in
     let pointer : ptr_of c.new.result ≡ record { word = span.word; bit = span.head } = search rules in
     λ index words bit word place below small fits.
     in-place_of width (span_of span) words (bit_below width span.head eight span.in_word) fits (record { word = word; bit = bit }) index (bit_below width bit eight small) below (place ∙ ap (λ (p : Ptr). place_of width p +ℤ pos index) pointer)

@@ -41,7 +41,7 @@ use Rattle.bitvec_domain.specs.Span.{Span, Fits}
 use Rattle.bitvec_domain.specs.BitSpan.{span_of}
 use Rattle.bitvec_domain.specs.Parts.{parts_of}
 use Rattle.bitvec_domain.specs.BitParts.{bit_parts_of}
-use Rattle.bitvec_domain.specs.Written.{IsWritten, StretchIsWritten, body_place, tail_place}
+use Rattle.bitvec_domain.specs.Written.{IsWritten, StretchIsWritten, body_stretch, tail_stretch}
 use Rattle.bitvec_domain.specs.Lending.{LendsNamed}
 use Rattle.bitvec_domain.specs.Pieces.{names_of}
 use Rattle.bitvec_domain.specs.Loans.{has_head, has_tail, words_before, body_words, slots_of, lists_of}
@@ -121,7 +121,7 @@ write_pieces_spec 𝓤 𝓛 𝓜 𝓡 wired X O L LO copy rb rbd rc rcd rd rdd r
     lands_as ! refl refl good $ sets ! (of_opd ! (get ! refl)) refl good $
     let J = triple_of 𝓛 (h.signature X O rb rbd rc rcd rd rdd re red rp rpd ro rod rq rqd rh rhd rg rgd obo obod ooc oocd oba obad) (h.spec X O rb rbd rc rcd rd rdd re red rp rpd ro rod rq rqd rh rhd rg rgd obo obod ooc oocd oba obad 𝓛 𝓜.mem 𝓡.returns) in
     let z2 : J.Ghost = ((κs'', qs'', (bounds', tt), (e, (bs, (hd, (tl, tt)))), (v ∷ [], (shr_slice_vals bs, (bool_vals hd, (bool_vals tl, tt))))), tt) in
-    let in_head = bit_below rb.BITS s₀.head m1.eight_law s₀.in_word in let Enough : Type 0 = (bit_loan_stretches e).0.len + ((body_place (bit_loan_stretches e)).len + (tail_place (bit_loan_stretches e)).len) ≤ length bs.now in
+    let in_head = bit_below rb.BITS s₀.head m1.width_at_least_8 s₀.in_word in let Enough : Type 0 = (bit_loan_stretches e).0.len + ((body_stretch (bit_loan_stretches e)).len + (tail_stretch (bit_loan_stretches e)).len) ≤ length bs.now in
     let enough : Enough = (let total = total-len rb.BITS span in_head (bit_loan_stretches e) placed in let as_many = asked.1.0 in omega (arith, total, as_many)) in
     nothing ! $ owned ! bool _ (bool_Makes 𝓛) tl _ refl $ fjoin ! $ owned ! bool _ (bool_Makes 𝓛) hd _ refl $ fjoin ! $ move ! (7 ∷ 0 ∷ []) $ fjoin ! $ move ! (1 ∷ 0 ∷ []) $ fjoin ! $
     -- [the arguments; what the loan ends as; the tokens; what the lender keeps; the way back; the token of the list's]
@@ -129,8 +129,8 @@ write_pieces_spec 𝓤 𝓛 𝓜 𝓡 wired X O L LO copy rb rbd rc rcd rd rdd r
     use1 𝓛 (raw (J.pre z2)) (id⊢ 𝓤 _) $
     calls_at ! (framed 𝓤 H 𝓜 𝓣) J (met_h 𝓤 𝓛 𝓜 𝓡 (code.calls-bitvec_domain::domain::written::write_domain 𝓡.env wired) X O L LO copy rb rbd rc rcd rd rdd re red rp rpd ro rod rq rqd rh rhd rg rgd obo obod ooc oocd oba obad m1 m2 m3 m4 m5 m6 m7 m8 m9 m10 m11 m12) z2 (and_then ! (get ! refl) (and_then ! (get ! refl) (and_then ! (get ! refl) (and_then ! (get ! refl) (no_more !))))) (λ w.
     let Front : Row.Denot → Type 0 = λ p. IfSome p.front (λ (r : MutBor (List X.Denot)). StretchIsWritten rb.BITS oba.at_of bs.now 0 (bit_loan_stretches e).0 (map rb.number (bit_loan_words e).0) (map rb.number r.now)) in
-    let Body : Row.Denot → Type 0 = λ p. IfSome p.body (λ (r : MutBor (List X.Denot)). StretchIsWritten rb.BITS oba.at_of bs.now (bit_loan_stretches e).0.len (body_place (bit_loan_stretches e)) (map rb.number (bit_loan_words e).1) (map rb.number r.now)) in
-    let Back : Row.Denot → Type 0 = λ p. IfSome p.back (λ (r : MutBor (List X.Denot)). StretchIsWritten rb.BITS oba.at_of bs.now ((bit_loan_stretches e).0.len + (body_place (bit_loan_stretches e)).len) (tail_place (bit_loan_stretches e)) (map rb.number (bit_loan_words e).2) (map rb.number r.now)) in
+    let Body : Row.Denot → Type 0 = λ p. IfSome p.body (λ (r : MutBor (List X.Denot)). StretchIsWritten rb.BITS oba.at_of bs.now (bit_loan_stretches e).0.len (body_stretch (bit_loan_stretches e)) (map rb.number (bit_loan_words e).1) (map rb.number r.now)) in
+    let Back : Row.Denot → Type 0 = λ p. IfSome p.back (λ (r : MutBor (List X.Denot)). StretchIsWritten rb.BITS oba.at_of bs.now ((bit_loan_stretches e).0.len + (body_stretch (bit_loan_stretches e)).len) (tail_stretch (bit_loan_stretches e)) (map rb.number (bit_loan_words e).2) (map rb.number r.now)) in
     use1 𝓛 (later (some (λ (p : Row.Denot). ((‵ (flft αs (left t)) ⊛ ‵ others'') ⊛ ‵ (Row.own_val p (w ∷ []))) ⊛ some (λ (zs : Lasts (h.ended X O rb rbd rc rcd rd rdd re red rp rpd ro rod rq rqd rh rhd rg rgd obo obod ooc oocd oba obad) κs'' (e, (bs, (hd, (tl, tt))))). ‵ (lasts (h.ended X O rb rbd rc rcd rd rdd re red rp rpd ro rod rq rqd rh rhd rg rgd obo obod ooc oocd oba obad) κs'' (e, (bs, (hd, (tl, tt)))) zs)
     ⊛ raw (fact 𝓤 (names_of p ≡ names_if hd tl (bit_loan_names e))) ⊛ raw (fact 𝓤 (Front p)) ⊛ raw (fact 𝓤 (Body p)) ⊛ raw (fact 𝓤 (Back p)))))) (id⊢ 𝓤 _) $ await ! tt $ pick ! (λ p. split ! $ split ! $ move ! (2 ∷ []) $ pick ! (λ zs. split ! $ drop ! $ split ! $ heard ! _ (λ put. let nm : names_of p ≡ names_if (has_head span) (has_tail rb.BITS span) (bit_loan_names e) = put ∙ (λ k. names_if (asked.1.1.0 k) (asked.1.1.1 k) (bit_loan_names e)) in split ! $ heard ! _ (λ pf. split ! $ heard ! _ (λ pb. heard ! _ (λ pk.
     move ! (1 ∷ []) $ peeks ! Row (Is Row) (shows 𝓛 Row) p (w ∷ []) (λ as_pieces. lands_as ! refl refl (((LP.lawful 𝓛).typed p (w ∷ []) as_pieces).0) $ sets ! (of_opd ! (unit_lit !)) refl (tt, tt) $

@@ -7,14 +7,14 @@ pub overflow_add-self : goal.overflow_add-self
 overflow_add-self g c =
     let width = g.R.BitRegister.BITS in
     let is : c.from-width.result ≡ width = c.from-width.ensures ∙ c.BITS.ensures in
-    let below = advanced_word c.args.self.word c.args.self.bit c.args.count width 18446744073709551616 (omega (arith, g.met.R.BitRegister.eight_law)) c.requires in
+    let below = advanced_word c.args.self.word c.args.self.bit c.args.count width 18446744073709551616 (omega (arith, g.met.R.BitRegister.width_at_least_8)) c.requires in
     rw is (omega (arith, below))
 
 pub overflow_add-self-2 : goal.overflow_add-self-2
 overflow_add-self-2 g c =
     let width = g.R.BitRegister.BITS in
     let is : c.from-width.result ≡ width = c.from-width.ensures ∙ c.BITS.ensures in
-    let below = advanced_word c.args.self.word c.args.self.bit c.args.count width 18446744073709551616 (omega (arith, g.met.R.BitRegister.eight_law)) c.requires in
+    let below = advanced_word c.args.self.word c.args.self.bit c.args.count width 18446744073709551616 (omega (arith, g.met.R.BitRegister.width_at_least_8)) c.requires in
     rw (is, c.from.ensures) (omega (arith, below))
 
 pub returns : goal.returns

@@ -7,7 +7,7 @@ use Rattle.bitvec_ptr.proofs.ptr.range.BitPtrRange.can_range.Goals as goal
 pub returns-then-le : goal.returns-then-le
 returns-then-le g c =
     let width = g.R.BitRegister.BITS in
-    let eight = g.met.R.BitRegister.eight_law in
+    let eight = g.met.R.BitRegister.width_at_least_8 in
     let start = c.args.range.now.start in
     let end = c.args.range.now.end in
     let le = le_places width (ptr_of start) (ptr_of end) _ (bit_below width start.bit eight start.in_word) (bit_below width end.bit eight end.in_word) c.if-le.ensures in
@@ -16,7 +16,7 @@ returns-then-le g c =
 pub returns-else-le : goal.returns-else-le
 returns-else-le g c =
     let width = g.R.BitRegister.BITS in
-    let eight = g.met.R.BitRegister.eight_law in
+    let eight = g.met.R.BitRegister.width_at_least_8 in
     let start = c.args.range.now.start in
     let end = c.args.range.now.end in
     let le = le_places width (ptr_of start) (ptr_of end) _ (bit_below width start.bit eight start.in_word) (bit_below width end.bit eight end.in_word) c.if-le.ensures in

@@ -6,7 +6,7 @@ use Rattle.bitvec_ptr.proofs.ptr.range.BitPtrRange.contains.Goals as goal
 pub returns-then-le : goal.returns-then-le
 returns-then-le g c =
     let width = g.R.BitRegister.BITS in
-    let eight = g.met.R.BitRegister.eight_law in
+    let eight = g.met.R.BitRegister.width_at_least_8 in
     let start = c.args.self.now.start in
     let end = c.args.self.now.end in
     let point = c.args.pointer.now in
@@ -18,7 +18,7 @@ returns-then-le g c =
 pub returns-else-le : goal.returns-else-le
 returns-else-le g c =
     let width = g.R.BitRegister.BITS in
-    let eight = g.met.R.BitRegister.eight_law in
+    let eight = g.met.R.BitRegister.width_at_least_8 in
     let start = c.args.self.now.start in
     let point = c.args.pointer.now in
     let le = le_places width (ptr_of start) (ptr_of point) _ (bit_below width start.bit eight start.in_word) (bit_below width point.bit eight point.in_word) c.if-le.ensures in

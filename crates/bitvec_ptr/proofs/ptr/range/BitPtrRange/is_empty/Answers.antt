@@ -9,7 +9,7 @@ use Rattle.bitvec_ptr.proofs.ptr.range.BitPtrRange.is_empty.Goals as goal
 pub returns-clause-items : goal.returns-clause-items
 returns-clause-items g c =
     let width = g.R.BitRegister.BITS in
-    let eight = g.met.R.BitRegister.eight_law in
+    let eight = g.met.R.BitRegister.width_at_least_8 in
     let start = c.args.self.now.start in
     let end = c.args.self.now.end in
     let ends : IsTrue c.eq.result ↔ (ptr_of start ≡ ptr_of end) = search rules in (

@@ -10,7 +10,7 @@ use Rattle.bitvec_ptr.proofs.ptr.range.BitPtrRange.nth.Goals as goal
 pub forward-found-requires-clause-inside : goal.forward-found-requires-clause-inside
 forward-found-requires-clause-inside g c =
     let width = g.R.BitRegister.BITS in
-    let eight = g.met.R.BitRegister.eight_law in
+    let eight = g.met.R.BitRegister.width_at_least_8 in
     let start = c.args.self.now.start in
     let end = c.args.self.now.end in
     let apart = count_gap width (range_of c.args.self.now) c.args.self.now.ordered in
@@ -21,7 +21,7 @@ forward-found-requires-clause-inside g c =
 pub forward-self-requires-clause-inside : goal.forward-self-requires-clause-inside
 forward-self-requires-clause-inside g c =
     let width = g.R.BitRegister.BITS in
-    let eight = g.met.R.BitRegister.eight_law in
+    let eight = g.met.R.BitRegister.width_at_least_8 in
     let end = c.args.self.now.end in
     let apart = count_gap width (range_of c.args.self.now) c.args.self.now.ordered in
     let inside : (place_of width (ptr_of c.forward-found.result) +ℤ pos 1) ≤ℤ place_of width (ptr_of end) = omega (arith, ints, apart, c.left.ensures.value, c.if-n-left.false, c.forward-found.ensures) in

@@ -10,7 +10,7 @@ use Rattle.bitvec_ptr.proofs.ptr.range.BitPtrRange.nth_back.Goals as goal
 pub forward-found-requires-clause-inside : goal.forward-found-requires-clause-inside
 forward-found-requires-clause-inside g c =
     let width = g.R.BitRegister.BITS in
-    let eight = g.met.R.BitRegister.eight_law in
+    let eight = g.met.R.BitRegister.width_at_least_8 in
     let start = c.args.self.now.start in
     let end = c.args.self.now.end in
     let apart = count_gap width (range_of c.args.self.now) c.args.self.now.ordered in

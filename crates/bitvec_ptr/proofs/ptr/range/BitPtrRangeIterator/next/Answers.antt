@@ -19,7 +19,7 @@ returns-clause-start g c =
     let old = c.args.self.now in
     let new = c.nth.new.self in
     let width = g.R.BitRegister.BITS in
-    let eight = g.met.R.BitRegister.eight_law in
+    let eight = g.met.R.BitRegister.width_at_least_8 in
     start_after width (λ p. ptr_of p) (range_of old) (range_of new) c.nth.result old.ordered (bit_below width old.start.bit eight old.start.in_word) (bit_below width old.end.bit eight old.end.in_word) c.nth.ensures.item
 
 pub returns-clause-last : goal.returns-clause-last
@@ -27,5 +27,5 @@ returns-clause-last g c =
     let old = c.args.self.now in
     let new = c.nth.new.self in
     let width = g.R.BitRegister.BITS in
-    let eight = g.met.R.BitRegister.eight_law in
+    let eight = g.met.R.BitRegister.width_at_least_8 in
     start_after_last width (λ p. ptr_of p) (range_of old) (range_of new) c.nth.result old.ordered (bit_below width new.start.bit eight new.start.in_word) (bit_below width old.end.bit eight old.end.in_word) c.nth.ensures.item

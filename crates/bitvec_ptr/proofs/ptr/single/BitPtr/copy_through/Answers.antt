@@ -20,7 +20,7 @@ returns-then-count-eq0-clause-bits g c =
 pub copy_across-requires-clause-from_in : goal.copy_across-requires-clause-from_in
 copy_across-requires-clause-from_in g c =
     let R = g.R.BitRegister in
-    let some : 0 < R.BITS = omega (arith, g.met.R.BitRegister.eight_law) in
+    let some : 0 < R.BITS = omega (arith, g.met.R.BitRegister.width_at_least_8) in
     let more : 0 < c.args.count = omega arith in
     rw c.at.ensures.place (met_covers R.BITS (nat_abs c.args.self.word) c.args.self.bit c.args.count (length c.args.memory.now) some more c.requires.from_in.1)
 

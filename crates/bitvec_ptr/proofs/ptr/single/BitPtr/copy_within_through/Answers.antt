@@ -18,7 +18,7 @@ returns-then-count-eq0-clause-bits g c =
 pub move_across-requires-clause-from_in : goal.move_across-requires-clause-from_in
 move_across-requires-clause-from_in g c =
     let R = g.R.BitRegister in
-    let some : 0 < R.BITS = omega (arith, g.met.R.BitRegister.eight_law) in
+    let some : 0 < R.BITS = omega (arith, g.met.R.BitRegister.width_at_least_8) in
     let more : 0 < c.args.count = omega arith in
     rw c.at.ensures.place (met_covers R.BITS (nat_abs c.args.self.word) c.args.self.bit c.args.count (length c.args.writer.now.words.now) some more c.requires.from_in.1)
 

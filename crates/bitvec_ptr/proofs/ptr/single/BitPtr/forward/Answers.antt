@@ -8,17 +8,17 @@ pub overflow_add-self : goal.overflow_add-self
 overflow_add-self g c =
     let words : (c.from.result + c.args.count) / c.from-width.result ≡ (c.args.self.bit + c.args.count) / g.R.BitRegister.BITS =
     ap (λ v. (v + c.args.count) / c.from-width.result) c.from.ensures ∙ ap (λ v. (c.args.self.bit + c.args.count) / v) (c.from-width.ensures ∙ c.BITS.ensures) in
-    let small = quotient_small (c.args.self.bit + c.args.count) g.R.BitRegister.BITS g.met.R.BitRegister.eight_law (omega (arith, ints, c.requires.short, g.met.R.BitRegister.limit_law)) in
+    let small = quotient_small (c.args.self.bit + c.args.count) g.R.BitRegister.BITS g.met.R.BitRegister.width_at_least_8 (omega (arith, ints, c.requires.short, g.met.R.BitRegister.width_at_most_128)) in
     omega (arith, ints, words, small, c.requires.inside)
 
 pub returns : goal.returns
 returns g c =
     let width = g.R.BitRegister.BITS in
-    let some : 0 < width = omega (arith, g.met.R.BitRegister.eight_law) in
+    let some : 0 < width = omega (arith, g.met.R.BitRegister.width_at_least_8) in
     let words : (c.from.result + c.args.count) / c.from-width.result ≡ (c.args.self.bit + c.args.count) / width =
     ap (λ v. (v + c.args.count) / c.from-width.result) c.from.ensures ∙ ap (λ v. (c.args.self.bit + c.args.count) / v) (c.from-width.ensures ∙ c.BITS.ensures) in
     let bits : (c.from.result + c.args.count) % c.from-width.result ≡ (c.args.self.bit + c.args.count) % width =
     ap (λ v. (v + c.args.count) % c.from-width.result) c.from.ensures ∙ ap (λ v. (c.args.self.bit + c.args.count) % v) (c.from-width.ensures ∙ c.BITS.ensures) in
-    let small = quotient_small (c.args.self.bit + c.args.count) width g.met.R.BitRegister.eight_law (omega (arith, ints, c.requires.short, g.met.R.BitRegister.limit_law)) in
+    let small = quotient_small (c.args.self.bit + c.args.count) width g.met.R.BitRegister.width_at_least_8 (omega (arith, ints, c.requires.short, g.met.R.BitRegister.width_at_most_128)) in
     moved-from_parts width (ptr_of c.args.self) (ptr_of c.new.result) (pos c.args.count) (pos (c.args.self.bit + c.args.count)) (pos ((c.args.self.bit + c.args.count) / width)) _ c.new_unchecked-bit.result
     some c.new.ensures refl refl (ap pos (c.new_unchecked-bit.ensures ∙ bits)) (omega (arith, ints, words, small, c.requires.inside))

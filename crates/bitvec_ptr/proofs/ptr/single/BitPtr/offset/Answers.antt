@@ -9,7 +9,7 @@ use Rattle.bitvec_ptr.proofs.ptr.single.BitPtr.offset.Goals as goal
 pub returns : goal.returns
 returns g c =
     let width = g.R.BitRegister.BITS in
-    let some : 0 < width = omega (arith, g.met.R.BitRegister.eight_law) in
+    let some : 0 < width = omega (arith, g.met.R.BitRegister.width_at_least_8) in
     let far = pos c.args.self.bit +ℤ c.args.count in
     let q : c.split_far-words.result.0 ≡ int_div_euclid far (pos width) = c.split_far-words.ensures.word ∙ ap (λ z. int_div_euclid z (pos width)) (omega (arith, ints)) in
     let fits : FitsSigned w64 (c.args.self.word +ℤ c.split_far-words.result.0) = rw q c.requires.1 in

@@ -13,7 +13,7 @@ returns-clause-bits g c =
     let R = g.R.BitRegister in
     let R2 = g.R2.BitRegister in
     let words = map R2.number c.args.other.now in
-    let below : c.args.with.bit < R2.BITS = omega (arith, g.met.R2.BitRegister.eight_law, c.args.with.in_word) in
+    let below : c.args.with.bit < R2.BITS = omega (arith, g.met.R2.BitRegister.width_at_least_8, c.args.with.in_word) in
     let within : nat_abs c.args.with.word < length words = omega (arith, ints, c.requires.with_in, length-map c.args.other.now R2.number) in
     let theirs = bit_is R2.BITS g.O2.BitAt.at_of words (nat_abs c.args.with.word) c.args.with.bit c.read-theirs.result within below c.read-theirs.ensures in
     c.replace-ours.ensures.bits ∙ ap (slice_set (memory_bits R.BITS g.O.BitAt.at_of (map R.number c.args.memory.now)) (index_of R.BITS (ptr_of c.args.self))) theirs
@@ -23,7 +23,7 @@ returns-clause-other_bits g c =
     let R = g.R.BitRegister in
     let R2 = g.R2.BitRegister in
     let words = map R.number c.args.memory.now in
-    let below : c.args.self.bit < R.BITS = omega (arith, g.met.R.BitRegister.eight_law, c.args.self.in_word) in
+    let below : c.args.self.bit < R.BITS = omega (arith, g.met.R.BitRegister.width_at_least_8, c.args.self.in_word) in
     let within : nat_abs c.args.self.word < length words = omega (arith, ints, c.requires.self_in, length-map c.args.memory.now R.number) in
     let ours = bit_is R.BITS g.O.BitAt.at_of words (nat_abs c.args.self.word) c.args.self.bit c.replace-ours.result within below c.replace-ours.ensures.previous in
     c.write.ensures.bits ∙ ap (slice_set (memory_bits R2.BITS g.O2.BitAt.at_of (map R2.number c.args.other.now)) (index_of R2.BITS (ptr_of c.args.with))) ours
