@@ -78,11 +78,7 @@ fn stores(rt: HostRuntime, count: u32, spans: u16) -> Result<Vec<Request<u64>>, 
 }
 
 fn no_replies(rt: HostRuntime, count: usize) -> Result<Vec<Reply<u64>>, AllocError> {
-    let mut replies = Vec::new(rt.alloc());
-    for _ in 0..count {
-        replies.push(Reply::Done)?;
-    }
-    Ok(replies)
+    Ok(vec![in rt.alloc(); Reply::Done; count]?)
 }
 
 // The word that a store into a span returns, and the store itself, bit by bit.

@@ -22,11 +22,11 @@ pub fn words(rt: HostRuntime, count: usize) -> Result<Vec<u64>, AllocError> {
 
 /// Bytes that look random, the same at each call.
 pub fn bytes(rt: HostRuntime, count: usize) -> Result<Vec<u8>, AllocError> {
-    let mut bytes = Vec::new(rt.alloc());
-    for word in words(rt, count)? {
-        bytes.push((word >> 56) as u8)?;
-    }
-    Ok(bytes)
+    let words = words(rt, count)?;
+    words
+        .iter()
+        .map(|word| (*word >> 56) as u8)
+        .collect(rt.alloc())
 }
 
 /// Words of another register that look random, the same at each call.

@@ -26,11 +26,9 @@ fn status<R: Env + AllocGlobal + Print>(rt: &R) -> u8 {
     let Ok(all) = env::args(rt) else {
         return answer::out_of_memory(&mut out);
     };
-    let mut args: Vec<String> = Vec::new(alloc);
-    for arg in all.skip(1) {
-        if args.push(arg).is_err() {
-            return answer::out_of_memory(&mut out);
-        }
-    }
+    let args: Result<Vec<String>, _> = all.skip(1).collect(alloc);
+    let Ok(args) = args else {
+        return answer::out_of_memory(&mut out);
+    };
     answer::answer(&alloc, &args, &mut out)
 }

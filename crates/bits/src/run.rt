@@ -1,7 +1,5 @@
 //! The lines of `bits run`: commands through disjoint spans of one memory.
 
-ghost use Rattle.std.specs.Prelude.{◌≡◌, IfOk, length};
-
 use crate::answer::Fault;
 use crate::spans::span_at;
 use bitvec::mem::BitRegister;
@@ -43,7 +41,7 @@ impl<'a, A: Allocator> Call for RunCall<'a, '_, A> {
         if !can_run(&spans, memory.len()) {
             return Err(Fault::line(alloc, &"spans overlap")?);
         }
-        let mut replies = no_replies::<R, A>(alloc, requests.len())?;
+        let mut replies = vec![in alloc; Reply::NoSpan; requests.len()]?;
         run(&spans, &mut memory, &requests, &mut replies);
         let mut text = String::new(alloc);
         write_replies(&mut text, &replies)?;
@@ -95,10 +93,7 @@ fn requests_of<'a, R: BitRegister, A: Allocator>(
         return Ok(all);
     }
     for text in text.split(',') {
-        let mut words = Vec::new(alloc);
-        for word in text.split(':') {
-            words.push(word).map_err(AllocError::from)?;
-        }
+        let words: Vec<&str, &'a A> = text.split(':').collect(alloc)?;
         let request = request(&words).ok_or(Fault::Usage)?;
         all.push(request).map_err(AllocError::from)?;
     }
@@ -152,20 +147,6 @@ fn one_number<R: BitRegister>(name: &str, n: usize) -> Option<Command<R>> {
 // A decimal number of 64 bits, as a number of bits or words.
 fn count(text: &str) -> Option<usize> {
     Some(place(text)? as usize)
-}
-
-// As many replies as requests, for the run to write.
-fn no_replies<'a, R: BitRegister, A: Allocator>(
-    alloc: &'a A,
-    count: usize,
-) -> Result<Vec<Reply<R>, &'a A>, Fault<&'a A>>
-    ensures { IfOk result (λ replies. length replies.items ≡ count) }
-{
-    let mut replies = Vec::new(alloc);
-    for _ in 0..count {
-        replies.push(Reply::NoSpan).map_err(AllocError::from)?;
-    }
-    Ok(replies)
 }
 
 // Writes a line a reply.

@@ -1,31 +1,12 @@
 -- Edits of a part of a word, from what they do under a mask.
-use Rattle.std.proofs.Common.{◌≡◌, ℕ, ◌<◌, ◌≤◌, ◌^◌, Bool, true, false, not, ◌&&◌, ◌||◌, if◌then◌else◌, nat_le, nat_lt, List, map, refl, ap, ◌∙◌}
+use Rattle.std.proofs.Common.{◌≡◌, ℕ, zero, suc, ◌<◌, ◌≤◌, ◌^◌, Bool, ◌&&◌, if◌then◌else◌, nat_le, nat_lt, List, map, refl, ap, ◌∙◌, arith}
 use Rattle.std.proofs.lemmas.List.{map-set}
 use Rattle.std.specs.Prelude.{slice_index, slice_set}
-use Rattle.bitvec_mem.specs.Digit.{digit, exclusive_or}
-use Rattle.bitvec_order.specs.Order.{IsOneToOne, IsMaskOf}
+use Rattle.bitvec_mem.specs.Digit.{digit}
+use Rattle.bitvec_order.specs.Order.{IsOneToOne, IsMaskOf, number_of}
 use Rattle.bitvec_order.proofs.IndexLemmas.{digit-mask_at, number_of-from_digits}
 use Rattle.bitvec_domain.specs.Slot.{Slot, slot_part, EditsPart}
 use Rattle.bitvec_domain.proofs.PartLemmas.{value_of-from_mask}
-
--- a digit cleared, set or turned over where a mask has its position
-pub cleared : (o m : Bool) → (o && not m) ≡ (if m then false else o)
-cleared true true = refl
-cleared true false = refl
-cleared false true = refl
-cleared false false = refl
-
-pub set : (o m : Bool) → (o || m) ≡ (if m then true else o)
-set true true = refl
-set true false = refl
-set false true = refl
-set false false = refl
-
-pub inverted : (o m : Bool) → exclusive_or o m ≡ (if m then not o else o)
-inverted true true = refl
-inverted true false = refl
-inverted false true = refl
-inverted false false = refl
 
 -- a word that was put in place of another, and an answer, by their digits under the part's mask
 pub edits_part : {X : Type 0} (bits : ℕ) (at : ℕ → ℕ) (slot : Slot) (after : ℕ → Bool) (number : X → ℕ) (old new : List X) (word : X) (was mask answer : ℕ)
@@ -42,4 +23,19 @@ edits_part bits at slot after number old new word was mask answer law within mas
       ∙ ap (λ b. if b then after i else digit was (at i)) (digit-mask_at bits at slot.head slot.tail mask i law within masked h)
       ∙ ap (λ w. if (nat_le slot.head i && nat_lt i slot.tail) then after i else digit w (at i)) is));
   answered = value_of-from_mask bits at (slot_part slot (map number old)) was mask answer law within is masked small_answer kept;
+}
+
+-- the number of a test is that of every test with the same values
+number_of-same : (at : ℕ → ℕ) (f g : ℕ → Bool) (n : ℕ) → ((i : ℕ) → i < n → f i ≡ g i) → number_of at f n ≡ number_of at g n
+unfolding number_of
+number_of-same at f g zero same = refl
+number_of-same at f g (suc n) same = rw (same n (omega arith), number_of-same at f g n (λ i below. same i (omega arith))) refl
+
+-- an edit of a part is that to every bits which are the same
+pub edits_as : (bits : ℕ) (at : ℕ → ℕ) (slot : Slot) (f g : ℕ → Bool) (old new : List ℕ) (answer : ℕ) → ((i : ℕ) → i < bits → f i ≡ g i)
+    → EditsPart bits at slot f old new answer → EditsPart bits at slot g old new answer
+edits_as bits at slot f g old new answer same e = record {
+  words = e.words ∙ ap (slice_set old slot.word) (number_of-same at _ _ bits (λ i h.
+      ap (λ b. if (nat_le slot.head i && nat_lt i slot.tail) then b else digit (slice_index old slot.word) (at i)) (same i h)));
+  answered = e.answered;
 }

@@ -164,10 +164,15 @@ pub fn bits_of<R: BitRegister>() -> usize
 }
 
 /// How many registers hold so many bits: `bits / BITS`, and one more where a remainder is left.
-pub fn elts<R: BitRegister>(bits: usize) -> usize
+pub const fn elts<R: BitRegister>(bits: usize) -> usize
     ensures { result ≡ bits / R.BITS + (if bits % R.BITS == 0 then 0 else 1) }
 {
-    bits.div_ceil(usize::from(R::BITS))
+    let width = R::BITS as usize;
+    if bits % width == 0 {
+        bits / width
+    } else {
+        bits / width + 1
+    }
 }
 
 /// One register, as a memory of a single word.

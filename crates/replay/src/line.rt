@@ -79,11 +79,7 @@ fn words<'t, 'a, A: Allocator>(
     alloc: &'a A,
     text: &'t str,
 ) -> Result<Vec<&'t str, &'a A>, AllocError> {
-    let mut words = Vec::new(alloc);
-    for word in text.split(' ') {
-        words.push(word)?;
-    }
-    Ok(words)
+    text.split(' ').collect(alloc)
 }
 
 // What stands after so many words of a text; `None` where nothing does.

@@ -167,10 +167,8 @@ impl<'a, R: BitRegister, O: BitOrder<R>> PartialElementMut<'a, R, O> {
             (O.at_of i))) (map R.number (memory_of self.old).now)
             (map R.number (memory_of self.new).now) (R.number result) }
     {
-        let old = self.word();
-        let mask = self.mask().into_inner();
-        self.put(old.xor(mask));
-        old.and(mask)
+        let turned = self.word().not();
+        self.store_value(turned)
     }
 
     /// Makes each of the bits zero, and returns the previous ones.
@@ -181,10 +179,7 @@ impl<'a, R: BitRegister, O: BitOrder<R>> PartialElementMut<'a, R, O> {
             (map R.number (memory_of self.old).now) (map R.number (memory_of self.new).now)
             (R.number result) }
     {
-        let old = self.word();
-        let mask = self.mask().into_inner();
-        self.put(old.and(mask.not()));
-        old.and(mask)
+        self.store_value(R::ZERO)
     }
 
     /// Makes each of the bits one, and returns the previous ones.
@@ -195,10 +190,7 @@ impl<'a, R: BitRegister, O: BitOrder<R>> PartialElementMut<'a, R, O> {
             (map R.number (memory_of self.old).now) (map R.number (memory_of self.new).now)
             (R.number result) }
     {
-        let old = self.word();
-        let mask = self.mask().into_inner();
-        self.put(old.or(mask));
-        old.and(mask)
+        self.store_value(R::ALL)
     }
 }
 

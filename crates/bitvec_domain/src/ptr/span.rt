@@ -12,7 +12,7 @@ ghost use Rattle.bitvec_domain.specs.SpanText.{case_text};
 ghost use Rattle.bitvec_domain.specs.Refusals.{signed_text, too_long_text, too_high_text};
 ghost use Rattle.bitvec_domain.specs.Refusals.{error_name, too_long_case, too_high_case};
 
-use bitvec_mem::mem::BitRegister;
+use bitvec_mem::mem::{BitRegister, elts};
 use bitvec_mem::numeral::write_numeral;
 use bitvec_order::index::{BitEnd, BitIdx};
 use bitvec_order::order::Lsb0;
@@ -189,18 +189,6 @@ pub trait SpanLimits: Sized {
     ghost REGION_MAX_ELTS: { ℕ };
 }
 
-// How many registers hold so many bits, as `elts`, for a constant.
-const fn words_for<R: BitRegister>(bits: usize) -> usize
-    ensures { result ≡ bits / R.BITS + (if bits % R.BITS == 0 then 0 else 1) }
-{
-    let width = R::BITS as usize;
-    if bits % width == 0 {
-        bits / width
-    } else {
-        bits / width + 1
-    }
-}
-
 impl<R: BitRegister, O> SpanLimits for BitSpan<R, O> {
     ghost use Rattle.bitvec_domain.specs.BitSpan.{empty_span};
 
@@ -213,7 +201,7 @@ impl<R: BitRegister, O> SpanLimits for BitSpan<R, O> {
 
     const REGION_MAX_BITS: usize = MAX_BITS;
 
-    const REGION_MAX_ELTS: usize = words_for::<R>(MAX_BITS) + 1;
+    const REGION_MAX_ELTS: usize = elts::<R>(MAX_BITS) + 1;
 
     ghost EMPTY = { empty_span };
 

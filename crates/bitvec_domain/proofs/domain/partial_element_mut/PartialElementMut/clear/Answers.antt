@@ -1,20 +1,12 @@
-use Rattle.std.proofs.Common.{false, ◌&&◌, ap, ◌∙◌}
+use Rattle.std.proofs.Common.{false, ap, ◌∙◌}
 use Rattle.bitvec_mem.specs.Digit.{digit}
-use Rattle.bitvec_order.specs.Order.{IsMaskOf}
-use Rattle.bitvec_domain.specs.PartialElementMut.{memory_of, slot_in}
-use Rattle.bitvec_domain.proofs.EditLemmas.{cleared, edits_part}
+use Rattle.bitvec_mem.proofs.DigitLemmas.{digit-zero}
+use Rattle.bitvec_domain.specs.PartialElementMut.{slot_in}
+use Rattle.bitvec_domain.proofs.EditLemmas.{edits_as}
 use Rattle.bitvec_domain.proofs.domain.partial_element_mut.PartialElementMut.clear.Goals as goal
 
 pub returns-clause-edit : goal.returns-clause-edit
 returns-clause-edit g c =
-    let width = g.R.BitRegister.BITS in
-    let number = g.R.BitRegister.number in
-    let at = g.O.BitAt.at_of in
-    let law = g.met.O.BitOrder.one_to_one in
-    let element = c.args.self.now in
-    let slot = slot_in element in
-    let was = number c.word-old.result in
-    let mask = number c.into_inner-mask.result in
-    let masked : IsMaskOf width at slot.head slot.tail mask = rw c.into_inner-mask.ensures.value c.mask.ensures in
-    edits_part width at slot (λ i. false) number (memory_of element).now (memory_of c.put.new.self).now c.and.result was mask (number c.and-2.result) law element.tail_in masked c.word-old.ensures c.put.ensures.memory c.and.ensures.below c.and-2.ensures.below
-    (λ i h. c.and.ensures.digits (at i) (law.below i h) ∙ ap (λ m. digit was (at i) && m) (c.not.ensures.digits (at i) (law.below i h)) ∙ cleared (digit was (at i)) (digit mask (at i))) c.and-2.ensures.digits
+    let zero = ap g.R.BitRegister.number c.ZERO.ensures ∙ g.met.R.BitRegister.zero_is_0 in
+    edits_as g.R.BitRegister.BITS g.O.BitAt.at_of (slot_in c.args.self.now) _ (λ i. false) _ _ _
+    (λ i h. ap (λ n. digit n (g.O.BitAt.at_of i)) zero ∙ digit-zero (g.O.BitAt.at_of i)) c.store_value.ensures.edit

@@ -1,21 +1,14 @@
-use Rattle.std.proofs.Common.{not, if◌then◌else◌, map, ap, ◌∙◌}
+use Rattle.std.proofs.Common.{not, map, ap, ◌∙◌}
 use Rattle.std.specs.Prelude.{slice_index}
 use Rattle.bitvec_mem.specs.Digit.{digit}
-use Rattle.bitvec_order.specs.Order.{IsMaskOf}
 use Rattle.bitvec_domain.specs.PartialElementMut.{memory_of, slot_in}
-use Rattle.bitvec_domain.proofs.EditLemmas.{inverted, edits_part}
+use Rattle.bitvec_domain.proofs.EditLemmas.{edits_as}
 use Rattle.bitvec_domain.proofs.domain.partial_element_mut.PartialElementMut.invert.Goals as goal
 
 pub returns-clause-edit : goal.returns-clause-edit
 returns-clause-edit g c =
     let width = g.R.BitRegister.BITS in
-    let number = g.R.BitRegister.number in
     let at = g.O.BitAt.at_of in
-    let law = g.met.O.BitOrder.one_to_one in
     let element = c.args.self.now in
-    let slot = slot_in element in
-    let was = number c.word-old.result in
-    let mask = number c.into_inner-mask.result in
-    let masked : IsMaskOf width at slot.head slot.tail mask = rw c.into_inner-mask.ensures.value c.mask.ensures in
-    edits_part width at slot (λ i. not (digit (slice_index (map number (memory_of element).now) slot.word) (at i))) number (memory_of element).now (memory_of c.put.new.self).now c.xor.result was mask (number c.and.result) law element.tail_in masked c.word-old.ensures c.put.ensures.memory c.xor.ensures.below c.and.ensures.below
-    (λ i h. c.xor.ensures.digits (at i) (law.below i h) ∙ inverted (digit was (at i)) (digit mask (at i)) ∙ ap (λ w. if digit mask (at i) then not (digit w (at i)) else digit was (at i)) c.word-old.ensures) c.and.ensures.digits
+    edits_as width at (slot_in element) _ (λ i. not (digit (slice_index (map g.R.BitRegister.number (memory_of element).now) (slot_in element).word) (at i))) _ _ _
+    (λ i h. c.not-turned.ensures.digits (at i) (g.met.O.BitOrder.one_to_one.below i h) ∙ ap (λ w. not (digit w (at i))) c.word.ensures) c.store_value.ensures.edit

@@ -1,20 +1,14 @@
-use Rattle.std.proofs.Common.{true, ◌∙◌}
+use Rattle.std.proofs.Common.{true, ap, ◌∙◌}
 use Rattle.bitvec_mem.specs.Digit.{digit}
-use Rattle.bitvec_order.specs.Order.{IsMaskOf}
-use Rattle.bitvec_domain.specs.PartialElementMut.{memory_of, slot_in}
-use Rattle.bitvec_domain.proofs.EditLemmas.{set, edits_part}
+use Rattle.bitvec_mem.proofs.DigitLemmas.{digit_all}
+use Rattle.bitvec_domain.specs.PartialElementMut.{slot_in}
+use Rattle.bitvec_domain.proofs.EditLemmas.{edits_as}
 use Rattle.bitvec_domain.proofs.domain.partial_element_mut.PartialElementMut.set.Goals as goal
 
 pub returns-clause-edit : goal.returns-clause-edit
 returns-clause-edit g c =
     let width = g.R.BitRegister.BITS in
-    let number = g.R.BitRegister.number in
     let at = g.O.BitAt.at_of in
-    let law = g.met.O.BitOrder.one_to_one in
-    let element = c.args.self.now in
-    let slot = slot_in element in
-    let was = number c.word-old.result in
-    let mask = number c.into_inner-mask.result in
-    let masked : IsMaskOf width at slot.head slot.tail mask = rw c.into_inner-mask.ensures.value c.mask.ensures in
-    edits_part width at slot (λ i. true) number (memory_of element).now (memory_of c.put.new.self).now c.or.result was mask (number c.and.result) law element.tail_in masked c.word-old.ensures c.put.ensures.memory c.or.ensures.below c.and.ensures.below
-    (λ i h. c.or.ensures.digits (at i) (law.below i h) ∙ set (digit was (at i)) (digit mask (at i))) c.and.ensures.digits
+    let all = ap g.R.BitRegister.number c.ALL.ensures ∙ g.met.R.BitRegister.all_is_greatest in
+    edits_as width at (slot_in c.args.self.now) _ (λ i. true) _ _ _
+    (λ i h. ap (λ n. digit n (at i)) all ∙ digit_all width (at i) (g.met.O.BitOrder.one_to_one.below i h)) c.store_value.ensures.edit
