@@ -24,13 +24,17 @@ words_before span = nat_abs span.word + (if has_head span then 1 else 0)
 abbrev pub body_words : ℕ → Span → ℕ
 body_words bits span = words_met bits span.head span.len - (if has_head span then 1 else 0) - (if has_tail bits span then 1 else 0)
 
--- where the parts lie in their loans, and between them whether there is a body
-abbrev pub slots_of : ℕ → Span → Option Slot × Bool × Option Slot
-slots_of bits span = (
-  (if has_head span then Some (slot_at bits span 0 (nat_abs span.word)) else None),
-  not (is_inside bits span),
-  (if has_tail bits span then Some (slot_at bits span (words_met bits span.head span.len - 1) 0) else None),
+-- where the parts lie in their loans, if a head, a body and a tail are lent, and between them whether there is a body
+abbrev pub slots_if : ℕ → Span → Bool → Bool → Bool → Option Slot × Bool × Option Slot
+slots_if bits span head body tail = (
+  (if head then Some (slot_at bits span 0 (nat_abs span.word)) else None),
+  body,
+  (if tail then Some (slot_at bits span (words_met bits span.head span.len - 1) 0) else None),
 )
+
+-- where they lie for the parts that the span has
+abbrev pub slots_of : ℕ → Span → Option Slot × Bool × Option Slot
+slots_of bits span = slots_if bits span (has_head span) (not (is_inside bits span)) (has_tail bits span)
 
 -- the words of a memory that are lent for the head, the body and the tail, and none for an absent part
 abbrev pub lists_of : {R : Type 0} → ℕ → Span → List R → List R × List R × List R

@@ -1,6 +1,6 @@
 -- Spans as intervals of places, and their lists in a memory. `bits` is the width of a word, and a memory is the list of
 -- its words' numbers.
-use Rattle.std.specs.Prelude.{ℕ, ℤ, pos, nat_abs, ◌+◌, ◌-◌, ◌*◌, ◌≤◌, ◌+ℤ◌, ◌≤ℤ◌, ◌<ℤ◌, ◌&&◌, Bool, false, List, length, slice_index_or, nat_le}
+use Rattle.std.specs.Prelude.{◌≡◌, ℕ, ℤ, pos, nat_abs, ◌+◌, ◌-◌, ◌*◌, ◌≤◌, ◌+ℤ◌, ◌≤ℤ◌, ◌<ℤ◌, ◌&&◌, Bool, false, List, length, slice_index_or, nat_le}
 use Rattle.bitvec_order.specs.Order.{number_of}
 use Rattle.bitvec_ptr.specs.Memory.{bit_of, tabulate}
 use Rattle.bitvec_ptr.specs.Place.{place_at, words_met}
@@ -31,6 +31,10 @@ AreDisjoint bits a b = (place : ℤ) → Covers bits a place → Covers bits b p
 -- the bits of a span in a memory, in order
 abbrev pub list_of : ℕ → (ℕ → ℕ) → Span → List ℕ → List Bool
 list_of bits at span words = tabulate span.len (λ j. bit_of bits at words (nat_abs span.word * bits + span.head + j))
+
+-- every bit of a memory outside a span is as before
+abbrev pub KeepsOthers : ℕ → (ℕ → ℕ) → Span → List ℕ → List ℕ → Type 0
+KeepsOthers bits at span old new = (place : ℕ) → ¬ Covers bits span (pos place) → bit_of bits at new place ≡ bit_of bits at old place
 
 -- bit j of a list, and false past its end
 abbrev pub element : List Bool → ℕ → Bool

@@ -5,12 +5,10 @@ ghost use Rattle.std.specs.Prelude.{not, true, false, length, map, IfSome, Match
 ghost use Rattle.std.specs.Prelude.{Some, None, [], replicate};
 ghost use Rattle.std.specs.Borrow.{sem};
 ghost use Rattle.bitvec_ptr.specs.Place.{words_met};
-ghost use Rattle.bitvec_ptr.specs.Memory.{bit_of};
-ghost use Rattle.bitvec_domain.specs.Span.{Covers, Fits, list_of};
+ghost use Rattle.bitvec_domain.specs.Span.{Fits, list_of, KeepsOthers};
 ghost use Rattle.bitvec_domain.specs.Parts.{parts_of, enclave, region, is_enclave, HasShortBody};
-ghost use Rattle.bitvec_domain.specs.Slot.{slot_at};
 ghost use Rattle.bitvec_domain.specs.Loans.{is_inside, has_head, has_tail, words_before};
-ghost use Rattle.bitvec_domain.specs.Loans.{body_words, slots_of, lists_of, word_of_bit};
+ghost use Rattle.bitvec_domain.specs.Loans.{body_words, slots_of, slots_if, lists_of, word_of_bit};
 ghost use Rattle.bitvec_domain.specs.Loans.{filled_slot, filled_slot_if, filled_memory};
 ghost use Rattle.bitvec_domain.specs.Lending.{name_of};
 ghost use Rattle.bitvec_domain.specs.PartialElementMut.{memory_of, slot_in};
@@ -177,15 +175,8 @@ impl<R: BitRegister, O> BitSpan<R, O> {
             × (is_some pieces.back ≡ false) }
         ensures names { loan_names result ≡ names_of pieces.entry }
         ensures words { loan_words result ≡ piece_lists pieces.entry }
-        ensures slots { loan_slots result
-            ≡ (
-              (if is_some pieces.entry.front
-                  then Some (slot_at R.BITS (span_of self) 0 (nat_abs (span_of self).word)) else None),
-              is_some pieces.entry.body,
-              (if is_some pieces.entry.back
-                  then Some (slot_at R.BITS (span_of self)
-                  (words_met R.BITS (span_of self).head (span_of self).len - 1) 0) else None),
-            ) }
+        ensures slots { loan_slots result ≡ slots_if R.BITS (span_of self)
+            (is_some pieces.entry.front) (is_some pieces.entry.body) (is_some pieces.entry.back) }
     {
         let Pieces { front, body, back } = pieces;
         let head = match front {
@@ -337,9 +328,8 @@ impl<R: BitRegister, O: BitOrder<R>> BitSpan<R, O> {
         requires { Fits R.BITS (span_of self) (length memory.old) }
         ensures list { list_of R.BITS O.at_of (span_of self) (map R.number memory.new)
             ≡ replicate (span_of self).len bit }
-        ensures others { (place : ℕ) → ¬ Covers R.BITS (span_of self) (pos place)
-            → bit_of R.BITS O.at_of (map R.number memory.new) place
-            ≡ bit_of R.BITS O.at_of (map R.number memory.old) place }
+        ensures others { KeepsOthers R.BITS O.at_of (span_of self) (map R.number memory.old)
+            (map R.number memory.new) }
         ensures words { length memory.new ≡ length memory.old }
     {
         self.fill_pieces(memory, bit);

@@ -2,8 +2,7 @@
 
 ghost use Rattle.std.specs.Prelude.{◌≡◌, ℕ, pos, nat_abs, ◌+◌, ◌*◌, ◌≤◌, IfSome, Some, None};
 ghost use Rattle.std.specs.Prelude.{if◌then◌else◌, length, map};
-ghost use Rattle.bitvec_ptr.specs.Memory.{bit_of};
-ghost use Rattle.bitvec_domain.specs.Span.{Covers, Fits, list_of};
+ghost use Rattle.bitvec_domain.specs.Span.{Fits, list_of, KeepsOthers};
 ghost use Rattle.bitvec_domain.specs.Loans.{has_head, has_tail};
 ghost use Rattle.bitvec_domain.specs.Lending.{name_of};
 ghost use Rattle.bitvec_domain.specs.Pieces.{names_of};
@@ -151,9 +150,8 @@ impl<R: BitRegister, O: BitOrder<R>> BitSpan<R, O> {
         requires fits { Fits R.BITS (span_of self) (length memory.old) }
         requires len { length bits.now ≡ (span_of self).len }
         ensures list { list_of R.BITS O.at_of (span_of self) (map R.number memory.new) ≡ bits.now }
-        ensures others { (place : ℕ) → ¬ Covers R.BITS (span_of self) (pos place)
-            → bit_of R.BITS O.at_of (map R.number memory.new) place
-            ≡ bit_of R.BITS O.at_of (map R.number memory.old) place }
+        ensures others { KeepsOthers R.BITS O.at_of (span_of self) (map R.number memory.old)
+            (map R.number memory.new) }
         ensures words { length memory.new ≡ length memory.old }
     {
         let head = self.has_head();
