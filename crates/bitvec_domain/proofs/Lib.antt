@@ -15,6 +15,7 @@ pub mod PlacedLemmas
 pub mod PointerLemmas
 pub mod SameSpans
 pub mod SliceLemmas
+pub mod SplitLemmas
 pub mod StretchLemmas
 pub mod TextLemmas
 pub mod WordsLemmas

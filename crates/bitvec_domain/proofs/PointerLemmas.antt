@@ -26,7 +26,7 @@ quotient_up a b k some h =
 abbrev pub pointer_at : ℕ → Span → ℕ → Ptr
 pointer_at bits span i = record { word = span.word +ℤ pos ((span.head + i) / bits); bit = (span.head + i) % bits }
 
-index_from : (word : ℤ) (bits head i : ℕ) → pos 0 ≤ℤ word → nat_abs (word +ℤ pos ((head + i) / bits)) * bits + (head + i) % bits ≡ nat_abs word * bits + head + i
+pub index_from : (word : ℤ) (bits head i : ℕ) → pos 0 ≤ℤ word → nat_abs (word +ℤ pos ((head + i) / bits)) * bits + (head + i) % bits ≡ nat_abs word * bits + head + i
 index_from (pos w) bits head i from = let parts = div-add-mod' (head + i) bits in omega arith
 index_from (negsuc w) bits head i from = absurd (omega (arith, ints))
 

@@ -31,6 +31,11 @@ fn items<R: BitRegister, O: BitOrder<R>>(
     Ok(all)
 }
 
+// The word, the head and the length of a span.
+fn numbers<R: BitRegister, O>(span: BitSpan<R, O>) -> (isize, u8, usize) {
+    (span.address(), span.head().into_inner(), span.len())
+}
+
 #[test]
 fn gives_items_from_the_front(rt: HostRuntime) -> Result<(), Fail> {
     let memory = [0x12u8, 0x34, 0x56];
@@ -218,6 +223,23 @@ fn is_disjoint_where_no_bit_is_shared(rt: HostRuntime) -> Result<(), Fail> {
         let there = span_at(start, len).ok_or("refused")?;
         assert_eq!(rt; here.is_disjoint(&there), want, "at {start}+{len}");
         assert_eq!(rt; there.is_disjoint(&here), want, "at {start}+{len}");
+    }
+    Ok(())
+}
+
+#[test]
+fn is_split_in_two(rt: HostRuntime) -> Result<(), Fail> {
+    let span: BitSpan<u8, Lsb0> = span_at(2, 8).ok_or("refused")?;
+    for (mid, want, behind) in [
+        (0, (0, 2, 0), (0, 2, 8)),
+        (3, (0, 2, 3), (0, 5, 5)),
+        (6, (0, 2, 6), (1, 0, 2)),
+        (8, (0, 2, 8), (1, 2, 0)),
+    ] {
+        assert!(rt; mid <= span.len());
+        let (first, second) = span.split_at(mid);
+        assert_eq!(rt; numbers(first), want, "the bits before {mid}");
+        assert_eq!(rt; numbers(second), behind, "the bits from {mid} on");
     }
     Ok(())
 }

@@ -2,12 +2,13 @@
 
 ghost use Rattle.std.specs.Prelude.{◌≡◌, ⊤, ℕ, ℤ, pos, ◌+◌, ◌-◌, ◌*◌, ◌/◌, ◌%◌, ◌==◌};
 ghost use Rattle.std.specs.Prelude.{if◌then◌else◌, ◌+ℤ◌, ◌≤ℤ◌, ◌<ℤ◌, ◌<◌, ◌≤◌, ◌↔◌, IsTrue, IsOk};
-ghost use Rattle.std.specs.Prelude.{IfOk, ◌++◌, codes, Some};
+ghost use Rattle.std.specs.Prelude.{IfOk, List, ◌++◌, codes, Some};
 ghost use Rattle.std.specs.Int.{int_div_euclid};
 ghost use Rattle.std.specs.Fmt.{DisplaysOnOk, WritesStyledOnOk};
 ghost use Rattle.bitvec_ptr.specs.Place.{place_at, place_of, words_met, tail_of, greatest_isize};
 ghost use Rattle.bitvec_ptr.specs.Steps.{CanOffset, IsIn};
-ghost use Rattle.bitvec_domain.specs.Span.{region_max_bits, Fits, AreDisjoint, span_places};
+ghost use Rattle.bitvec_domain.specs.Span.{region_max_bits, Span, Fits, AreDisjoint};
+ghost use Rattle.bitvec_domain.specs.Span.{span_places, list_of};
 ghost use Rattle.bitvec_domain.specs.SpanText.{case_text};
 ghost use Rattle.bitvec_domain.specs.Refusals.{signed_text, too_long_text, too_high_text};
 ghost use Rattle.bitvec_domain.specs.Refusals.{error_name, too_long_case, too_high_case};
@@ -346,6 +347,74 @@ impl<R: BitRegister, O> BitSpan<R, O> {
         ensures places { places_of R.BITS (range_of result) ≡ span_places R.BITS (span_of self) }
     {
         self.to_bitptr().range(self.len)
+    }
+
+    // The first `mid` bits of the span.
+    fn bits_before(self, mid: usize) -> Self
+        requires { mid ≤ (span_of self).len }
+        ensures { span_of result
+            ≡ record { word = (span_of self).word; head = (span_of self).head; len = mid } }
+    {
+        BitSpan {
+            word: self.word,
+            head: self.head,
+            len: mid,
+            of: PhantomData,
+        }
+    }
+
+    // The bits of the span from its bit `mid` on; none where that is its end.
+    fn bits_from(self, mid: usize) -> Self
+        requires { mid ≤ (span_of self).len }
+        ensures { span_of result
+            ≡ record {
+              word = (span_of self).word +ℤ pos (((span_of self).head + mid) / R.BITS);
+              head =
+                  ((span_of self).head + mid) % R.BITS;
+              len = (span_of self).len - mid;
+            } }
+    {
+        let start = self.to_bitptr().add(mid);
+        BitSpan {
+            word: start.address(),
+            head: start.bit().into_inner(),
+            len: self.len - mid,
+            of: PhantomData,
+        }
+    }
+
+    /// The first `mid` bits of the span, and the bits behind them.
+    ///
+    /// Requires at most the length. At `u8`, the 8 bits from bit 2 of word 0 on, split at 3, are
+    /// the 3 bits there and the 5 from bit 5 on; split at 6, the second part starts at bit 0 of
+    /// word 1; and split at 8, it has no bits, at bit 2 of that word. Both parts lie in each memory
+    /// that the span [`fits`](BitSpan::fits), where their lists of bits, joined, are the span's.
+    /// Our own.
+    pub fn split_at(self, mid: usize) -> (Self, Self)
+        requires { mid ≤ (span_of self).len }
+        ensures first { span_of result.0
+            ≡ record { word = (span_of self).word; head = (span_of self).head; len = mid } }
+        ensures second { span_of result.1
+            ≡ record {
+              word = (span_of self).word +ℤ pos (((span_of self).head + mid) / R.BITS);
+              head =
+                  ((span_of self).head + mid) % R.BITS;
+              len = (span_of self).len - mid;
+            } }
+        ensures disjoint { AreDisjoint R.BITS (span_of result.0) (span_of result.1) }
+        ensures fit { (words : ℕ) → Fits R.BITS (span_of self) words
+            → Fits R.BITS (span_of result.0) words × Fits R.BITS (span_of result.1) words }
+        ensures lists { (at : ℕ → ℕ) (words : List ℕ) → pos 0 ≤ℤ (span_of self).word
+            → list_of R.BITS at (span_of result.0) words
+            ++ list_of R.BITS at (span_of result.1) words
+            ≡ list_of R.BITS at (span_of self) words }
+        ensures apart { (other : Span) → AreDisjoint R.BITS (span_of self) other
+            → AreDisjoint R.BITS (span_of result.0) other
+            × AreDisjoint R.BITS (span_of result.1) other }
+    {
+        let first = self.bits_before(mid);
+        let second = self.bits_from(mid);
+        (first, second)
     }
 
     /// How many words the span meets, 0 for an empty one whatever its head.
