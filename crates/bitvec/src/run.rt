@@ -81,6 +81,16 @@ fn neighbours_apart<R: BitRegister, O>(spans: &[BitSpan<R, O>]) -> Option<bool>
 /// Spans whose places rise, each that has bits behind the one before it that has, take one pass,
 /// and so do those that meet a neighbour in it; spans in no order are tested each with each. Our
 /// own.
+///
+/// # Examples
+///
+/// ```
+/// let low: BitSpan<u8, Lsb0> = BitSpan::new(0, BitIdx::new_unchecked(0), 3).unwrap();
+/// let high = BitSpan::new(0, BitIdx::new_unchecked(3), 5).unwrap();
+/// assert!(rt; can_run(&[low, high], 1));
+/// assert!(rt; !can_run(&[low, high], 0));
+/// assert!(rt; !can_run(&[low, low], 1));
+/// ```
 pub fn can_run<R: BitRegister, O>(spans: &[BitSpan<R, O>], words: usize) -> bool
     ensures { IsTrue result ↔ CanRun R.BITS span_of spans.now words }
 {
@@ -118,6 +128,20 @@ fn serve<R: BitRegister, O: BitOrder<R>>(
 /// alone; a request that names no span gets [`Reply::NoSpan`]. In the end each span has the list
 /// that its commands leave, and every other bit of the memory is as before. A refused command
 /// changes nothing. Our own.
+///
+/// # Examples
+///
+/// ```
+/// let low: BitSpan<u8, Lsb0> = BitSpan::new(0, BitIdx::new_unchecked(0), 3).unwrap();
+/// let high = BitSpan::new(0, BitIdx::new_unchecked(3), 5).unwrap();
+/// let mut memory = [0x5Au8];
+/// let command = Command::Invert(0);
+/// let requests = [Request { span: 0, command }, Request { span: 1, command }];
+/// let mut replies = [Reply::NoSpan; 2];
+/// run(&[low, high], &mut memory, &requests, &mut replies);
+/// assert_eq!(rt; replies, [Reply::Word(0x02), Reply::Word(0x58)]);
+/// assert_eq!(rt; memory, [0xA5]);
+/// ```
 pub fn run<R: BitRegister, O: BitOrder<R>>(
     spans: &[BitSpan<R, O>],
     memory: &mut [R],

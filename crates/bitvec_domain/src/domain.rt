@@ -34,6 +34,16 @@ pub use self::domain_mut::DomainMut;
 pub use self::partial_element_mut::PartialElementMut;
 
 /// Some bits of one word: those with indices from a head to before a tail.
+///
+/// # Examples
+///
+/// ```
+/// let memory = [0x12u8, 0x34];
+/// let span: BitSpan<u8, Lsb0> = BitSpan::new(0, BitIdx::new_unchecked(4), 8).unwrap();
+/// let part = span.part(&memory, 1);
+/// assert_eq!(rt; part.mask().into_inner(), 0x0F);
+/// assert_eq!(rt; part.load_value(), 0x04);
+/// ```
 #[derive_where(Debug)]
 pub struct PartialElement<'a, R: BitRegister, O> {
     elem: &'a [R],
@@ -123,6 +133,17 @@ impl<'a, R: BitRegister, O: BitOrder<R>> PartialElement<'a, R, O> {
 
 /// The words that a span meets: one part of a word, or whole words with perhaps a part before them
 /// and perhaps a part behind them.
+///
+/// # Examples
+///
+/// ```
+/// let memory = [0x12u8, 0x34, 0x56];
+/// let span: BitSpan<u8, Lsb0> = BitSpan::new(0, BitIdx::new_unchecked(4), 16).unwrap();
+/// let (head, body, tail) = span.domain(&memory).region().ok_or("an enclave")?;
+/// assert_eq!(rt; head.ok_or("no head")?.load_value(), 0x10);
+/// assert_eq!(rt; body, [0x34].as_slice());
+/// assert_eq!(rt; tail.ok_or("no tail")?.load_value(), 0x06);
+/// ```
 #[derive_where(Debug)]
 pub enum Domain<'a, R: BitRegister = usize, O = Lsb0> {
     /// Some bits of one word, with neither its first nor its last.
@@ -309,6 +330,18 @@ impl<R: BitRegister, O: BitOrder<R>> BitSpan<R, O> {
     /// The words and parts of words of a memory that the span meets.
     ///
     /// An empty span has the empty domain; there the Rust crate may answer an enclave.
+    ///
+    /// # Examples
+    ///
+    /// ```
+    /// let memory = [0x12u8, 0x34, 0x56];
+    /// let span: BitSpan<u8, Lsb0> = BitSpan::new(0, BitIdx::new_unchecked(4), 16).unwrap();
+    /// let mut domain = span.domain(&memory);
+    /// assert_eq!(rt; domain.next(), Some(0x10));
+    /// assert_eq!(rt; domain.next(), Some(0x34));
+    /// assert_eq!(rt; domain.next(), Some(0x06));
+    /// assert_eq!(rt; domain.next(), None);
+    /// ```
     pub fn domain<'a>(self, memory: &'a [R]) -> Domain<'a, R, O>
         requires { Fits R.BITS (span_of self) (length memory.now) }
         ensures parts { domain_parts R.number result

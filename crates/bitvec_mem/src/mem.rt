@@ -18,6 +18,15 @@ use std::hash::Hash;
 ///
 /// Each function says its result digit by digit, so code that is generic in the register needs
 /// nothing else. In the Rust crate the trait stands for the processor's register types.
+///
+/// # Examples
+///
+/// ```
+/// assert_eq!(rt; <u16 as BitRegister>::BITS, 16);
+/// assert_eq!(rt; 0x0F0Fu16.and(0x00FF), 0x000F);
+/// assert_eq!(rt; 0x0F0Fu16.shl(4), 0xF0F0);
+/// assert_eq!(rt; u16::from_u128(0x1_0000), None);
+/// ```
 pub trait BitRegister: Copy + Default + Eq + Ord + Hash + Debug {
     /// The width in bits, a power of two from 8 to 128.
     const BITS: u8;
@@ -179,6 +188,14 @@ pub const fn elts<R: BitRegister>(bits: usize) -> usize
 ///
 /// It is copied, compared, hashed and made by default as its `elem` is. In the Rust crate it stands
 /// for atomic and shared words too.
+///
+/// # Examples
+///
+/// ```
+/// let mut element = BitElement::new(0x0Fu8);
+/// element.elem = element.elem.not();
+/// assert_eq!(rt; element.elem, 0xF0);
+/// ```
 #[derive(Copy, PartialEq, Eq, PartialOrd, Ord, Hash, Default, Debug)]
 pub struct BitElement<R: BitRegister = usize> {
     /// The word.

@@ -37,6 +37,14 @@ pub trait Limits: Sized {
 }
 
 /// The index of a bit in a register, from 0 to `MASK`.
+///
+/// # Examples
+///
+/// ```
+/// let last = BitIdx::<u8>::new_unchecked(7);
+/// assert_eq!(rt; last.next(), (BitIdx::MIN, true));
+/// assert_eq!(rt; last.offset(-9), (-1, BitIdx::new_unchecked(6)));
+/// ```
 #[derive(Clone, Copy, PartialEq, Eq, PartialOrd, Ord, Hash, Default)]
 pub struct BitIdx<R: BitRegister = usize> {
     idx: u8,
@@ -71,6 +79,14 @@ impl<R: BitRegister> Limits for BitIdx<R> {
 
 impl<R: BitRegister> BitIdx<R> {
     /// The index `idx`; refuses a number that is not below the width, and the error holds it.
+    ///
+    /// # Examples
+    ///
+    /// ```
+    /// assert!(rt; BitIdx::<u8>::new(7).is_ok());
+    /// assert!(rt; BitIdx::<u8>::new(8).is_err());
+    /// assert!(rt; BitIdx::<u16>::new(8).is_ok());
+    /// ```
     pub fn new(idx: u8) -> Result<Self, BitIdxError<R>>
         ensures accepted { IsOk result ↔ (idx < R.BITS) }
         ensures refused { IsErr result ↔ (R.BITS ≤ idx) }
@@ -176,6 +192,14 @@ impl<R: BitRegister> BitIdx<R> {
 }
 
 /// A number that is no index of a register, since it is at least the width.
+///
+/// # Examples
+///
+/// ```
+/// let refused = BitIdx::<u8>::new(8);
+/// let error = refused.err().ok_or("8 is below the width")?;
+/// assert_eq!(rt; error.into_inner(), 8);
+/// ```
 #[derive(Clone, Copy, PartialEq, Eq, PartialOrd, Ord, Hash)]
 pub struct BitIdxError<R: BitRegister = usize> {
     err: u8,
@@ -203,6 +227,15 @@ impl<R: BitRegister> BitIdxError<R> {
 }
 
 /// The end of a range of indices of a register, from 0 to the width inclusive.
+///
+/// # Examples
+///
+/// ```
+/// let head = BitIdx::<u8>::new_unchecked(5);
+/// let (words, end) = head.span(6);
+/// assert_eq!(rt; words, 2);
+/// assert_eq!(rt; end.into_inner(), 3);
+/// ```
 #[derive(Clone, Copy, PartialEq, Eq, PartialOrd, Ord, Hash, Default)]
 pub struct BitEnd<R: BitRegister = usize> {
     end: u8,
@@ -288,6 +321,15 @@ impl<R: BitRegister> BitEnd<R> {
 }
 
 /// The position of a digit in a register, from 0 to `MASK`.
+///
+/// # Examples
+///
+/// ```
+/// let index = BitIdx::<u8>::new_unchecked(3);
+/// let position: BitPos<u8> = index.position::<Msb0>();
+/// assert_eq!(rt; position.into_inner(), 4);
+/// assert_eq!(rt; position.select().into_inner(), 0x10);
+/// ```
 #[derive(Clone, Copy, PartialEq, Eq, PartialOrd, Ord, Hash, Default)]
 pub struct BitPos<R: BitRegister = usize> {
     pos: u8,
@@ -376,6 +418,14 @@ impl<R: BitRegister> BitPos<R> {
 }
 
 /// A number of a register with one digit set: the selector of a position.
+///
+/// # Examples
+///
+/// ```
+/// let selector: BitSel<u8> = BitIdx::new_unchecked(3).select::<Lsb0>();
+/// assert_eq!(rt; selector.into_inner(), 0x08);
+/// assert!(rt; BitSel::<u8>::new(0x18).is_none());
+/// ```
 #[derive(Copy, PartialEq, Eq, PartialOrd, Ord, Hash)]
 pub struct BitSel<R: BitRegister = usize> {
     sel: R,
@@ -448,6 +498,17 @@ impl<R: BitRegister> BitSel<R> {
 }
 
 /// A set of positions of a register, as the number whose ones stand there.
+///
+/// # Examples
+///
+/// ```
+/// let mut mask = BitMask::<u8>::ZERO;
+/// mask.insert(BitIdx::new_unchecked(2).select::<Lsb0>());
+/// mask.insert(BitIdx::new_unchecked(0).select::<Msb0>());
+/// assert_eq!(rt; mask.into_inner(), 0x84);
+/// assert!(rt; mask.test(BitIdx::new_unchecked(7).select::<Lsb0>()));
+/// assert_eq!(rt; (!mask).into_inner(), 0x7B);
+/// ```
 #[derive(Copy, PartialEq, Eq, PartialOrd, Ord, Hash, Default)]
 pub struct BitMask<R: BitRegister = usize> {
     mask: R,

@@ -20,6 +20,28 @@ use std::alloc::AllocError;
 /// given.
 ///
 /// Our own: the Rust crate panics there.
+///
+/// # Examples
+///
+/// Positions that are all 0, and their fault:
+///
+/// ```
+/// struct Constant;
+///
+/// impl<R: BitRegister> Positions<R> for Constant {
+///     ghost at_of = { λ i. 0 };
+///
+///     fn position(_index: u8) -> u8 {
+///         0
+///     }
+/// }
+/// ```
+///
+/// ```
+/// let fault = verify_for_type::<u8, ByPosition<Constant>>().err();
+/// let (index, position) = (BitIdx::new_unchecked(1), BitPos::MIN);
+/// assert_eq!(rt; fault, Some(OrderFault::Repeated { index, position }));
+/// ```
 #[derive(Copy, PartialEq, Eq, Debug)]
 pub enum OrderFault<R: BitRegister> {
     /// The selector of `index` is `got`, and two to the power of its position is `want`.
@@ -54,6 +76,17 @@ impl<R: BitRegister> Clone for OrderFault<R> {
 }
 
 /// The first register where a candidate is not a lawful order, with its fault there. Our own.
+///
+/// # Examples
+///
+/// With the positions `Constant` of the example of [`OrderFault`]:
+///
+/// ```
+/// let fault = verify::<ByPosition<Constant>>().err();
+/// let (index, position) = (BitIdx::new_unchecked(1), BitPos::MIN);
+/// let repeated = OrderFault::Repeated { index, position };
+/// assert_eq!(rt; fault, Some(VerifyFault::U8(repeated)));
+/// ```
 #[derive(Copy, PartialEq, Eq, Debug)]
 pub enum VerifyFault {
     /// At `u8`.
@@ -194,6 +227,16 @@ fn scan<R: BitRegister, O: OrderCandidate<R>>() -> Result<(), OrderFault<R>>
 /// the ends from there to the width; then both bounds absent, an absent end for each start, and an
 /// absent start for each end. The Rust crate panics at a fault, prints on demand and tests no
 /// absent bound.
+///
+/// # Examples
+///
+/// With the positions `Constant` of the example of [`OrderFault`]:
+///
+/// ```
+/// assert!(rt; verify_for_type::<u32, Lsb0>().is_ok());
+/// assert!(rt; verify_for_type::<u32, Msb0>().is_ok());
+/// assert!(rt; verify_for_type::<u32, ByPosition<Constant>>().is_err());
+/// ```
 pub fn verify_for_type<R: BitRegister, O: OrderCandidate<R>>() -> Result<(), OrderFault<R>>
     ensures lawful { IsOk result ↔ IsLawful (candidate R.BITS O.at_of O.select_of O.mask_of) }
     ensures first { let c = candidate R.BITS O.at_of O.select_of O.mask_of in

@@ -6,6 +6,8 @@ mod copies;
 #[cfg(test)]
 mod ends;
 #[cfg(test)]
+mod examples;
+#[cfg(test)]
 mod pointer_laws;
 #[cfg(test)]
 mod pointers;

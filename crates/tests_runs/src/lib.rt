@@ -4,6 +4,8 @@
 #[cfg(test)]
 mod domains;
 #[cfg(test)]
+mod examples;
+#[cfg(test)]
 mod laws;
 #[cfg(test)]
 mod run;

@@ -4,6 +4,19 @@
 ///
 /// A `k` counts the words that the span meets, from 0 on; a bit is named by its place in the span,
 /// from 0 to before the span's length. Which commands are refused, [`Reply::PastEnd`] says.
+///
+/// # Examples
+///
+/// ```
+/// let span: BitSpan<u8, Lsb0> = BitSpan::new(0, BitIdx::new_unchecked(1), 6).unwrap();
+/// let mut memory = [0x9Bu8];
+/// let command = Command::Store(0, 0x24);
+/// let requests = [Request { span: 0, command }];
+/// let mut replies = [Reply::NoSpan];
+/// run(&[span], &mut memory, &requests, &mut replies);
+/// assert_eq!(rt; replies, [Reply::Word(0x1A)]);
+/// assert_eq!(rt; memory, [0xA5]);
+/// ```
 #[derive(Clone, Copy, PartialEq, Eq, Debug)]
 pub enum Command<R> {
     /// Returns the span's bits in its word `k`, each as the digit that it has there, and all others
@@ -36,6 +49,19 @@ pub enum Command<R> {
 }
 
 /// A command to the span of a number, from 0 on. Our own.
+///
+/// # Examples
+///
+/// ```
+/// let low: BitSpan<u8, Lsb0> = BitSpan::new(0, BitIdx::new_unchecked(0), 3).unwrap();
+/// let high = BitSpan::new(0, BitIdx::new_unchecked(3), 5).unwrap();
+/// let mut memory = [0xFAu8];
+/// let command = Command::Clear(0);
+/// let requests = [Request { span: 1, command }];
+/// let mut replies = [Reply::NoSpan];
+/// run(&[low, high], &mut memory, &requests, &mut replies);
+/// assert_eq!(rt; memory, [0x02]);
+/// ```
 #[derive(Clone, Copy, PartialEq, Eq, Debug)]
 pub struct Request<R> {
     /// The number of the span in the list of spans.
@@ -45,6 +71,18 @@ pub struct Request<R> {
 }
 
 /// The reply to a request. Our own.
+///
+/// # Examples
+///
+/// ```
+/// let span: BitSpan<u8, Lsb0> = BitSpan::new(0, BitIdx::new_unchecked(4), 8).unwrap();
+/// let mut memory = [0x12u8, 0x34];
+/// let command = Command::Load(1);
+/// let requests = [Request { span: 0, command }, Request { span: 1, command }];
+/// let mut replies = [Reply::NoSpan; 2];
+/// run(&[span], &mut memory, &requests, &mut replies);
+/// assert_eq!(rt; replies, [Reply::Word(0x04), Reply::NoSpan]);
+/// ```
 #[derive(Clone, Copy, PartialEq, Eq, Debug)]
 pub enum Reply<R> {
     /// A word, to `Load`, `Store`, `Set`, `Clear` and `Invert`.

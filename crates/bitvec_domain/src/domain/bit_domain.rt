@@ -15,6 +15,28 @@ use std::alloc::AllocError;
 
 /// The bits that a span has in the words of a memory: one stretch of them, or those of a head, of
 /// whole words and of a tail.
+///
+/// # Examples
+///
+/// How many bits of a span stand in whole words:
+///
+/// ```
+/// fn whole_bits<R: BitRegister, O: BitOrder<R>>(span: BitSpan<R, O>, memory: &[R]) -> usize {
+///     if !span.fits(memory.len()) {
+///         return 0;
+///     }
+///     match span.bit_domain(memory) {
+///         BitDomain::Enclave(_) => 0,
+///         BitDomain::Region { body, .. } => body.len(),
+///     }
+/// }
+/// ```
+///
+/// ```
+/// let memory = [0x12u8, 0x34, 0x56];
+/// let span: BitSpan<u8, Lsb0> = BitSpan::new(0, BitIdx::new_unchecked(4), 14).unwrap();
+/// assert_eq!(rt; whole_bits(span, &memory), 8);
+/// ```
 #[derive_where(Debug)]
 pub enum BitDomain<'a, R: BitRegister = usize, O = Lsb0> {
     /// Bits of one word, with neither its first nor its last.

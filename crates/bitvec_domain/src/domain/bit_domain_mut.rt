@@ -22,6 +22,29 @@ use std::marker::PhantomData;
 /// those of a head, of whole words and of a tail.
 ///
 /// Our own, for the Rust crate's `BitDomain` over a mutable memory.
+///
+/// # Examples
+///
+/// The first bit is made one, of a span that has neither the first nor the last of its one word:
+///
+/// ```
+/// fn set_first<R: BitRegister, O: BitOrder<R>>(span: BitSpan<R, O>, memory: &mut [R]) {
+///     if span.fits(memory.len()) {
+///         if let Some(mut bits) = span.bit_domain_mut(memory).enclave() {
+///             if !bits.is_empty() {
+///                 bits.replace(0, true);
+///             }
+///         }
+///     }
+/// }
+/// ```
+///
+/// ```
+/// let mut memory = [0x12u8, 0x34];
+/// let span: BitSpan<u8, Lsb0> = BitSpan::new(0, BitIdx::new_unchecked(2), 4).unwrap();
+/// set_first(span, &mut memory);
+/// assert_eq!(rt; memory, [0x16, 0x34]);
+/// ```
 #[derive(Drop)]
 #[derive_where(Debug)]
 pub enum BitDomainMut<'a, R: BitRegister = usize, O = Lsb0> {

@@ -21,6 +21,17 @@ use std::marker::PhantomData;
 /// of them, and how many bits there are.
 ///
 /// Our own, for the Rust crate's bit slices.
+///
+/// # Examples
+///
+/// ```
+/// let memory = [0x12u8, 0x34];
+/// let span: BitSpan<u8, Lsb0> = BitSpan::new(0, BitIdx::new_unchecked(4), 8).unwrap();
+/// let bits = span.part(&memory, 0).into_bitslice();
+/// assert!(rt; bits.len() == 4);
+/// assert_eq!(rt; bits.read(0), true);
+/// assert_eq!(rt; bits.read(3), false);
+/// ```
 #[derive_where(Debug)]
 pub struct BitWords<'a, R: BitRegister, O> {
     words: &'a [R],

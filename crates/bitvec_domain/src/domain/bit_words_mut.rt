@@ -19,6 +19,18 @@ use std::marker::PhantomData;
 ///
 /// It borrows the memory in which the words lie, and changes these bits alone. Our own, for the
 /// Rust crate's mutable bit slices.
+///
+/// # Examples
+///
+/// ```
+/// let mut memory = [0x12u8, 0x34];
+/// let span: BitSpan<u8, Lsb0> = BitSpan::new(0, BitIdx::new_unchecked(4), 8).unwrap();
+/// let mut bits = span.part_mut(&mut memory, 0).into_bitslice();
+/// assert!(rt; bits.len() == 4);
+/// assert_eq!(rt; bits.replace(3, true), false);
+/// drop(bits);
+/// assert_eq!(rt; memory, [0x92, 0x34]);
+/// ```
 #[derive_where(Debug)]
 pub struct BitWordsMut<'a, R: BitRegister, O> {
     pub(super) memory: &'a mut [R],

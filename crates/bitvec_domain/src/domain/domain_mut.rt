@@ -27,6 +27,17 @@ use bitvec_order::order::{BitOrder, Lsb0};
 /// perhaps a part before them and perhaps a part behind them.
 ///
 /// Our own, for the Rust crate's `Domain` over a mutable memory.
+///
+/// # Examples
+///
+/// ```
+/// let mut memory = [0x12u8, 0x34];
+/// let span: BitSpan<u8, Lsb0> = BitSpan::new(0, BitIdx::new_unchecked(2), 4).unwrap();
+/// let mut part = span.domain_mut(&mut memory).enclave().ok_or("a region")?;
+/// assert_eq!(rt; part.invert(), 0x10);
+/// drop(part);
+/// assert_eq!(rt; memory, [0x2E, 0x34]);
+/// ```
 #[derive(Drop)]
 #[derive_where(Debug)]
 pub enum DomainMut<'a, R: BitRegister = usize, O = Lsb0> {
@@ -324,6 +335,15 @@ impl<R: BitRegister, O: BitOrder<R>> BitSpan<R, O> {
     /// Makes each bit of the span in a memory the same, and leaves every other bit as it is.
     ///
     /// Requires a span that [`fits`](BitSpan::fits). Our own.
+    ///
+    /// # Examples
+    ///
+    /// ```
+    /// let mut memory = [0x12u8, 0x34, 0x56];
+    /// let span: BitSpan<u8, Lsb0> = BitSpan::new(0, BitIdx::new_unchecked(4), 12).unwrap();
+    /// span.fill(&mut memory, true);
+    /// assert_eq!(rt; memory, [0xF2, 0xFF, 0x56]);
+    /// ```
     pub fn fill(self, memory: &mut [R], bit: bool)
         requires { Fits R.BITS (span_of self) (length memory.old) }
         ensures list { list_of R.BITS O.at_of (span_of self) (map R.number memory.new)

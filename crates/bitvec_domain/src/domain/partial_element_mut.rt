@@ -22,6 +22,17 @@ use std::marker::PhantomData;
 ///
 /// It borrows the memory in which the word lies, and changes that word alone. Our own, for the Rust
 /// crate's `PartialElement` over a mutable word.
+///
+/// # Examples
+///
+/// ```
+/// let mut memory = [0x12u8, 0x34];
+/// let span: BitSpan<u8, Lsb0> = BitSpan::new(0, BitIdx::new_unchecked(4), 8).unwrap();
+/// let mut part = span.part_mut(&mut memory, 0);
+/// assert_eq!(rt; part.store_value(0xAB), 0x10);
+/// drop(part);
+/// assert_eq!(rt; memory, [0xA2, 0x34]);
+/// ```
 #[derive_where(Debug)]
 pub struct PartialElementMut<'a, R: BitRegister, O> {
     memory: &'a mut [R],

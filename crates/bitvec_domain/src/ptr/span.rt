@@ -25,6 +25,16 @@ use std::fmt;
 use std::marker::PhantomData;
 
 /// Why there is no span of so many bits from a place on.
+///
+/// # Examples
+///
+/// ```
+/// let head = BitIdx::<u8>::new_unchecked(7);
+/// let long = BitSpan::<u8, Lsb0>::new(0, head, usize::MAX);
+/// assert!(rt; long == Err(BitSpanError::TooLong(usize::MAX)));
+/// let high = BitSpan::<u8, Lsb0>::new(isize::MAX, head, 1);
+/// assert!(rt; high == Err(BitSpanError::TooHigh(isize::MAX, PhantomData)));
+/// ```
 #[derive_where(Clone, Copy, PartialEq, Eq, PartialOrd, Ord, Hash)]
 pub enum BitSpanError<R> {
     /// The number of bits, which passes the greatest length of a span.
@@ -147,6 +157,16 @@ impl<R: BitRegister> Error for BitSpanError<R> {}
 ///
 /// A span names bits and holds none: it is handed the memory to each call that reads it. Its word
 /// index may be negative or past any memory; [`fits`](BitSpan::fits) tests that it lies in one.
+///
+/// # Examples
+///
+/// ```
+/// let memory = [0xC0u8, 0x01];
+/// let span: BitSpan<u8, Lsb0> = BitSpan::new(0, BitIdx::new_unchecked(6), 4).unwrap();
+/// assert_eq!(rt; (span.elements(), span.tail().into_inner()), (2, 2));
+/// assert_eq!(rt; span.bitptr(2).read(&memory), true);
+/// assert_eq!(rt; span.bitptr(3).read(&memory), false);
+/// ```
 #[derive_where(Copy, PartialEq, Eq, Debug)]
 pub struct BitSpan<R: BitRegister = usize, O = Lsb0> {
     word: isize,
@@ -223,6 +243,15 @@ impl<R: BitRegister, O> BitSpan<R, O> {
     /// It refuses, in this order: `TooLong(bits)` where there are more than 2305843009213693951,
     /// and `TooHigh(word)` where the word in which the span ends passes the greatest `isize`. The
     /// bounds are the Rust crate's; there the second is an address that wraps.
+    ///
+    /// # Examples
+    ///
+    /// ```
+    /// let head = BitIdx::<u8>::new_unchecked(7);
+    /// assert!(rt; BitSpan::<u8, Lsb0>::new(0, head, 12).is_ok());
+    /// assert!(rt; BitSpan::<u8, Lsb0>::new(0, head, usize::MAX).is_err());
+    /// assert!(rt; BitSpan::<u8, Lsb0>::new(isize::MAX, head, 1).is_err());
+    /// ```
     pub fn new(word: isize, head: BitIdx<R>, bits: usize) -> Result<Self, BitSpanError<R>>
         ensures accepted { IsOk result
             ↔ ((bits ≤ region_max_bits)
@@ -437,6 +466,14 @@ impl<R: BitRegister, O> BitSpan<R, O> {
     /// Whether the words that the span meets are among the first `words` of a memory. For an empty
     /// span, which meets no word, it is whether its word is from 0 to `words`, so that the place
     /// behind the last word is let in. Our own.
+    ///
+    /// # Examples
+    ///
+    /// ```
+    /// let span: BitSpan<u8, Lsb0> = BitSpan::new(1, BitIdx::new_unchecked(4), 8).unwrap();
+    /// assert!(rt; span.fits(3));
+    /// assert!(rt; !span.fits(2));
+    /// ```
     pub fn fits(&self, words: usize) -> bool
         ensures { IsTrue result ↔ Fits R.BITS (span_of self.now) words }
     {

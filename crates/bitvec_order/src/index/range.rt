@@ -12,6 +12,15 @@ use std::iter::FusedIterator;
 use std::marker::{Model, PhantomData};
 
 /// Indices of a register in rising order, from [`BitIdx::range`] or [`BitIdx::range_all`].
+///
+/// # Examples
+///
+/// ```
+/// let mut indices = BitIdx::<u8>::new_unchecked(3).range(BitEnd::new_unchecked(5));
+/// assert_eq!(rt; indices.next(), Some(BitIdx::new_unchecked(3)));
+/// assert_eq!(rt; indices.next(), Some(BitIdx::new_unchecked(4)));
+/// assert_eq!(rt; indices.next(), None);
+/// ```
 #[derive(Drop)]
 pub struct IdxRange<R: BitRegister> {
     from: u8,
@@ -100,6 +109,15 @@ impl<R: BitRegister> ExactSizeIterator for IdxRange<R> {
 impl<R: BitRegister> FusedIterator for IdxRange<R> {}
 
 /// Ends of a register in rising order, from [`BitEnd::range_from`].
+///
+/// # Examples
+///
+/// ```
+/// let mut ends = BitEnd::<u8>::range_from(BitIdx::new_unchecked(7));
+/// assert_eq!(rt; ends.next(), Some(BitEnd::new_unchecked(7)));
+/// assert_eq!(rt; ends.next(), Some(BitEnd::new_unchecked(8)));
+/// assert_eq!(rt; ends.next(), None);
+/// ```
 #[derive(Drop)]
 pub struct EndRange<R: BitRegister> {
     from: u8,
@@ -177,6 +195,15 @@ impl<R: BitRegister> ExactSizeIterator for EndRange<R> {
 impl<R: BitRegister> FusedIterator for EndRange<R> {}
 
 /// Positions of a register in rising order, from [`BitPos::range_all`].
+///
+/// # Examples
+///
+/// ```
+/// let mut positions = BitPos::<u16>::range_all();
+/// assert_eq!(rt; positions.len(), 16);
+/// assert_eq!(rt; positions.next(), Some(BitPos::MIN));
+/// assert_eq!(rt; positions.next_back(), Some(BitPos::MAX));
+/// ```
 #[derive(Drop)]
 pub struct PosRange<R: BitRegister> {
     indices: IdxRange<R>,
@@ -240,6 +267,15 @@ impl<R: BitRegister> ExactSizeIterator for PosRange<R> {
 impl<R: BitRegister> FusedIterator for PosRange<R> {}
 
 /// Selectors of a register by rising position, from [`BitSel::range_all`].
+///
+/// # Examples
+///
+/// ```
+/// let mut selectors = BitSel::<u8>::range_all();
+/// assert_eq!(rt; selectors.next(), Some(BitSel::new_unchecked(0x01)));
+/// assert_eq!(rt; selectors.next(), Some(BitSel::new_unchecked(0x02)));
+/// assert_eq!(rt; selectors.next_back(), Some(BitSel::new_unchecked(0x80)));
+/// ```
 #[derive(Drop)]
 pub struct SelRange<R: BitRegister> {
     positions: PosRange<R>,

@@ -117,6 +117,17 @@ impl<R: BitRegister, O: BitOrder<R>> BitPtr<R, O> {
     ///
     /// Bit j of the one range becomes bit j of the other, whatever their registers and orders are.
     /// As in the Rust crate, but for two memories that are handed in, and for any two registers.
+    ///
+    /// # Examples
+    ///
+    /// ```
+    /// let memory = [0x2Cu8];
+    /// let mut target = [0u16];
+    /// let from: BitPtr<u8, Lsb0> = BitPtr::new(0, BitIdx::new_unchecked(2));
+    /// let dest: BitPtr<u16, Msb0> = BitPtr::new(0, BitIdx::new_unchecked(4));
+    /// from.copy_to(&memory, dest, &mut target, 4);
+    /// assert_eq!(rt; target, [0x0D00]);
+    /// ```
     pub fn copy_to<R2: BitRegister, O2: BitOrder<R2>>(
         self,
         memory: &[R],

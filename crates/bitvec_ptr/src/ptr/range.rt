@@ -21,6 +21,16 @@ use std::ops::{Bound, Range};
 ///
 /// The start is not past the end, and their distance is an `isize`. As an iterator it takes its
 /// pointers from both ends.
+///
+/// # Examples
+///
+/// ```
+/// let last: BitPtr<u8, Lsb0> = BitPtr::new(0, BitIdx::new_unchecked(7));
+/// let mut range = last.range(2);
+/// assert!(rt; range.next() == Some(last));
+/// assert!(rt; range.next() == Some(BitPtr::new(1, BitIdx::new_unchecked(0))));
+/// assert!(rt; range.next().is_none());
+/// ```
 #[derive(Drop)]
 #[derive_where(PartialEq, Eq, Hash, Debug)]
 pub struct BitPtrRange<R: BitRegister = usize, O = Lsb0> {

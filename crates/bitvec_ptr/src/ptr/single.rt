@@ -21,6 +21,16 @@ use std::marker::PhantomData;
 /// Its word index may be negative or past any memory; [`is_in`](BitPtr::is_in) tests that it lies
 /// in one. Its place is the whole number of its word times the width, plus its bit, and pointers
 /// compare as their places do.
+///
+/// # Examples
+///
+/// ```
+/// let first: BitPtr<u8, Lsb0> = BitPtr::new(0, BitIdx::new_unchecked(6));
+/// let next = first.add(3);
+/// assert_eq!(rt; next.address(), 1);
+/// assert_eq!(rt; next.bit().into_inner(), 1);
+/// assert!(rt; next.is_in(2) && !next.is_in(1));
+/// ```
 #[derive_where(Copy, PartialEq, Eq, PartialOrd, Ord, Hash, Debug)]
 pub struct BitPtr<R: BitRegister = usize, O = Lsb0> {
     word: isize,
@@ -316,6 +326,16 @@ impl<R: BitRegister, O: BitOrder<R>> BitPtr<R, O> {
     ghost use Rattle.bitvec_ptr.specs.BitPtr.{ptr_of};
 
     /// The pointer's bit in a memory that has its word: [`is_in`](BitPtr::is_in) is the test.
+    ///
+    /// # Examples
+    ///
+    /// ```
+    /// let memory = [0x0Du8, 0x80];
+    /// let pointer: BitPtr<u8, Lsb0> = BitPtr::new(0, BitIdx::new_unchecked(2));
+    /// assert_eq!(rt; pointer.read(&memory), true);
+    /// let pointer: BitPtr<u8, Msb0> = BitPtr::new(1, BitIdx::new_unchecked(2));
+    /// assert_eq!(rt; pointer.read(&memory), false);
+    /// ```
     pub fn read(self, memory: &[R]) -> bool
         requires { IsIn (ptr_of self) (length memory.now) }
         ensures { slice_get (memory_bits R.BITS O.at_of (map R.number memory.now))
@@ -326,6 +346,15 @@ impl<R: BitRegister, O: BitOrder<R>> BitPtr<R, O> {
 
     /// Writes the pointer's bit in a memory that has its word, and changes no other bit:
     /// [`is_in`](BitPtr::is_in) is the test.
+    ///
+    /// # Examples
+    ///
+    /// ```
+    /// let mut memory = [0x00u8, 0xFF];
+    /// let pointer: BitPtr<u8, Msb0> = BitPtr::new(1, BitIdx::new_unchecked(2));
+    /// pointer.write(&mut memory, false);
+    /// assert_eq!(rt; memory, [0x00, 0xDF]);
+    /// ```
     pub fn write(self, memory: &mut [R], bit: bool)
         requires { IsIn (ptr_of self) (length memory.old) }
         ensures bits { memory_bits R.BITS O.at_of (map R.number memory.new)

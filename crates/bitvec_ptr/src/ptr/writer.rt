@@ -24,6 +24,17 @@ pub(super) fn near_edge(rising: bool, first: usize, count: usize) -> usize
 /// The mark is an edge between two words. A rising writer puts no word below its mark, a falling
 /// one none at or above it, and each `put` moves the mark over the word that it wrote. When the
 /// loan ends, the memory is the writer's words. Our own.
+///
+/// # Examples
+///
+/// ```
+/// let mut memory = [0x11u8, 0x22, 0x33];
+/// let mut writer = WordWriter::rising(&mut memory);
+/// writer.skip_to(1);
+/// writer.put(1, 0xFF);
+/// assert_eq!(rt; (writer.mark(), writer.writes()), (2, 1));
+/// assert_eq!(rt; memory, [0x11, 0xFF, 0x33]);
+/// ```
 #[derive(Drop)]
 pub struct WordWriter<'a, R> {
     words: &'a mut [R],
