@@ -9,7 +9,7 @@ pub invariant_of-result-clause-low : goal.invariant_of-result-clause-low
 invariant_of-result-clause-low g c =
     let width = g.R.BitRegister.BITS in
     let span = c.args.self in
-    let some : 0 < width = omega (arith, g.met.R.BitRegister.eight_law) in
+    let some : 0 < width = omega (arith, g.met.R.BitRegister.width_at_least_8) in
     let same : to_z w64 (of_z w64 span.word) ≡ span.word = search rules in
     let up = quotient_up (span.head + c.args.mid) (span.head + span.len) width some (omega (arith, c.requires)) in
     let ends : (span.word +ℤ pos ((span.head + span.len) / width)) ≤ℤ pos 9223372036854775807 = rw (floor_place width span.word span.head span.len some) at span.low in

@@ -8,7 +8,7 @@ use Rattle.bitvec_domain.proofs.ptr.span.BitSpan.bits_from.Goals as goal
 
 pub returns : goal.returns
 returns g c =
-    let some : 0 < g.R.BitRegister.BITS = omega (arith, g.met.R.BitRegister.eight_law) in
+    let some : 0 < g.R.BitRegister.BITS = omega (arith, g.met.R.BitRegister.width_at_least_8) in
     let same : to_z w64 (of_z w64 c.address.result) ≡ c.address.result = omega (arith, ints, c.address.type_inv) in
     behind-from_start _ (span_of c.args.self) c.args.mid some c.requires (ptr_of c.to_bitptr.result) (ptr_of c.add-start.result) _ _ c.bit.ensures.below
     c.to_bitptr.ensures.pointer c.add-start.ensures (same ∙ c.address.ensures) (c.into_inner.ensures.value ∙ c.bit.ensures.value)
