@@ -305,6 +305,7 @@ enum Command {
     Replace(usize, bool),
     Swap(usize, usize),
     Copy { from: usize, to: usize, count: usize },
+    Fill { from: usize, to: usize, value: bool },
 }
 
 #[derive(Clone, Copy)]
@@ -373,6 +374,30 @@ fn bit(span: Span, memory: &mut [u64], i: usize, new: impl Fn(bool) -> bool) -> 
     Reply::Bit(old)
 }
 
+/// Makes the bits of a span from one on to before another the same.
+#[inline(always)]
+fn fill_part(span: Span, memory: &mut [u64], from: usize, to: usize, value: bool) -> Reply {
+    if from > to || to > span.len {
+        return Reply::PastEnd;
+    }
+    let place = span.head as usize + from;
+    let part = Span { word: span.word + (place / 64) as isize, head: (place % 64) as u8, len: to - from };
+    let met = part.elements();
+    if met == 0 {
+        return Reply::Done;
+    }
+    let new = if value { !0 } else { 0 };
+    let words = &mut memory[part.word as usize..][..met];
+    for k in [0, met - 1] {
+        let mask = part.mask(k);
+        words[k] = words[k] & !mask | new & mask;
+    }
+    if met > 2 {
+        words[1..met - 1].fill(new);
+    }
+    Reply::Done
+}
+
 #[inline(always)]
 fn step(span: Span, memory: &mut [u64], command: Command) -> Reply {
     match command {
@@ -384,6 +409,7 @@ fn step(span: Span, memory: &mut [u64], command: Command) -> Reply {
         Command::Read(i) => bit(span, memory, i, |old| old),
         Command::Replace(i, new) => bit(span, memory, i, |_| new),
         Command::Swap(..) | Command::Copy { .. } => Reply::Done,
+        Command::Fill { from, to, value } => fill_part(span, memory, from, to, value),
     }
 }
 
@@ -426,8 +452,12 @@ fn time_runs(memory: &mut [u64]) {
     let requests: Vec<Request> = (0..REQUESTS)
         .map(|i| Request { span: i * 7919 % SPANS, command: Command::Store(0, i as u64) })
         .collect();
+    let fills: Vec<Request> = (0..REQUESTS)
+        .map(|i| Request { span: i * 7919 % SPANS, command: Command::Fill { from: i % 4, to: i % 6 + 5, value: i % 3 != 0 } })
+        .collect();
     let mut replies = vec![Reply::Done; REQUESTS];
     time("run-store", REQUESTS, || run(black_box(&few), black_box(memory), black_box(&requests), black_box(&mut replies)));
+    time("run-fill", REQUESTS, || run(black_box(&few), black_box(memory), black_box(&fills), black_box(&mut replies)));
     time("can-run-2000", SPANS, || {
         black_box(can_run(black_box(&few), WORDS));
     });

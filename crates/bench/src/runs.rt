@@ -77,6 +77,23 @@ fn stores(rt: HostRuntime, count: u32, spans: u16) -> Result<Vec<Request<u64>>, 
     Ok(requests)
 }
 
+// Fills of stretches of spans of ten bits, in no order.
+fn fills(rt: HostRuntime, count: u32, spans: u16) -> Result<Vec<Request<u64>>, AllocError>
+    requires { 0 < spans }
+{
+    let mut requests = Vec::new(rt.alloc());
+    for n in 0..count {
+        let span = (u64::from(n) * 7919 % u64::from(spans)) as usize;
+        let command = Command::Fill {
+            from: (n % 4) as usize,
+            to: (n % 6) as usize + 5,
+            value: n % 3 != 0,
+        };
+        requests.push(Request { span, command })?;
+    }
+    Ok(requests)
+}
+
 fn no_replies(rt: HostRuntime, count: usize) -> Result<Vec<Reply<u64>>, AllocError> {
     Ok(vec![in rt.alloc(); Reply::Done; count]?)
 }
@@ -97,7 +114,32 @@ fn store(memory: &mut [u64], place: usize, len: usize, number: u64) -> u64 {
     old
 }
 
-// Whether a memory and its replies are what stores into spans of ten bits give, one after another.
+// A fill of a stretch, bit by bit.
+fn fill(memory: &mut [u64], place: usize, len: usize, value: bool) {
+    for i in 0..len {
+        let place = place.saturating_add(i);
+        let digit = 1 << (place % 64) as u32;
+        if let Some(word) = memory.get_mut(place / 64) {
+            *word = if value { *word | digit } else { *word & !digit };
+        }
+    }
+}
+
+// Whether a reply is what a command gives of a span of ten bits from a place on; the command is
+// done to the memory.
+fn is_step(memory: &mut [u64], place: usize, command: Command<u64>, reply: Reply<u64>) -> bool {
+    match command {
+        Command::Store(_, number) => reply == Reply::Word(store(memory, place, 10, number)),
+        Command::Fill { from, to, value } => {
+            let place = place.saturating_add(from);
+            fill(memory, place, to.saturating_sub(from), value);
+            reply == Reply::Done
+        }
+        _ => false,
+    }
+}
+
+// Whether a memory and its replies are what requests to spans of ten bits give, one after another.
 fn is_run(
     before: &mut [u64],
     after: &[u64],
@@ -105,22 +147,27 @@ fn is_run(
     replies: &[Reply<u64>],
 ) -> bool {
     for (request, reply) in requests.iter().zip(replies) {
-        if let Command::Store(_, number) = request.command {
-            let place = request.span.saturating_mul(10);
-            if *reply != Reply::Word(store(before, place, 10, number)) {
-                return false;
-            }
+        let place = request.span.saturating_mul(10);
+        if !is_step(before, place, request.command, *reply) {
+            return false;
         }
     }
     *before == *after
 }
 
-fn run_stores(rt: HostRuntime, mode: Mode) -> io::Result<()> {
-    let (spans, count) = match mode {
+// How many spans and requests a run has.
+fn counts(mode: Mode) -> (u16, u32)
+    ensures { 0 < result.0 }
+{
+    match mode {
         Mode::Compare => (200, 4000),
         Mode::Time => (2000, 1_000_000),
-    };
-    let requests = stores(rt, count, spans)?;
+    }
+}
+
+// Runs requests through so many spans.
+fn run_all(rt: HostRuntime, mode: Mode, kind: &str, requests: &[Request<u64>]) -> io::Result<()> {
+    let (spans, count) = counts(mode);
     let spans = rising(rt, spans)?;
     let mut before = words(rt, mode.words())?;
     let mut memory = words(rt, mode.words())?;
@@ -131,18 +178,18 @@ fn run_stores(rt: HostRuntime, mode: Mode) -> io::Result<()> {
     let mut job = Requests {
         spans: &spans,
         memory: &mut memory,
-        requests: &requests,
+        requests,
         replies: &mut replies,
     };
     let name = Name {
         group: "run-",
-        kind: "store",
+        kind,
     };
     if mode == Mode::Time {
         return time(rt, name, count, &mut job);
     }
     job.go();
-    let agrees = is_run(&mut before, &memory, &requests, &replies);
+    let agrees = is_run(&mut before, &memory, requests, &replies);
     tell(rt, name, agrees)
 }
 
@@ -180,7 +227,9 @@ fn test_spans(rt: HostRuntime, mode: Mode, kind: &str, count: u16) -> io::Result
 
 /// The run, and the test of its spans.
 pub fn runs(rt: HostRuntime, mode: Mode) -> io::Result<()> {
-    run_stores(rt, mode)?;
+    let (spans, count) = counts(mode);
+    run_all(rt, mode, "store", &stores(rt, count, spans)?)?;
+    run_all(rt, mode, "fill", &fills(rt, count, spans)?)?;
     test_spans(rt, mode, "2000", 2000)?;
     test_spans(rt, mode, "4000", 4000)
 }

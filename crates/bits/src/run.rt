@@ -118,15 +118,17 @@ fn command<R: BitRegister>(name: &str, words: &[&str]) -> Option<Command<R>> {
             let value = R::from_u128(number(value, 16, u128::MAX)?)?;
             Some(Command::Store(count(k)?, value))
         }
-        [i, bit] if name == "replace" => match number(bit, 10, 1)? {
-            0 => Some(Command::Replace(count(i)?, false)),
-            _ => Some(Command::Replace(count(i)?, true)),
-        },
+        [i, bit] if name == "replace" => Some(Command::Replace(count(i)?, truth(bit)?)),
         [i, j] if name == "swap" => Some(Command::Swap(count(i)?, count(j)?)),
         [from, to, len] if name == "copy" => Some(Command::Copy {
             from: count(from)?,
             to: count(to)?,
             count: count(len)?,
+        }),
+        [from, to, bit] if name == "fill" => Some(Command::Fill {
+            from: count(from)?,
+            to: count(to)?,
+            value: truth(bit)?,
         }),
         _ => None,
     }
@@ -147,6 +149,11 @@ fn one_number<R: BitRegister>(name: &str, n: usize) -> Option<Command<R>> {
 // A decimal number of 64 bits, as a number of bits or words.
 fn count(text: &str) -> Option<usize> {
     Some(place(text)? as usize)
+}
+
+// A bit, `0` or `1`.
+fn truth(text: &str) -> Option<bool> {
+    Some(number(text, 10, 1)? != 0)
 }
 
 // Writes a line a reply.

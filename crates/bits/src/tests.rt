@@ -139,6 +139,18 @@ fn answers(rt: HostRuntime) -> Result<(), Fail> {
             0,
             "word 0\ndone\nmemory 0\n",
         ),
+        (
+            "run lsb0 u8 0,0 2+8,0+2 0:fill:1:7:1,1:read:0,0:fill:7:9:1,0:fill:5:4:1,0:fill:8:8:1",
+            0,
+            "done\nbit 0\npast end\npast end\ndone\nmemory f8,1\n",
+        ),
+        (
+            "run lsb0 u8 - 3+0 0:fill:0:0:1,0:fill:0:1:1",
+            0,
+            "done\npast end\nmemory -\n",
+        ),
+        ("run lsb0 u8 0 0+4 0:fill:0:4:2", 2, USAGE),
+        ("run lsb0 u8 0 0+4 0:fill:0:4", 2, USAGE),
         ("run lsb0 u8 0 0+4 0:load", 2, USAGE),
         ("run lsb0 u8 0 0+4 0:replace:0:2", 2, USAGE),
         ("run lsb0 u8 0 0+4 0:store:0:100", 2, USAGE),

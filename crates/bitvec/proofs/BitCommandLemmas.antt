@@ -4,7 +4,7 @@ use Rattle.std.specs.Prelude.{slice_get}
 use Rattle.std.specs.List.{AllByRecursion, AllZip}
 use Rattle.std.proofs.lemmas.Option.{none-some, same_Some}
 use Rattle.bitvec.specs.declared.run.command.Command.{Command}
-use Rattle.bitvec.specs.declared.run.command.Command.TheVariants.{Load, Store, Set, Clear, Invert, Read, Replace, Swap, Copy}
+use Rattle.bitvec.specs.declared.run.command.Command.TheVariants.{Load, Store, Set, Clear, Invert, Read, Replace, Swap, Copy, Fill}
 use Rattle.bitvec.specs.declared.run.command.Request.{Request}
 use Rattle.bitvec.specs.declared.run.command.Reply.{Reply}
 use Rattle.bitvec.specs.declared.run.command.Reply.TheVariants.{Word, Bit, Done, PastEnd, NoSpan}
@@ -44,6 +44,7 @@ one_command (Read i) (Read j) h = ap Read h
 one_command (Replace i a) (Replace j b) h = let e = h.0 in let f = h.1 in rw (e, f) refl
 one_command (Swap i k) (Swap j l) h = let e = h.0 in let f = h.1 in rw (e, f) refl
 one_command (Copy from to count) (Copy other_from other_to other_count) h = let e = h.0 in let f = h.1 in let k = h.2 in rw (e, f, k) refl
+one_command (Fill from to value) (Fill other_from other_to other_value) h = let e = h.0 in let f = h.1 in let k = h.2 in rw (e, f, k) refl
 one_command _ _ h = absurd h
 
 pub one_list_of_commands : (cs ds : List (Command ℕ)) → AllZip (AreSameCommands IsSameNumber) cs ds → cs ≡ ds
@@ -80,6 +81,7 @@ module _ (bits other_bits : ℕ) (at other_at : ℕ → ℕ) (head other_head : 
   one_reply (Replace i b) xs h = refl
   one_reply (Swap i j) xs h = refl
   one_reply (Copy from to count) xs h = refl
+  one_reply (Fill from to value) xs h = refl
   one_reply (Load k) xs h = absurd h
   one_reply (Store k v) xs h = absurd h
   one_reply (Set k) xs h = absurd h
@@ -91,6 +93,7 @@ module _ (bits other_bits : ℕ) (at other_at : ℕ → ℕ) (head other_head : 
   one_list (Replace i b) xs h = refl
   one_list (Swap i j) xs h = refl
   one_list (Copy from to count) xs h = refl
+  one_list (Fill from to value) xs h = refl
   one_list (Load k) xs h = absurd h
   one_list (Store k v) xs h = absurd h
   one_list (Set k) xs h = absurd h

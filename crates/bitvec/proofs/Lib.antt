@@ -1,6 +1,7 @@
 pub mod AppendedRuns
 pub mod BitCommandLemmas
 pub mod CommandLemmas
+pub mod FillLemmas
 pub mod LaterLemmas
 pub mod LawLemmas
 pub mod MoveLemmas

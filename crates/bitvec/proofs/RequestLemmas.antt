@@ -5,7 +5,7 @@ use Rattle.std.proofs.lemmas.Bool.{cases_order, cases_eq, eq-eqb, ne_eqb}
 use Rattle.std.proofs.lemmas.Option.{same_Some, get_or_from_slice_get, slice_get_within}
 use Rattle.bitvec_domain.specs.Span.{Span, Covers, Fits, list_of}
 use Rattle.bitvec.specs.declared.run.command.Command.{Command}
-use Rattle.bitvec.specs.declared.run.command.Command.TheVariants.{Load, Store, Set, Clear, Invert, Read, Replace, Swap, Copy}
+use Rattle.bitvec.specs.declared.run.command.Command.TheVariants.{Load, Store, Set, Clear, Invert, Read, Replace, Swap, Copy, Fill}
 use Rattle.bitvec.specs.declared.run.command.Request.{Request}
 use Rattle.bitvec.specs.declared.run.command.Reply.{Reply}
 use Rattle.bitvec.specs.declared.run.command.Reply.TheVariants.{PastEnd, NoSpan}
@@ -40,6 +40,7 @@ answer_is_own bits at head (Read i) xs e = cc
 answer_is_own bits at head (Replace i b) xs e = cc
 answer_is_own bits at head (Swap i j) xs e = cc
 answer_is_own bits at head (Copy from to count) xs e = cc
+answer_is_own bits at head (Fill from to value) xs e = cc
 
 own_or_past : (past : Bool) (answer : Reply ℕ) → (answer ≡ NoSpan → ⊥) → (if past then PastEnd else answer) ≡ NoSpan → ⊥
 own_or_past true answer own e = cc

@@ -14,7 +14,7 @@ use Rattle.bitvec_ptr.proofs.BitLemmas.{length-memory_bits, get_or-memory_bits}
 use Rattle.bitvec_domain.specs.Span.{Span, Fits, list_of, element, word_of}
 use Rattle.bitvec_domain.proofs.WordsLemmas.{met_within}
 use Rattle.bitvec.specs.declared.run.command.Command.{Command}
-use Rattle.bitvec.specs.declared.run.command.Command.TheVariants.{Load, Store, Set, Clear, Invert, Read, Replace, Swap, Copy}
+use Rattle.bitvec.specs.declared.run.command.Command.TheVariants.{Load, Store, Set, Clear, Invert, Read, Replace, Swap, Copy, Fill}
 use Rattle.bitvec.specs.declared.run.command.Reply.{Reply}
 use Rattle.bitvec.specs.declared.run.command.Reply.TheVariants.{Word, Bit, Done, PastEnd}
 use Rattle.bitvec.specs.Commands.{replies_to, list_after_all, reply_to, list_after, with_word}
@@ -55,6 +55,7 @@ module _ (bits : ℕ) (at other_at : ℕ → ℕ) (some : 0 < bits) (one : IsOne
   reply_turned (Replace i a) (Replace j b) xs h = bit_reply xs i j h.0
   reply_turned (Swap i k) (Swap j l) xs h = done_reply _ _ (let e = h.0 in let f = h.1 in rw (e, f) refl)
   reply_turned (Copy from to count) (Copy other_from other_to other_count) xs h = done_reply _ _ (let e = h.0 in let f = h.1 in let k = h.2 in rw (e, f, k) refl)
+  reply_turned (Fill from to value) (Fill other_from other_to other_value) xs h = done_reply _ _ (let e = h.0 in let f = h.1 in rw (e, f) refl)
   reply_turned _ _ xs h = absurd h
 
   store_turned : (xs : List Bool) (k v w : ℕ) → IsTurned bits at other_at v w → with_word bits head xs k (λ j. digit v (at ((head + j) % bits))) ≡ with_word bits head xs k (λ j. digit w (other_at ((head + j) % bits)))
@@ -72,6 +73,7 @@ module _ (bits : ℕ) (at other_at : ℕ → ℕ) (some : 0 < bits) (one : IsOne
   after_turned (Replace i a) (Replace j b) xs h = let e = h.0 in let f = h.1 in rw (e, f) refl
   after_turned (Swap i k) (Swap j l) xs h = let e = h.0 in let f = h.1 in rw (e, f) refl
   after_turned (Copy from to count) (Copy other_from other_to other_count) xs h = let e = h.0 in let f = h.1 in let k = h.2 in rw (e, f, k) refl
+  after_turned (Fill from to value) (Fill other_from other_to other_value) xs h = let e = h.0 in let f = h.1 in let k = h.2 in rw (e, f, k) refl
   after_turned _ _ xs h = absurd h
 
   pub replies_turned : (cs ds : List (Command ℕ)) (xs : List Bool) → AllZip (AreSameCommands (IsTurned bits at other_at)) cs ds

@@ -1,12 +1,12 @@
 -- Commands on one list of bits that starts at the bit `head` of a word. `bits` is the width of a word, and `at` takes an
 -- index in a word to its position in the number; a word is given as its number.
-use Rattle.std.specs.Prelude.{ℕ, ◌+◌, ◌/◌, ◌%◌, Bool, true, false, not, ◌&&◌, List, [], ◌∷◌, length, swap, slice_set, if◌then◌else◌, ◌==◌, nat_lt, nat_le}
+use Rattle.std.specs.Prelude.{ℕ, ◌+◌, ◌-◌, ◌/◌, ◌%◌, Bool, true, false, not, ◌&&◌, List, [], ◌∷◌, ◌++◌, length, take, drop, replicate, swap, slice_set, if◌then◌else◌, ◌==◌, nat_lt, nat_le}
 use Rattle.bitvec_mem.specs.Digit.{digit}
 use Rattle.bitvec_ptr.specs.Memory.{tabulate, list_with_copy}
 use Rattle.bitvec_ptr.specs.Place.{words_met}
 use Rattle.bitvec_domain.specs.Span.{element, word_of}
 use Rattle.bitvec.specs.declared.run.command.Command.{Command}
-use Rattle.bitvec.specs.declared.run.command.Command.TheVariants.{Load, Store, Set, Clear, Invert, Read, Replace, Swap, Copy}
+use Rattle.bitvec.specs.declared.run.command.Command.TheVariants.{Load, Store, Set, Clear, Invert, Read, Replace, Swap, Copy, Fill}
 use Rattle.bitvec.specs.declared.run.command.Request.{Request}
 use Rattle.bitvec.specs.declared.run.command.Reply.{Reply}
 use Rattle.bitvec.specs.declared.run.command.Reply.TheVariants.{Word, Bit, Done, PastEnd, NoSpan}
@@ -26,6 +26,7 @@ is_past_end bits head (Read i) xs = nat_le (length xs) i
 is_past_end bits head (Replace i b) xs = nat_le (length xs) i
 is_past_end bits head (Swap i j) xs = not (nat_lt i (length xs) && nat_lt j (length xs))
 is_past_end bits head (Copy from to count) xs = not (nat_le (from + count) (length xs) && nat_le (to + count) (length xs))
+is_past_end bits head (Fill from to value) xs = not (nat_le from to && nat_le to (length xs))
 
 -- what a command that is not past the end returns
 abbrev pub answer_of : ℕ → (ℕ → ℕ) → ℕ → Command ℕ → List Bool → Reply ℕ
@@ -38,6 +39,7 @@ answer_of bits at head (Read i) xs = Bit (element xs i)
 answer_of bits at head (Replace i b) xs = Bit (element xs i)
 answer_of bits at head (Swap i j) xs = Done
 answer_of bits at head (Copy from to count) xs = Done
+answer_of bits at head (Fill from to value) xs = Done
 
 -- the list that it leaves
 abbrev pub edited_list : ℕ → (ℕ → ℕ) → ℕ → Command ℕ → List Bool → List Bool
@@ -50,6 +52,7 @@ edited_list bits at head (Read i) xs = xs
 edited_list bits at head (Replace i b) xs = slice_set xs i b
 edited_list bits at head (Swap i j) xs = swap xs i j
 edited_list bits at head (Copy from to count) xs = list_with_copy xs from xs to count
+edited_list bits at head (Fill from to value) xs = take from xs ++ replicate (to - from) value ++ drop to xs
 
 -- the reply to a command on a list
 abbrev pub reply_to : ℕ → (ℕ → ℕ) → ℕ → Command ℕ → List Bool → Reply ℕ
@@ -80,6 +83,7 @@ command_number number (Read i) = Read i
 command_number number (Replace i b) = Replace i b
 command_number number (Swap i j) = Swap i j
 command_number number (Copy from to count) = Copy from to count
+command_number number (Fill from to value) = Fill from to value
 
 -- a request with its word as a number
 abbrev pub request_number : {R : Type 0} → (R → ℕ) → Request R → Request ℕ

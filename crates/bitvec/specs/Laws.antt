@@ -7,7 +7,7 @@ use Rattle.bitvec_mem.specs.Digit.{digit}
 use Rattle.bitvec_ptr.specs.Memory.{memory_bits}
 use Rattle.bitvec_domain.specs.Span.{Span, Fits, list_of}
 use Rattle.bitvec.specs.declared.run.command.Command.{Command}
-use Rattle.bitvec.specs.declared.run.command.Command.TheVariants.{Load, Store, Set, Clear, Invert, Read, Replace, Swap, Copy}
+use Rattle.bitvec.specs.declared.run.command.Command.TheVariants.{Load, Store, Set, Clear, Invert, Read, Replace, Swap, Copy, Fill}
 use Rattle.bitvec.specs.declared.run.command.Request.{Request}
 use Rattle.bitvec.specs.declared.run.command.Reply.{Reply}
 use Rattle.bitvec.specs.declared.run.command.Reply.TheVariants.{Word, Bit, Done, PastEnd, NoSpan}
@@ -26,6 +26,7 @@ AreSameCommands same_word (Read i) (Read j) = i ≡ j
 AreSameCommands same_word (Replace i a) (Replace j b) = (i ≡ j) × (a ≡ b)
 AreSameCommands same_word (Swap i k) (Swap j l) = (i ≡ j) × (k ≡ l)
 AreSameCommands same_word (Copy from to count) (Copy other_from other_to other_count) = (from ≡ other_from) × (to ≡ other_to) × (count ≡ other_count)
+AreSameCommands same_word (Fill from to value) (Fill other_from other_to other_value) = (from ≡ other_from) × (to ≡ other_to) × (value ≡ other_value)
 AreSameCommands same_word _ _ = ⊥
 
 -- two requests: the same span number, and the same command
@@ -55,6 +56,7 @@ IsBitCommand (Read i) = Unit {0}
 IsBitCommand (Replace i b) = Unit {0}
 IsBitCommand (Swap i j) = Unit {0}
 IsBitCommand (Copy from to count) = Unit {0}
+IsBitCommand (Fill from to value) = Unit {0}
 IsBitCommand (Load k) = ⊥
 IsBitCommand (Store k v) = ⊥
 IsBitCommand (Set k) = ⊥

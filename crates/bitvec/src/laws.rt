@@ -12,8 +12,8 @@ use crate::order::BitOrder;
 /// Bit commands know nothing of the register, the order or the place.
 ///
 /// In two memories, each of a register of its own and under an order of its own, as many spans have
-/// equal lists. Then the same requests of `Read`, `Replace`, `Swap` and `Copy` alone get each span
-/// the same replies, and leave it equal lists.
+/// equal lists. Then the same requests of `Read`, `Replace`, `Swap`, `Copy` and `Fill` alone get
+/// each span the same replies, and leave it equal lists.
 pub fn bit_commands<R: BitRegister, O: BitOrder<R>, R2: BitRegister, O2: BitOrder<R2>>()
     ensures { BitCommandsAgree R.BITS O.at_of R2.BITS O2.at_of }
 {}

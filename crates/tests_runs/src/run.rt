@@ -30,6 +30,11 @@ fn ran<const S: usize, const N: usize>(
     Some((replies, memory))
 }
 
+// A fill of a stretch of a span.
+fn fill(from: usize, to: usize, value: bool) -> Command<u8> {
+    Command::Fill { from, to, value }
+}
+
 #[test]
 fn two_spans_of_one_word_go_their_own_ways(rt: HostRuntime) {
     let spans = [span_at(2, 4), span_at(6, 4)];
@@ -128,6 +133,27 @@ fn no_bits_are_copied_up_to_the_end(rt: HostRuntime) {
     ];
     let want = [Reply::Done, Reply::PastEnd];
     assert_eq!(rt; ran([span_at(0, 4)], requests), Some((want, [0, 0])));
+}
+
+#[test]
+fn a_stretch_of_bits_is_filled(rt: HostRuntime) {
+    let requests = [
+        to(0, fill(1, 7, true)),
+        to(0, fill(7, 9, true)),
+        to(0, fill(5, 4, true)),
+        to(0, fill(8, 8, true)),
+        to(0, fill(2, 5, false)),
+        to(0, fill(0, usize::MAX, false)),
+    ];
+    let want = [
+        Reply::Done,
+        Reply::PastEnd,
+        Reply::PastEnd,
+        Reply::Done,
+        Reply::Done,
+        Reply::PastEnd,
+    ];
+    assert_eq!(rt; ran([span_at(2, 8)], requests), Some((want, [0x88, 0x01])));
 }
 
 #[test]

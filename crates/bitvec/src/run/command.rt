@@ -46,6 +46,15 @@ pub enum Command<R> {
         /// How many bits are copied.
         count: usize,
     },
+    /// Makes a stretch of bits the same.
+    Fill {
+        /// The first bit that is written.
+        from: usize,
+        /// The place behind the last.
+        to: usize,
+        /// What each of them becomes.
+        value: bool,
+    },
 }
 
 /// A command to the span of a number, from 0 on. Our own.
@@ -89,11 +98,12 @@ pub enum Reply<R> {
     Word(R),
     /// A bit, to `Read` and `Replace`.
     Bit(bool),
-    /// To `Swap` and `Copy`.
+    /// To `Swap`, `Copy` and `Fill`.
     Done,
     /// The command is refused and changes nothing: `k` is at least the number of words that the
-    /// span meets, a bit's place is at least the span's length, or `from + count` or `to + count`,
-    /// as whole numbers, passes the length.
+    /// span meets, a bit's place is at least the span's length, `from + count` or `to + count` of a
+    /// `Copy`, as whole numbers, passes the length, or a `Fill` has its `from` past its `to`, or
+    /// its `to` past the length.
     PastEnd,
     /// There is no span of that number, and nothing is changed.
     NoSpan,

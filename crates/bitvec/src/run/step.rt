@@ -7,7 +7,7 @@ ghost use Rattle.bitvec.specs.Commands.{command_number, reply_number};
 ghost use Rattle.bitvec.specs.Run.{IsStep};
 ghost use Rattle.bitvec.specs.declared.run.command.Command.TheVariants.{Load, Store, Set, Clear};
 ghost use Rattle.bitvec.specs.declared.run.command.Command.TheVariants.{Invert, Read, Replace};
-ghost use Rattle.bitvec.specs.declared.run.command.Command.TheVariants.{Swap, Copy};
+ghost use Rattle.bitvec.specs.declared.run.command.Command.TheVariants.{Swap, Copy, Fill};
 
 use crate::mem::BitRegister;
 use crate::order::BitOrder;
@@ -177,6 +177,36 @@ fn copy<R: BitRegister, O: BitOrder<R>>(
     }
 }
 
+// Whether a stretch from one place to before another is one of `len` bits.
+fn can_fill(len: usize, from: usize, to: usize) -> bool
+    ensures { IsTrue result ↔ ((from ≤ to) × (to ≤ len)) }
+{
+    from <= to && to <= len
+}
+
+// Makes a stretch of the span's bits the same, through the span of that stretch.
+fn fill<R: BitRegister, O: BitOrder<R>>(
+    span: BitSpan<R, O>,
+    memory: &mut [R],
+    from: usize,
+    to: usize,
+    value: bool,
+) -> Reply<R>
+    requires { Fits R.BITS (span_of span) (length memory.old) }
+    ensures { IsStep R.BITS O.at_of (span_of span) (map R.number memory.old) (Fill from to value)
+        (reply_number R.number result) (map R.number memory.new) }
+{
+    let len = span.len();
+    if can_fill(len, from, to) {
+        let (upto, _) = span.split_at(to);
+        let (_, stretch) = upto.split_at(from);
+        stretch.fill(memory, value);
+        Reply::Done
+    } else {
+        Reply::PastEnd
+    }
+}
+
 // Gives a span one command.
 pub(crate) fn step<R: BitRegister, O: BitOrder<R>>(
     span: BitSpan<R, O>,
@@ -197,5 +227,6 @@ pub(crate) fn step<R: BitRegister, O: BitOrder<R>>(
         Command::Replace(index, bit) => replace(span, memory, index, bit),
         Command::Swap(index, with) => swap(span, memory, index, with),
         Command::Copy { from, to, count } => copy(span, memory, from, to, count),
+        Command::Fill { from, to, value } => fill(span, memory, from, to, value),
     }
 }
