@@ -215,14 +215,14 @@ impl<'a, R: BitRegister, O: BitOrder<R>, const N: usize> Parts<'a, R, O, N> {
             ≡ bit_of R.BITS O.at_of (map R.number (lent_memory self.old).now) place }
         ensures words { length (lent_memory self.new).now ≡ length (lent_memory self.old).now }
     {
-        let span = self.span(part);
+        let own = self.span(part);
         let memory = &mut *self.memory;
-        write_bit(span, memory, i, bit);
+        write_bit(own, memory, i, bit);
     }
 
     /// Makes the bits of a part from number `from` to before number `to` the same, and changes no
-    /// other bit of the memory. Requires that the part has them, or `from` up to its length where
-    /// there are none.
+    /// other bit of the memory. Requires that `from` is not past `to`, nor `to` past the part's
+    /// length.
     pub fn fill(&mut self, part: usize, from: usize, to: usize, bit: bool)
         requires part { part < N }
         requires ordered { from ≤ to }

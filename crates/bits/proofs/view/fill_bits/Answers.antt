@@ -1,4 +1,4 @@
-use Rattle.std.proofs.Common.{ℕ, map, length, refl, ◌∙◌, arith}
+use Rattle.std.proofs.Common.{map, refl, ◌∙◌, arith}
 use Rattle.bitvec.specs.BitSpan.{span_of}
 use Rattle.bitvec.specs.Span.{list_of}
 use Rattle.bitvec.proofs.PartLemmas.{length-list_of}

@@ -1,4 +1,4 @@
-use Rattle.std.proofs.Common.{ℕ, List, map, length, get_or, sym, subst, arith}
+use Rattle.std.proofs.Common.{List, length, get_or, sym, subst, arith}
 use Rattle.std.specs.Prelude.{All}
 use Rattle.bitvec.specs.BitSpan.{span_of, empty_span}
 use Rattle.bitvec.specs.Span.{Span}

@@ -14,8 +14,8 @@ returns-clause-kept g c =
     let parts = c.args.self.now in
     let inside : c.args.part < length parts.intervals = search rules in
     let long = length-map parts.intervals interval_span in
-    let named = slice_get-get_or (part_spans parts) c.args.part no_span (omega (arith, inside, long)) ∙ ap Some (sym c.span-span.ensures) in
-    kept_lists g.R.BitRegister.BITS g.O.BitAt.at_of (λ span. span) (part_spans parts) c.args.part (span_of c.span-span.result) no_span (map number parts.memory.now) (map number c.write_bit.new.memory)
+    let named = slice_get-get_or (part_spans parts) c.args.part no_span (omega (arith, inside, long)) ∙ ap Some (sym c.span-own.ensures) in
+    kept_lists g.R.BitRegister.BITS g.O.BitAt.at_of (λ span. span) (part_spans parts) c.args.part (span_of c.span-own.result) no_span (map number parts.memory.now) (map number c.write_bit.new.memory)
     (subst (λ (n : ℕ). CanRun g.R.BitRegister.BITS (λ span. span) (part_spans parts) n) (sym (length-map parts.memory.now number)) parts.can_run)
     named refl c.write_bit.ensures.others
 
@@ -24,5 +24,5 @@ returns-clause-others g c =
     let parts = c.args.self.now in
     let inside : c.args.part < length parts.intervals = search rules in
     let long = length-map parts.intervals interval_span in
-    let named = slice_get-get_or (part_spans parts) c.args.part no_span (omega (arith, inside, long)) ∙ ap Some (sym c.span-span.ensures) in
-    λ place out. c.write_bit.ensures.others place (out c.args.part (span_of c.span-span.result) named)
+    let named = slice_get-get_or (part_spans parts) c.args.part no_span (omega (arith, inside, long)) ∙ ap Some (sym c.span-own.ensures) in
+    λ place out. c.write_bit.ensures.others place (out c.args.part (span_of c.span-own.result) named)

@@ -1,6 +1,5 @@
-use Rattle.std.proofs.Common.{rules, ◌≡◌, ◌<◌, length, ◌∙◌, arith, w64}
+use Rattle.std.proofs.Common.{rules, ◌≡◌, ◌<◌, length, arith, w64}
 use Rattle.std.proofs.lemmas.Int.{ints}
-use Rattle.bits.specs.Interval.{interval_span, no_span}
 use Rattle.bits.proofs.IntervalLemmas.{valid_at}
 use Rattle.bits.proofs.view.Parts.span.Goals as goal
 use mir.Val.{to_z, of_z}
