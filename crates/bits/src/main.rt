@@ -10,6 +10,7 @@ mod spans;
 #[cfg(test)]
 mod tests;
 mod verify;
+pub mod view;
 
 use std::env::{self, Env};
 use std::io;

@@ -5,6 +5,7 @@ mod memory;
 mod orders;
 mod refusing;
 mod sizes;
+mod view;
 mod writers;
 
 use crate::answer::answer;
