@@ -19,9 +19,13 @@ fn span_at(start: u8, len: usize) -> BitSpan<u8, Lsb0> {
     BitSpan::new(isize::from(start / 8), head, len).unwrap_or_default()
 }
 
-// Sixteen bits as four parts.
+// Sixteen bits, split at 8 and each half at 4.
 fn nibbles() -> [BitSpan<u8, Lsb0>; 4] {
-    [span_at(0, 4), span_at(4, 4), span_at(8, 4), span_at(12, 4)]
+    let whole: BitSpan<u8, Lsb0> = BitSpan::new(0, BitIdx::new_unchecked(0), 16).unwrap();
+    let (low, high) = whole.split_at(8);
+    let (first, second) = low.split_at(4);
+    let (third, fourth) = high.split_at(4);
+    [first, second, third, fourth]
 }
 
 // Whether the first two parts are the same after one bit of each part is set, and after the first

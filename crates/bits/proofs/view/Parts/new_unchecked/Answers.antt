@@ -13,7 +13,7 @@ invariant_of-result-clause-spans g c =
     let width = g.R.BitRegister.BITS in
     let spans = c.args.spans in
     subst (λ (xs : List Span). All (IsSpan width) xs) (sym c.intervals_of-intervals.ensures)
-    (all_views span_of (IsSpan width) spans (λ s d h. let x = get_or spans s d in (omega (arith, x.in_word, g.met.R.BitRegister.eight_law), x.short, x.low)))
+    (all_views span_of (IsSpan width) spans (λ s d h. let x = get_or spans s d in (omega (arith, x.in_word, g.met.R.BitRegister.width_at_least_8), x.short, x.low)))
 
 pub invariant_of-result-clause-can_run : goal.invariant_of-result-clause-can_run
 invariant_of-result-clause-can_run g c =

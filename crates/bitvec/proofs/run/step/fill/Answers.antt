@@ -19,7 +19,7 @@ returns-then-can_fill g c =
     let number = g.R.BitRegister.number in
     let span = c.args.span in
     let old = c.args.memory.now in
-    let below = bit_below width span.head g.met.R.BitRegister.eight_law span.in_word in
+    let below = bit_below width span.head g.met.R.BitRegister.width_at_least_8 span.in_word in
     let within = c.if-can_fill.ensures.0 (search rules) in
     let fits = subst (λ (n : ℕ). Fits width (span_of span) n) (sym (length-map old number)) c.requires in
     step-fill_of width g.O.BitAt.at_of (span_of span) _ c.args.from c.args.to c.args.value (map number old) (map number c.fill.new.memory) below fits within.0 (omega (arith, c.len-len.ensures, within.1))
