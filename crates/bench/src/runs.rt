@@ -157,7 +157,8 @@ fn is_run(
 
 // How many spans and requests a run has.
 fn counts(mode: Mode) -> (u16, u32)
-    ensures { 0 < result.0 }
+    ensures spans { 0 < result.0 }
+    ensures requests { 0 < result.1 }
 {
     match mode {
         Mode::Compare => (200, 4000),

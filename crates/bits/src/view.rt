@@ -111,7 +111,7 @@ fn intervals_of<R: BitRegister, O, const N: usize>(spans: &[BitSpan<R, O>; N]) -
     intervals
 }
 
-/// The parts of a memory that spans name which have no bit in common.
+/// Parts of one memory, each the bits of a span, of which no two have a bit in common.
 ///
 /// The memory is lent until the view is gone, and then has the parts' lists in their places and
 /// every other bit as it was.
@@ -192,7 +192,7 @@ impl<'a, R: BitRegister, O: BitOrder<R>, const N: usize> Parts<'a, R, O, N> {
         self.span(part).len()
     }
 
-    /// Bit `i` of a part. Requires that the part has one.
+    /// Bit `i` of a part. Requires that there is such a part, and that it has such a bit.
     pub fn get(&self, part: usize, i: usize) -> bool
         requires part { part < N }
         requires inside { i < (part_span self.now part).len }
@@ -201,8 +201,8 @@ impl<'a, R: BitRegister, O: BitOrder<R>, const N: usize> Parts<'a, R, O, N> {
         read_bit(self.span(part), self.memory, i)
     }
 
-    /// Writes bit `i` of a part, and changes no other bit of the memory. Requires that the part has
-    /// one.
+    /// Writes bit `i` of a part, and changes no other bit of the memory. Requires that there is such
+    /// a part, and that it has such a bit.
     pub fn set(&mut self, part: usize, i: usize, bit: bool)
         requires part { part < N }
         requires inside { i < (part_span self.old part).len }
