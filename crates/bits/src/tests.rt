@@ -140,18 +140,6 @@ fn answers(rt: HostRuntime) -> Result<(), Fail> {
             0,
             "word 0\ndone\nmemory 0\n",
         ),
-        (
-            "run lsb0 u8 0,0 2+8,0+2 0:fill:1:7:1,1:read:0,0:fill:7:9:1,0:fill:5:4:1,0:fill:8:8:1",
-            0,
-            "done\nbit 0\npast end\npast end\ndone\nmemory f8,1\n",
-        ),
-        (
-            "run lsb0 u8 - 3+0 0:fill:0:0:1,0:fill:0:1:1",
-            0,
-            "done\npast end\nmemory -\n",
-        ),
-        ("run lsb0 u8 0 0+4 0:fill:0:4:2", 2, USAGE),
-        ("run lsb0 u8 0 0+4 0:fill:0:4", 2, USAGE),
         ("run lsb0 u8 0 0+4 0:load", 2, USAGE),
         ("run lsb0 u8 0 0+4 0:replace:0:2", 2, USAGE),
         ("run lsb0 u8 0 0+4 0:store:0:100", 2, USAGE),
@@ -209,6 +197,31 @@ fn answers(rt: HostRuntime) -> Result<(), Fail> {
             0,
             "word 0\nword 0\nword 0\nword 18\nbit 1\ndone\npast end\nno span\nmemory 67\n",
         ),
+    ] {
+        let args = words(rt.alloc(), line)?;
+        let mut out = Slow::new(rt.alloc(), 1, 1000);
+        assert_eq!(rt; answer(&rt.alloc(), &args, &mut out), status, "at {line}");
+        assert_eq!(rt; out.taken.as_slice(), want.as_bytes(), "at {line}");
+        assert_eq!(rt; out.flushes, 1, "at {line}");
+    }
+    Ok(())
+}
+
+#[test]
+fn fills(rt: HostRuntime) -> Result<(), Fail> {
+    for (line, status, want) in [
+        (
+            "run lsb0 u8 0,0 2+8,0+2 0:fill:1:7:1,1:read:0,0:fill:7:9:1,0:fill:5:4:1,0:fill:8:8:1",
+            0,
+            "done\nbit 0\npast end\npast end\ndone\nmemory f8,1\n",
+        ),
+        (
+            "run lsb0 u8 - 3+0 0:fill:0:0:1,0:fill:0:1:1",
+            0,
+            "done\npast end\nmemory -\n",
+        ),
+        ("run lsb0 u8 0 0+4 0:fill:0:4:2", 2, USAGE),
+        ("run lsb0 u8 0 0+4 0:fill:0:4", 2, USAGE),
     ] {
         let args = words(rt.alloc(), line)?;
         let mut out = Slow::new(rt.alloc(), 1, 1000);
