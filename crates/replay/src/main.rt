@@ -6,16 +6,10 @@
 //! does, of the file that lies in `data/`.
 #![tactic(auto)]
 
-mod domains;
-mod index;
-mod line;
-mod memories;
-mod pointers;
-mod report;
 #[cfg(test)]
 mod tests;
 
-use report::Report;
+use questions::report::Report;
 use std::env::{self, Env};
 use std::fs;
 use std::io::{self, Write};

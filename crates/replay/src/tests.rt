@@ -1,6 +1,6 @@
 //! Lines that agree, that differ, and that ask nothing.
 
-use crate::report::Report;
+use questions::report::Report;
 use std::test::Fail;
 
 #[test]
