@@ -7,12 +7,16 @@ pub mod LawLemmas
 pub mod MoveLemmas
 pub mod RequestLemmas
 pub mod RisingLemmas
+pub mod SpanBitLemmas
 pub mod SpanLemmas
 pub mod TurnLemmas
 pub mod WordLemmas
 pub use Rattle.bitvec_mem.proofs.DigitLemmas
 pub use Rattle.bitvec_order.proofs.Block
 pub use Rattle.bitvec_order.proofs.IndexLemmas
+pub use Rattle.bitvec_ptr.proofs.CopyLemmas
 pub use Rattle.bitvec_ptr.proofs.MemoryLemmas
+pub use Rattle.bitvec_ptr.proofs.PlaceLemmas
 pub use Rattle.bitvec_domain.proofs.CoverLemmas
 pub use Rattle.bitvec_domain.proofs.PartLemmas
+pub use Rattle.bitvec_domain.proofs.SplitLemmas

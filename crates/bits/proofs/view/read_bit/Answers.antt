@@ -3,7 +3,7 @@ use Rattle.std.proofs.lemmas.List.{length-map}
 use Rattle.bitvec.specs.BitPtr.{ptr_of}
 use Rattle.bitvec.specs.BitSpan.{span_of}
 use Rattle.bitvec.specs.Span.{Fits}
-use Rattle.bits.proofs.SpanBitLemmas.{was_element, index_at}
+use Rattle.bitvec.proofs.SpanBitLemmas.{was_element, index_at}
 use Rattle.bits.proofs.view.read_bit.Goals as goal
 
 pub returns : goal.returns

@@ -4,7 +4,7 @@ use Rattle.bitvec.specs.BitPtr.{ptr_of}
 use Rattle.bitvec.specs.BitSpan.{span_of}
 use Rattle.bitvec.specs.Span.{Fits}
 use Rattle.bitvec.specs.Steps.{IsIn}
-use Rattle.bits.proofs.SpanBitLemmas.{set_element, others_kept, index_at, found_at}
+use Rattle.bitvec.proofs.SpanBitLemmas.{set_element, others_kept, index_at, found_at}
 use Rattle.bits.proofs.view.write_bit.Goals as goal
 
 pub returns-clause-list : goal.returns-clause-list

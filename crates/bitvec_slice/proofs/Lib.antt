@@ -1,0 +1,12 @@
+mod CopiedLemmas
+pub mod CountLemmas
+mod EditLemmas
+mod EqualLemmas
+pub mod FieldLemmas
+pub mod FieldPartLemmas
+pub mod FieldStoreLemmas
+pub mod FindLemmas
+mod IterLemmas
+mod ListEdits
+pub mod OnesLemmas
+pub mod SlicePartLemmas

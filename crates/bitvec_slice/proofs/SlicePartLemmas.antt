@@ -1,0 +1,56 @@
+-- The list of a whole memory, and the lists of a slice's parts.
+use Rattle.std.proofs.Common.{◌≡◌, ℕ, ◌+◌, ◌*◌, ◌-◌, ◌/◌, ◌%◌, ◌≤◌, Bool, false, List, ◌++◌, length, take, drop, sym, ap, subst, ◌∙◌, inl, inr, arith}
+use Rattle.std.specs.Prelude.{pos}
+use Rattle.std.proofs.Math.Seq.{take-append_seam, drop-append_seam}
+use Rattle.std.proofs.lemmas.Bool.{cases_eq}
+use Rattle.std.proofs.lemmas.Int.{ints}
+use Rattle.std.proofs.lemmas.Nat.{div-add-mod'}
+use Rattle.bitvec.specs.Memory.{bit_of, memory_bits}
+use Rattle.bitvec.specs.Place.{words_met}
+use Rattle.bitvec.specs.Span.{Span, Fits, list_of}
+use Rattle.bitvec.proofs.CopyLemmas.{word_within}
+use Rattle.bitvec.proofs.MemoryLemmas.{tabulate_same}
+use Rattle.bitvec.proofs.PartLemmas.{length-list_of}
+use Rattle.bitvec.proofs.PlaceLemmas.{words_met-none, words_met-some}
+use Rattle.bitvec.proofs.SplitLemmas.{span_before}
+use Rattle.bitvec_slice.specs.Whole.{whole_span}
+
+met_whole : (bits words count : ℕ) → count ≤ words * bits → words_met bits 0 count ≤ words
+met_whole bits words count h =
+    elim (cases_eq count 0) [
+      | inl none ↦ omega (arith, words_met-none bits 0 count none)
+      | inr other ↦ (
+          let last = word_within ((count - 1) / bits) ((count - 1) % bits) bits words (omega (arith, h, other, div-add-mod' (count - 1) bits)) in
+          let some = words_met-some bits 0 count (omega arith) in
+          let same : (0 + count - 1) / bits ≡ (count - 1) / bits = ap (λ n. n / bits) (omega arith) in
+          omega (arith, last, some, same))
+    ]
+
+-- so many bits from the first on lie in a memory
+pub whole_fits : (bits words count : ℕ) → count ≤ words * bits → Fits bits (record { word = pos 0; head = 0; len = count }) words
+whole_fits bits words count h = (omega (arith, ints), omega (arith, met_whole bits words count h))
+
+-- the list of the span of all bits of a memory is the list of these bits
+pub list_of_whole : (bits : ℕ) (at : ℕ → ℕ) (span : Span) (words : List ℕ) (count : ℕ) → span ≡ whole_span bits count → length words ≡ count → list_of bits at span words ≡ memory_bits bits at words
+list_of_whole bits at span words count is_span many =
+    ap (λ (s : Span). list_of bits at s words) is_span
+    ∙ ap (λ n. list_of bits at (whole_span bits n) words) (sym many)
+    ∙ tabulate_same (length words * bits) _ _ false (λ j h. ap (bit_of bits at words) (let same : 0 * bits + 0 + j ≡ j = omega arith in same))
+
+take_first : (xs ys : List Bool) (n : ℕ) → length xs ≡ n → take n (xs ++ ys) ≡ xs
+take_first xs ys n e = subst (λ m. take m (xs ++ ys) ≡ xs) e (take-append_seam xs ys)
+
+drop_first : (xs ys : List Bool) (n : ℕ) → length xs ≡ n → drop n (xs ++ ys) ≡ ys
+drop_first xs ys n e = subst (λ m. drop m (xs ++ ys) ≡ ys) e (drop-append_seam xs ys)
+
+-- two spans whose lists, joined, are that of a third, where the first has its first `mid` bits
+module _ (bits : ℕ) (at : ℕ → ℕ) (first second span : Span) (words : List ℕ) (mid : ℕ) (is_first : first ≡ span_before span mid)
+    (joined : list_of bits at first words ++ list_of bits at second words ≡ list_of bits at span words) where
+  long : length (list_of bits at first words) ≡ mid
+  long = length-list_of bits at first words ∙ ap (λ (s : Span). s.len) is_first
+
+  pub list_of-front : list_of bits at first words ≡ take mid (list_of bits at span words)
+  list_of-front = sym (ap (take mid) (sym joined) ∙ take_first (list_of bits at first words) (list_of bits at second words) mid long)
+
+  pub list_of-back : list_of bits at second words ≡ drop mid (list_of bits at span words)
+  list_of-back = sym (ap (drop mid) (sym joined) ∙ drop_first (list_of bits at first words) (list_of bits at second words) mid long)

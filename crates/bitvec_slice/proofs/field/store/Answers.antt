@@ -1,0 +1,91 @@
+use Rattle.std.proofs.Common.{◌≡◌, ℕ, ◌<◌, ◌%◌, ◌^◌, Bool, List, length, map, ap, sym, ◌∙◌, refl, subst, arith}
+use Rattle.std.proofs.lemmas.List.{length-map}
+use Rattle.bitvec.specs.BitSpan.{span_of}
+use Rattle.bitvec.specs.Digit.{digit}
+use Rattle.bitvec.specs.Place.{words_met}
+use Rattle.bitvec.specs.Span.{Fits, element, list_of}
+use Rattle.bitvec.proofs.MemoryLemmas.{length-tabulate}
+use Rattle.bitvec.proofs.PartLemmas.{length-list_of}
+use Rattle.bitvec.proofs.WordLemmas.{list_of-edited, others-edited, words-edited}
+use Rattle.bitvec_slice.specs.Field.{field_bits, field_list, number_with, lowest_digits}
+use Rattle.bitvec_slice.proofs.FieldPartLemmas.{has_parts, has_parts_below}
+use Rattle.bitvec_slice.proofs.FieldStoreLemmas.{stored_before, stored_none, stored_more, stored_all, stored_loads, length-field_list}
+use Rattle.bitvec_slice.proofs.field.store.Goals as goal
+
+pub loop-k-init : goal.loop-k-init
+loop-k-init g c =
+    let width = g.R.BitRegister.BITS in
+    let span = c.args.span in
+    let old = map g.R.BitRegister.number c.args.memory.now in
+    record {
+      list = stored_none width span.head span.len (field_list c.args.big width g.O.Sequential.RISES span.head (lowest_digits span.len (g.N.BitRegister.number c.args.value))) (list_of width g.O.BitAt.at_of (span_of span) old) (length-list_of width g.O.BitAt.at_of (span_of span) old);
+      others = λ place out. refl;
+      words = refl;
+    }
+
+pub loop-k-preserved : goal.loop-k-preserved
+loop-k-preserved g c =
+    let width = g.R.BitRegister.BITS in
+    let at = g.O.BitAt.at_of in
+    let number = g.R.BitRegister.number in
+    let eight = g.met.R.BitRegister.width_at_least_8 in
+    let span = c.args.span in
+    let xs = field_list c.args.big width g.O.Sequential.RISES span.head (lowest_digits span.len (g.N.BitRegister.number c.args.value)) in
+    let first = list_of width at (span_of span) (map number c.args.memory.now) in
+    let old = map number c.loop-k.memory in
+    let new = map number c.store_word.new.memory in
+    let many = length-map c.loop-k.memory number in
+    let head : span.head < width = omega (arith, span.in_word, eight) in
+    let fits = subst (λ (n : ℕ). Fits width (span_of span) n) (sym (many ∙ c.loop-k.invariant.words)) c.requires.fits in
+    let met : c.loop-k.k < words_met width span.head span.len = omega (arith, c.loop-k-test.true, c.elements-k-end.ensures.value) in
+    let after = λ (i : ℕ). digit (number c.word_digits-word.result) (at i) in
+    let edits = c.store_word.ensures in
+    let kept = others-edited width at (span_of span) c.loop-k.k after old new (number c.store_word.result) g.met.O.BitOrder.one_to_one head fits met edits in
+    record {
+      list = list_of-edited width at (span_of span) c.loop-k.k after old new (number c.store_word.result) g.met.O.BitOrder.one_to_one head fits met edits (element xs) c.word_digits-word.ensures
+          ∙ stored_more width span.head span.len c.loop-k.k xs first (list_of width at (span_of span) old) c.loop-k.invariant.list;
+      others = λ place out. kept place out ∙ c.loop-k.invariant.others place out;
+      words = sym (length-map c.store_word.new.memory number) ∙ words-edited width at (span_of span) c.loop-k.k after old new (number c.store_word.result) g.met.O.BitOrder.one_to_one head fits met edits ∙ many ∙ c.loop-k.invariant.words;
+    }
+
+pub word_digits-word-requires-clause-small : goal.word_digits-word-requires-clause-small
+word_digits-word-requires-clause-small g c =
+    omega (arith, c.requires.small, length-list_of g.R.BitRegister.BITS g.O.BitAt.at_of (span_of c.args.span) (map g.R.BitRegister.number c.args.memory.now))
+
+pub returns-clause-list : goal.returns-clause-list
+returns-clause-list g c =
+    let width = g.R.BitRegister.BITS in
+    let at = g.O.BitAt.at_of in
+    let span = c.args.span in
+    let value = g.N.BitRegister.number c.args.value in
+    let first = list_of width at (span_of span) (map g.R.BitRegister.number c.args.memory.now) in
+    let xs = λ (n : ℕ). field_list c.args.big width g.O.Sequential.RISES span.head (lowest_digits n value) in
+    let all : c.loop-k.k ≡ words_met width span.head span.len = omega (arith, c.loop-k-test.false, c.loop-k.auto.k-end, c.elements-k-end.ensures.value) in
+    c.loop-k.invariant.list
+    ∙ ap (λ (k : ℕ). stored_before width span.head span.len k (xs span.len) first) all
+    ∙ stored_all width span.head span.len (xs span.len) first (omega (arith, g.met.R.BitRegister.width_at_least_8)) (length-field_list c.args.big width g.O.Sequential.RISES span.head (lowest_digits span.len value) ∙ length-tabulate span.len (digit value))
+    ∙ ap xs (sym (length-list_of width at (span_of span) (map g.R.BitRegister.number c.args.memory.now)))
+
+pub returns-clause-loaded : goal.returns-clause-loaded
+returns-clause-loaded g c =
+    let width = g.R.BitRegister.BITS in
+    let rises = g.O.Sequential.RISES in
+    let span = c.args.span in
+    let eight = g.met.R.BitRegister.width_at_least_8 in
+    let first = list_of width g.O.BitAt.at_of (span_of span) (map g.R.BitRegister.number c.args.memory.now) in
+    ap (λ (ys : List Bool). number_with (field_bits c.args.big width rises span.head ys)) (returns-clause-list g c)
+    ∙ stored_loads c.args.big rises width span.head (length first) (g.N.BitRegister.number c.args.value) (omega (arith, eight)) (omega (arith, span.in_word, eight))
+
+pub returns-clause-parts : goal.returns-clause-parts
+returns-clause-parts g c =
+    let width = g.R.BitRegister.BITS in
+    let at = g.O.BitAt.at_of in
+    let rises = g.O.Sequential.RISES in
+    let span = c.args.span in
+    let eight = g.met.R.BitRegister.width_at_least_8 in
+    let new = map g.R.BitRegister.number c.loop-k.memory in
+    let value = g.N.BitRegister.number c.args.value in
+    let loaded = number_with (field_bits c.args.big width rises span.head (list_of width at (span_of span) new)) in
+    let long = length-list_of width at (span_of span) (map g.R.BitRegister.number c.args.memory.now) in
+    has_parts_below c.args.big width rises (span_of span) new loaded value (returns-clause-loaded g c ∙ ap (λ (n : ℕ). value % 2 ^ n) long)
+    (has_parts c.args.big width rises at (span_of span) new loaded (omega (arith, eight)) (omega (arith, span.in_word, eight)) g.met.O.Sequential.sequence refl)

@@ -1,0 +1,17 @@
+use Rattle.bitvec_slice.specs.BitSlice.{bits_of}
+use Rattle.bitvec_slice.specs.Ones.{ones_left}
+use Rattle.bitvec_slice.proofs.OnesLemmas.{ones_none, ones_first, ones_past, progress_first}
+use Rattle.bitvec_slice.proofs.slice.ones.IterOnesIterator.next.Goals as goal
+
+pub returns-in-Some-clause-steps : goal.returns-in-Some-clause-steps
+returns-in-Some-clause-steps g c =
+    let old = c.args.self.now in
+    ones_first (bits_of old.slice) old.next old.end c.in-Some.i c.in-Some.ensures
+
+pub returns-in-Some-clause-goes : goal.returns-in-Some-clause-goes
+returns-in-Some-clause-goes g c = progress_first _ ones_left _ _ _ tt (returns-in-Some-clause-steps g c)
+
+pub returns-in-None-clause-steps : goal.returns-in-None-clause-steps
+returns-in-None-clause-steps g c =
+    let old = c.args.self.now in
+    (ones_none (bits_of old.slice) old.next old.end c.in-None.ensures, ones_past (bits_of old.slice) old.end)

@@ -1,0 +1,31 @@
+-- What a `BitSliceMut` shows.
+use Rattle.std.specs.Prelude.{◌≡◌, ℕ, Bool, List, length, map}
+use Rattle.std.specs.Borrow.{MutBor}
+use Rattle.bitvec.specs.Span.{Span, KeepsOthers, list_of}
+use Rattle.bitvec_slice.specs.declared.slice.bit_slice_mut.BitSliceMut.{BitSliceMut}
+
+-- the memory that it borrows
+abbrev pub lent_memory : {R O : Type 0} {a b c d e f g h i : _} → BitSliceMut R O a b c d e f g h i → MutBor (List R)
+lent_memory slice = slice.memory
+
+-- where its bits lie in that memory
+abbrev pub lent_span : {R O : Type 0} {a b c d e f g h i : _} → BitSliceMut R O a b c d e f g h i → Span
+lent_span slice = record { word = slice.word; head = slice.head; len = slice.len }
+
+-- how many bits it has
+abbrev pub lent_len : {R O : Type 0} {a b c d e f g h i : _} → BitSliceMut R O a b c d e f g h i → ℕ
+lent_len slice = (lent_span slice).len
+
+-- the numbers of the memory's words
+abbrev pub lent_words : {R O : Type 0} {a b c d e f g h i : _} → BitSliceMut R O a b c d e f g h i → List ℕ
+lent_words {a = own} slice = map own.number (lent_memory slice).now
+
+-- its bits, in order
+abbrev pub lent_bits : {R O : Type 0} {a b c d e f g h i : _} → BitSliceMut R O a b c d e f g h i → List Bool
+lent_bits {a = own} {i = order} slice = list_of own.BITS order.at_of (lent_span slice) (lent_words slice)
+
+-- a slice's bits become those of a list, and all else stays: its loan, its place, and every other bit of the memory
+abbrev pub BecomesBits : {R O : Type 0} {a b c d e f g h i : _} → (old new : BitSliceMut R O a b c d e f g h i) → List Bool → Type 0
+BecomesBits {a = own} {i = order} old new bits =
+    (lent_bits new ≡ bits) × (lent_span new ≡ lent_span old) × ((lent_memory new).ghost_name ≡ (lent_memory old).ghost_name)
+    × KeepsOthers own.BITS order.at_of (lent_span old) (lent_words old) (lent_words new) × (length (lent_words new) ≡ length (lent_words old))

@@ -1,0 +1,348 @@
+//! Numbers in slices of bits.
+//!
+//! A slice of at most a number's width is loaded as that number, and a number is stored into one.
+//! The bits that a word of the memory has of the slice are digits of the number as they are digits
+//! of the word, in the same order; little-endian has those of the first word lowest, big-endian
+//! highest.
+
+ghost use Rattle.std.specs.Prelude.{◌≡◌, ℕ, ◌+◌, ◌-◌, ◌*◌, ◌/◌, ◌<◌, ◌≤◌, ◌==◌, ◌&&◌, ◌^◌, ◌%◌};
+ghost use Rattle.std.specs.Prelude.{Bool, true, false, nat_lt, if◌then◌else◌, length, map, refl};
+ghost use Rattle.bitvec.specs.BitSpan.{span_of};
+ghost use Rattle.bitvec.specs.Digit.{digit};
+ghost use Rattle.bitvec.specs.Place.{words_met};
+ghost use Rattle.bitvec.specs.Slot.{slot_of, EditsPart};
+ghost use Rattle.bitvec.specs.Span.{Fits, KeepsOthers, element, list_of};
+ghost use Rattle.bitvec_slice.specs.Field.{IsSequential, stretch_start, stretch_end, shift_at};
+ghost use Rattle.bitvec_slice.specs.Field.{place_in, word_at, le_bits, be_bits, field_bits};
+ghost use Rattle.bitvec_slice.specs.Field.{le_list, be_list, field_list, number_with};
+ghost use Rattle.bitvec_slice.specs.Field.{lowest_digits, HasParts};
+
+use crate::slice::{BitSlice, BitSliceMut};
+use bitvec::mem::BitRegister;
+use bitvec::order::{BitOrder, Lsb0, Msb0};
+use bitvec::ptr::span::BitSpan;
+
+/// An order whose positions rise with the index, or fall with it.
+///
+/// So the bits that a word has of a slice lie side by side in it, in their order or the other way.
+pub trait Sequential<R: BitRegister>: BitOrder<R> {
+    /// Whether positions rise with the index.
+    const RISES: bool;
+
+    ghost RISES: { Bool };
+
+    ghost sequence: { IsSequential R.BITS RISES Self.at_of };
+}
+
+impl<R: BitRegister> Sequential<R> for Lsb0 {
+    const RISES: bool = true;
+
+    ghost RISES = { true };
+
+    ghost sequence = { record { positions = λ i h. refl } };
+}
+
+impl<R: BitRegister> Sequential<R> for Msb0 {
+    ghost use Rattle.std.proofs.Common.{ap};
+
+    const RISES: bool = false;
+
+    ghost RISES = { false };
+
+    ghost sequence = { record { positions = λ i h. ap (λ n. n - i) R.mask_is_greatest_index } };
+}
+
+// How many bits lie before the `k`-th word that a span meets, from the first bit of the first word.
+fn before<R: BitRegister, O>(span: BitSpan<R, O>, k: usize) -> usize
+    requires { k < words_met R.BITS (span_of span).head (span_of span).len }
+    ensures value { result ≡ k * R.BITS }
+    ensures below { result < (span_of span).head + (span_of span).len }
+{
+    k * usize::from(R::BITS)
+}
+
+// The numbers of the bits that the `k`-th word has of a span: the first, and one past the last.
+fn stretch<R: BitRegister, O>(span: BitSpan<R, O>, k: usize) -> (usize, usize)
+    requires { k < words_met R.BITS (span_of span).head (span_of span).len }
+    ensures start { result.0 ≡ stretch_start R.BITS (span_of span).head k }
+    ensures end { result.1 ≡ stretch_end R.BITS (span_of span).head (span_of span).len k }
+{
+    let width = usize::from(R::BITS);
+    let head = usize::from(span.head().into_inner());
+    let before = before(span, k);
+    let start = before.saturating_sub(head);
+    let end = before + width - head;
+    let len = span.len();
+    (start, if end < len { end } else { len })
+}
+
+// How far up in its word the least digit of the `k`-th word's part lies.
+fn shift<R: BitRegister, O: Sequential<R>>(span: BitSpan<R, O>, k: usize) -> u8
+    requires { k < words_met R.BITS (span_of span).head (span_of span).len }
+    ensures value { result ≡ shift_at R.BITS O.RISES (span_of span).head (span_of span).len k }
+    ensures below { result < R.BITS }
+{
+    let width = usize::from(R::BITS);
+    let head = usize::from(span.head().into_inner());
+    let before = before(span, k);
+    let (start, end) = stretch(span, k);
+    if O::RISES {
+        (start + head - before) as u8
+    } else {
+        (before + width - (head + end)) as u8
+    }
+}
+
+// How far up in a number the part of the `k`-th word lies.
+fn place<R: BitRegister, O, N: BitRegister>(span: BitSpan<R, O>, k: usize, big: bool) -> u8
+    requires met { k < words_met R.BITS (span_of span).head (span_of span).len }
+    requires small { (span_of span).len ≤ N.BITS }
+    ensures value { result ≡ place_in big R.BITS (span_of span).head (span_of span).len k }
+    ensures below { result < N.BITS }
+{
+    let (start, end) = stretch(span, k);
+    if big {
+        (span.len() - end) as u8
+    } else {
+        start as u8
+    }
+}
+
+// The part of the `k`-th word that a span meets, as a number.
+fn load_part<R: BitRegister, O: Sequential<R>>(span: BitSpan<R, O>, memory: &[R], k: usize) -> R
+    requires fits { Fits R.BITS (span_of span) (length memory.now) }
+    requires met { k < words_met R.BITS (span_of span).head (span_of span).len }
+    ensures { (p : ℕ) → digit (R.number result) p
+        ≡ (nat_lt (stretch_start R.BITS (span_of span).head k + p)
+        (stretch_end R.BITS (span_of span).head (span_of span).len k)
+        && element (le_bits R.BITS O.RISES (span_of span).head
+        (list_of R.BITS O.at_of (span_of span) (map R.number memory.now)))
+        (stretch_start R.BITS (span_of span).head k + p)) }
+{
+    span.part(memory, k)
+        .load_value()
+        .shr(shift::<R, O>(span, k))
+}
+
+// The same where the part lies in the number of the whole span.
+fn load_digits<R: BitRegister, O: Sequential<R>, N: BitRegister>(
+    span: BitSpan<R, O>,
+    memory: &[R],
+    k: usize,
+    big: bool,
+) -> N
+    requires fits { Fits R.BITS (span_of span) (length memory.now) }
+    requires met { k < words_met R.BITS (span_of span).head (span_of span).len }
+    requires small { (span_of span).len ≤ N.BITS }
+    ensures { (q : ℕ) → q < N.BITS → digit (N.number result) q
+        ≡ ((word_at big R.BITS (span_of span).head (span_of span).len q == k)
+        && element (field_bits big R.BITS O.RISES (span_of span).head
+        (list_of R.BITS O.at_of (span_of span) (map R.number memory.now))) q) }
+{
+    let part = load_part(span, memory, k).to_u128();
+    N::from_u128(part)
+        .unwrap()
+        .shl(place::<R, O, N>(span, k, big))
+}
+
+// The number of a span, its first word's part lowest, or highest where `big`.
+fn load<R: BitRegister, O: Sequential<R>, N: BitRegister>(
+    span: BitSpan<R, O>,
+    memory: &[R],
+    big: bool,
+) -> N
+    requires fits { Fits R.BITS (span_of span) (length memory.now) }
+    requires small { (span_of span).len ≤ N.BITS }
+    ensures number { N.number result
+        ≡ number_with (field_bits big R.BITS O.RISES (span_of span).head
+        (list_of R.BITS O.at_of (span_of span) (map R.number memory.now))) }
+    ensures parts { HasParts big R.BITS O.RISES (span_of span) (map R.number memory.now)
+        (N.number result) }
+{
+    let mut number = N::ZERO;
+    for k in 0..span.elements() {
+        number = number.or(load_digits(span, memory, k, big));
+    }
+    number
+}
+
+// The digits of a number that lie in the `k`-th word's part, where they lie in that word.
+fn word_digits<R: BitRegister, O: Sequential<R>, N: BitRegister>(
+    span: BitSpan<R, O>,
+    k: usize,
+    value: N,
+    big: bool,
+) -> R
+    requires met { k < words_met R.BITS (span_of span).head (span_of span).len }
+    requires small { (span_of span).len ≤ N.BITS }
+    ensures { (j : ℕ) → j < (span_of span).len → ((span_of span).head + j) / R.BITS ≡ k
+        → digit (R.number result) (O.at_of (((span_of span).head + j) % R.BITS))
+        ≡ element (field_list big R.BITS O.RISES (span_of span).head
+        (lowest_digits (span_of span).len (N.number value))) j }
+{
+    let digits = value.shr(place::<R, O, N>(span, k, big)).to_u128();
+    let part = digits & R::ALL.to_u128();
+    R::from_u128(part).unwrap().shl(shift::<R, O>(span, k))
+}
+
+// Puts the digits of a word in place into the `k`-th word that a span meets, and returns those that
+// were there.
+fn store_word<R: BitRegister, O: BitOrder<R>>(
+    span: BitSpan<R, O>,
+    memory: &mut [R],
+    k: usize,
+    word: R,
+) -> R
+    requires fits { Fits R.BITS (span_of span) (length memory.old) }
+    requires met { k < words_met R.BITS (span_of span).head (span_of span).len }
+    ensures { EditsPart R.BITS O.at_of (slot_of R.BITS (span_of span) k)
+        (λ i. digit (R.number word) (O.at_of i)) (map R.number memory.old)
+        (map R.number memory.new) (R.number result) }
+{
+    let mut part = span.part_mut(memory, k);
+    part.store_value(word)
+}
+
+// Makes the bits of a span the digits of a number, those of its first word the lowest, or the
+// highest where `big`, and changes no other bit.
+fn store<R: BitRegister, O: Sequential<R>, N: BitRegister>(
+    span: BitSpan<R, O>,
+    memory: &mut [R],
+    value: N,
+    big: bool,
+)
+    requires fits { Fits R.BITS (span_of span) (length memory.old) }
+    requires small { length (list_of R.BITS O.at_of (span_of span) (map R.number memory.old))
+        ≤ N.BITS }
+    ensures list { list_of R.BITS O.at_of (span_of span) (map R.number memory.new)
+        ≡ field_list big R.BITS O.RISES (span_of span).head (lowest_digits
+        (length (list_of R.BITS O.at_of (span_of span) (map R.number memory.old)))
+        (N.number value)) }
+    ensures loaded { number_with (field_bits big R.BITS O.RISES (span_of span).head
+        (list_of R.BITS O.at_of (span_of span) (map R.number memory.new)))
+        ≡ N.number value
+        % 2 ^ length (list_of R.BITS O.at_of (span_of span) (map R.number memory.old)) }
+    ensures parts { HasParts big R.BITS O.RISES (span_of span) (map R.number memory.new)
+        (N.number value) }
+    ensures others { KeepsOthers R.BITS O.at_of (span_of span) (map R.number memory.old)
+        (map R.number memory.new) }
+    ensures words { length memory.new ≡ length memory.old }
+{
+    for k in 0..span.elements() {
+        let word = word_digits(span, k, value, big);
+        store_word(span, memory, k, word);
+    }
+}
+
+impl<'a, R: BitRegister, O: Sequential<R>> BitSlice<'a, R, O> {
+    ghost use Rattle.bitvec_slice.specs.BitSlice.{slice_memory, slice_span, slice_len, bits_of};
+
+    /// The number whose digits the bits are: those of one word in the word's own order, and those
+    /// of the first word lowest. Requires no more bits than the number type has digits; the digits
+    /// past the bits are zero.
+    pub fn load_le<N: BitRegister>(&self) -> N
+        requires { slice_len self.now ≤ N.BITS }
+        ensures number { N.number result
+            ≡ number_with (le_bits R.BITS O.RISES (slice_span self.now).head (bits_of self.now)) }
+        ensures parts { HasParts false R.BITS O.RISES (slice_span self.now)
+            (map R.number (slice_memory self.now)) (N.number result) }
+        ensures rising { O.RISES ≡ true → (j : ℕ) → j < length (bits_of self.now)
+            → digit (N.number result) j ≡ element (bits_of self.now) j }
+        ensures past { (j : ℕ) → length (bits_of self.now) ≤ j
+            → digit (N.number result) j ≡ false }
+    {
+        load(self.span, self.memory, false)
+    }
+
+    /// The number whose digits the bits are: those of one word in the word's own order, and those
+    /// of the first word highest. Requires no more bits than the number type has digits; the digits
+    /// past the bits are zero.
+    pub fn load_be<N: BitRegister>(&self) -> N
+        requires { slice_len self.now ≤ N.BITS }
+        ensures number { N.number result
+            ≡ number_with (be_bits R.BITS O.RISES (slice_span self.now).head (bits_of self.now)) }
+        ensures parts { HasParts true R.BITS O.RISES (slice_span self.now)
+            (map R.number (slice_memory self.now)) (N.number result) }
+        ensures falling { O.RISES ≡ false → (j : ℕ) → j < length (bits_of self.now)
+            → digit (N.number result) j
+            ≡ element (bits_of self.now) (length (bits_of self.now) - 1 - j) }
+        ensures past { (j : ℕ) → length (bits_of self.now) ≤ j
+            → digit (N.number result) j ≡ false }
+    {
+        load(self.span, self.memory, true)
+    }
+}
+
+impl<'a, R: BitRegister, O: Sequential<R>> BitSliceMut<'a, R, O> {
+    ghost use Rattle.bitvec_slice.specs.BitSliceMut.{lent_span, lent_words, lent_len, lent_bits};
+    ghost use Rattle.bitvec_slice.specs.BitSliceMut.{BecomesBits};
+
+    /// The number that [`load_le`](BitSlice::load_le) of [`as_bitslice`](BitSliceMut::as_bitslice)
+    /// gives. Requires no more bits than the number type has digits.
+    pub fn load_le<N: BitRegister>(&self) -> N
+        requires { lent_len self.now ≤ N.BITS }
+        ensures number { N.number result
+            ≡ number_with (le_bits R.BITS O.RISES (lent_span self.now).head (lent_bits self.now)) }
+        ensures parts { HasParts false R.BITS O.RISES (lent_span self.now) (lent_words self.now)
+            (N.number result) }
+        ensures rising { O.RISES ≡ true → (j : ℕ) → j < length (lent_bits self.now)
+            → digit (N.number result) j ≡ element (lent_bits self.now) j }
+        ensures past { (j : ℕ) → length (lent_bits self.now) ≤ j
+            → digit (N.number result) j ≡ false }
+    {
+        self.as_bitslice().load_le()
+    }
+
+    /// The number that [`load_be`](BitSlice::load_be) of [`as_bitslice`](BitSliceMut::as_bitslice)
+    /// gives. Requires no more bits than the number type has digits.
+    pub fn load_be<N: BitRegister>(&self) -> N
+        requires { lent_len self.now ≤ N.BITS }
+        ensures number { N.number result
+            ≡ number_with (be_bits R.BITS O.RISES (lent_span self.now).head (lent_bits self.now)) }
+        ensures parts { HasParts true R.BITS O.RISES (lent_span self.now) (lent_words self.now)
+            (N.number result) }
+        ensures falling { O.RISES ≡ false → (j : ℕ) → j < length (lent_bits self.now)
+            → digit (N.number result) j
+            ≡ element (lent_bits self.now) (length (lent_bits self.now) - 1 - j) }
+        ensures past { (j : ℕ) → length (lent_bits self.now) ≤ j
+            → digit (N.number result) j ≡ false }
+    {
+        self.as_bitslice().load_be()
+    }
+
+    /// Makes the bits the lowest digits of a number, as many as there are bits, so that
+    /// [`load_le`](BitSliceMut::load_le) gives these back. Requires no more bits
+    /// than the number type has digits.
+    pub fn store_le<N: BitRegister>(&mut self, value: N)
+        requires { lent_len self.old ≤ N.BITS }
+        ensures stored { BecomesBits self.old self.new
+            (le_list R.BITS O.RISES (lent_span self.old).head
+            (lowest_digits (length (lent_bits self.old)) (N.number value))) }
+        ensures loaded { number_with (le_bits R.BITS O.RISES (lent_span self.new).head
+            (lent_bits self.new)) ≡ N.number value % 2 ^ length (lent_bits self.old) }
+        ensures parts { HasParts false R.BITS O.RISES (lent_span self.new) (lent_words self.new)
+            (N.number value) }
+    {
+        let span = self.span();
+        let memory = &mut *self.memory;
+        store(span, memory, value, false);
+    }
+
+    /// Makes the bits the lowest digits of a number, as many as there are bits, so that
+    /// [`load_be`](BitSliceMut::load_be) gives these back. Requires no more bits
+    /// than the number type has digits.
+    pub fn store_be<N: BitRegister>(&mut self, value: N)
+        requires { lent_len self.old ≤ N.BITS }
+        ensures stored { BecomesBits self.old self.new
+            (be_list R.BITS O.RISES (lent_span self.old).head
+            (lowest_digits (length (lent_bits self.old)) (N.number value))) }
+        ensures loaded { number_with (be_bits R.BITS O.RISES (lent_span self.new).head
+            (lent_bits self.new)) ≡ N.number value % 2 ^ length (lent_bits self.old) }
+        ensures parts { HasParts true R.BITS O.RISES (lent_span self.new) (lent_words self.new)
+            (N.number value) }
+    {
+        let span = self.span();
+        let memory = &mut *self.memory;
+        store(span, memory, value, true);
+    }
+}

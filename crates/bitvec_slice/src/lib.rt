@@ -1,0 +1,8 @@
+//! Slices of bits: a span with the memory that it reads or writes, seen as a list of truth values.
+//!
+//! The Rust crate's `BitSlice`, over the public items of `bitvec` alone. A contract speaks of a
+//! slice's list, as that of a `&[bool]` would; where its bits lie in words is no concern of it.
+#![tactic(auto)]
+
+pub mod field;
+pub mod slice;

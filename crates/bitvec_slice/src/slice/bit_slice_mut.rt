@@ -1,0 +1,155 @@
+//! Slices of bits for writing.
+
+ghost use Rattle.std.specs.Prelude.{◌≡◌, ◌<◌, ◌↔◌, IsTrue, IsSome, IfSome, length};
+ghost use Rattle.std.specs.Prelude.{slice_get, slice_set};
+ghost use Rattle.bitvec.specs.BitSpan.{span_of};
+ghost use Rattle.std.specs.Prelude.{pos, ◌≤◌, ◌+ℤ◌, ◌≤ℤ◌};
+ghost use Rattle.std.specs.Int.{int_div_euclid};
+ghost use Rattle.bitvec.specs.Place.{place_at, region_max_bits, greatest_isize};
+ghost use Rattle.bitvec.specs.Span.{Fits, element};
+
+use crate::slice::BitSlice;
+use crate::slice::bit::write_bit;
+use bitvec::index::BitIdx;
+use bitvec::mem::BitRegister;
+use bitvec::order::BitOrder;
+use bitvec::ptr::span::BitSpan;
+use std::marker::PhantomData;
+
+/// The bits of a span in a memory, borrowed for writing.
+///
+/// The memory is lent until the slice is gone, and then has the slice's list in its place and every
+/// other bit as it was.
+pub struct BitSliceMut<'a, R: BitRegister, O: BitOrder<R>> {
+    pub(crate) memory: &'a mut [R],
+    word: isize,
+    head: u8,
+    len: usize,
+    of: PhantomData<O>,
+    pub ghost in_word: { head < R.BITS },
+    pub ghost short: { len ≤ region_max_bits },
+    pub ghost low: { int_div_euclid (place_at R.BITS word head +ℤ pos len) (pos R.BITS)
+        ≤ℤ greatest_isize },
+    pub ghost fits: { Fits R.BITS (record { word = word; head = head; len = len })
+        (length memory.now) },
+}
+
+impl<R: BitRegister, O: BitOrder<R>> Drop for BitSliceMut<'_, R, O> {
+    ghost use Rattle.bitvec_slice.specs.BitSliceMut.{lent_memory};
+
+    fn drop(self)
+        ensures { self.exit.0.now ≡ (lent_memory self.entry).now }
+    {
+        let BitSliceMut {
+            memory: _,
+            word: _,
+            head: _,
+            len: _,
+            of: _,
+        } = self;
+    }
+}
+
+impl<'a, R: BitRegister, O: BitOrder<R>> BitSliceMut<'a, R, O> {
+    ghost use Rattle.bitvec_slice.specs.BitSliceMut.{lent_memory, lent_span, lent_len, lent_bits};
+    ghost use Rattle.bitvec_slice.specs.BitSliceMut.{BecomesBits};
+    ghost use Rattle.bitvec_slice.specs.BitSlice.{slice_memory, slice_span, bits_of};
+
+    // The index of the first word.
+    fn word(&self) -> isize
+        ensures { result ≡ (lent_span self.now).word }
+    {
+        self.word
+    }
+
+    // The span of its bits.
+    pub(crate) fn span(&self) -> BitSpan<R, O>
+        ensures { span_of result ≡ lent_span self.now }
+    {
+        BitSpan::new(self.word(), BitIdx::new_unchecked(self.head), self.len).unwrap()
+    }
+
+    /// The bits of a span in a memory that it fits: [`fits`](BitSpan::fits) is the test.
+    pub fn new_unchecked(span: BitSpan<R, O>, memory: &'a mut [R]) -> Self
+        requires { Fits R.BITS (span_of span) (length memory.old) }
+        ensures reference { (lent_memory result).ghost_name ≡ memory.entry.ghost_name }
+        ensures memory { (lent_memory result).now ≡ memory.old }
+        ensures span { lent_span result ≡ span_of span }
+    {
+        BitSliceMut {
+            memory,
+            word: span.address(),
+            head: span.head().into_inner(),
+            len: span.len(),
+            of: PhantomData,
+        }
+    }
+
+    /// The bits of a span in a memory, and `None` exactly where the span does not lie in it.
+    pub fn new(span: BitSpan<R, O>, memory: &'a mut [R]) -> Option<Self>
+        ensures accepted { IsSome result ↔ Fits R.BITS (span_of span) (length memory.old) }
+        ensures reference { IfSome result (λ slice. (lent_memory slice).ghost_name
+            ≡ memory.entry.ghost_name) }
+        ensures memory { IfSome result (λ slice. (lent_memory slice).now ≡ memory.old) }
+        ensures span { IfSome result (λ slice. lent_span slice ≡ span_of span) }
+    {
+        if span.fits(memory.len()) {
+            Some(Self::new_unchecked(span, memory))
+        } else {
+            None
+        }
+    }
+
+    /// Its bits, for reading.
+    pub fn as_bitslice(&self) -> BitSlice<'_, R, O>
+        ensures memory { slice_memory result ≡ (lent_memory self.now).now }
+        ensures span { slice_span result ≡ lent_span self.now }
+        ensures bits { bits_of result ≡ lent_bits self.now }
+    {
+        BitSlice {
+            memory: &*self.memory,
+            span: self.span(),
+        }
+    }
+
+    /// How many bits there are.
+    pub fn len(&self) -> usize
+        ensures value { result ≡ lent_len self.now }
+        ensures list { result ≡ length (lent_bits self.now) }
+    {
+        self.len
+    }
+
+    /// Whether there are none.
+    pub fn is_empty(&self) -> bool
+        ensures { IsTrue result ↔ (lent_len self.now ≡ 0) }
+    {
+        self.len() == 0
+    }
+
+    /// The bit `i` places after the first, and `None` where there are no more than `i` bits.
+    pub fn get(&self, i: usize) -> Option<bool>
+        ensures { result ≡ slice_get (lent_bits self.now) i }
+    {
+        self.as_bitslice().get(i)
+    }
+
+    /// The bit `i` places after the first. Requires that there is one: [`len`](BitSliceMut::len) is
+    /// the test.
+    pub fn get_unchecked(&self, i: usize) -> bool
+        requires { i < lent_len self.now }
+        ensures { result ≡ element (lent_bits self.now) i }
+    {
+        self.as_bitslice().get_unchecked(i)
+    }
+
+    /// Writes the bit `i` places after the first.
+    pub fn set(&mut self, i: usize, bit: bool)
+        requires { i < lent_len self.old }
+        ensures { BecomesBits self.old self.new (slice_set (lent_bits self.old) i bit) }
+    {
+        let span = self.span();
+        let memory = &mut *self.memory;
+        write_bit(span, memory, i, bit);
+    }
+}

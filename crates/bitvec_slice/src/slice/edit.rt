@@ -1,0 +1,154 @@
+//! Edits of a `BitSliceMut`: each says what its list of bits becomes.
+
+ghost use Rattle.std.specs.Prelude.{◌≡◌, ◌<◌, ◌≤◌, ◌+◌, ◌-◌, ◌++◌, length, take, drop, replicate};
+ghost use Rattle.std.specs.Prelude.{false, reverse, slice_set};
+ghost use Rattle.std.specs.List.{swap};
+ghost use Rattle.bitvec.specs.Memory.{list_with_copy};
+ghost use Rattle.bitvec.specs.Span.{element};
+
+use crate::slice::bit::{
+    copy_bits, copy_stretch, fill_stretch, reverse_bits, rotate_bits, shift_bits_left,
+    shift_bits_right, swap_bits,
+};
+use crate::slice::{BitSlice, BitSliceMut};
+use bitvec::mem::BitRegister;
+use bitvec::order::BitOrder;
+use std::ops::Range;
+
+impl<'a, R: BitRegister, O: BitOrder<R>> BitSliceMut<'a, R, O> {
+    ghost use Rattle.bitvec_slice.specs.BitSlice.{slice_len, bits_of};
+    ghost use Rattle.bitvec_slice.specs.BitSliceMut.{lent_len, lent_bits, BecomesBits};
+
+    /// Writes the bit `i` places after the first, and returns the bit that was there. Requires that
+    /// there is one: [`len`](BitSliceMut::len) is the test.
+    pub fn replace(&mut self, i: usize, bit: bool) -> bool
+        requires { i < lent_len self.old }
+        ensures previous { result ≡ element (lent_bits self.old) i }
+        ensures bits { BecomesBits self.old self.new (slice_set (lent_bits self.old) i bit) }
+    {
+        let previous = self.get_unchecked(i);
+        self.set(i, bit);
+        previous
+    }
+
+    /// Makes each bit the same, word by word.
+    pub fn fill(&mut self, bit: bool)
+        ensures { BecomesBits self.old self.new (replicate (length (lent_bits self.old)) bit) }
+    {
+        let span = self.span();
+        let memory = &mut *self.memory;
+        span.fill(memory, bit);
+    }
+
+    /// Makes the bits from number `from` to before number `to` the same, word by word.
+    ///
+    /// Requires that `from` is at most `to`, and `to` at most the length. Our own.
+    pub fn fill_range(&mut self, from: usize, to: usize, bit: bool)
+        requires ordered { from ≤ to }
+        requires inside { to ≤ lent_len self.old }
+        ensures { let xs = lent_bits self.old
+            in BecomesBits self.old self.new
+            (take from xs ++ replicate (to - from) bit ++ drop to xs) }
+    {
+        let span = self.span();
+        let memory = &mut *self.memory;
+        fill_stretch(span, memory, from, to, bit);
+    }
+
+    /// Exchanges the bits `i` and `j` places after the first. Requires that there are both.
+    pub fn swap(&mut self, i: usize, j: usize)
+        requires first { i < lent_len self.old }
+        requires second { j < lent_len self.old }
+        ensures { BecomesBits self.old self.new (swap (lent_bits self.old) i j) }
+    {
+        let span = self.span();
+        let memory = &mut *self.memory;
+        swap_bits(span, memory, i, j);
+    }
+
+    /// Copies the bits of a range to as many from number `dest` on, word by word. What is copied is
+    /// what was there before the call.
+    ///
+    /// Requires that the range rises, and that both runs of bits end within the length.
+    pub fn copy_within(&mut self, src: Range<usize>, dest: usize)
+        requires ordered { src.start ≤ src.end }
+        requires source_inside { src.end ≤ lent_len self.old }
+        requires target_inside { dest + (src.end - src.start) ≤ lent_len self.old }
+        ensures { let xs = lent_bits self.old
+            in BecomesBits self.old self.new
+            (list_with_copy xs src.start xs dest (src.end - src.start)) }
+    {
+        let span = self.span();
+        let memory = &mut *self.memory;
+        copy_stretch(span, memory, src.start, dest, src.end - src.start);
+    }
+
+    /// Copies the bits of another slice, of any register and order, word by word. Requires that it
+    /// has as many.
+    pub fn copy_from_bitslice<R2: BitRegister, O2: BitOrder<R2>>(
+        &mut self,
+        source: BitSlice<'_, R2, O2>,
+    )
+        requires { slice_len source ≡ lent_len self.old }
+        ensures { BecomesBits self.old self.new (bits_of source.entry) }
+    {
+        let span = self.span();
+        let memory = &mut *self.memory;
+        copy_bits(source.span, source.memory, span, memory);
+    }
+
+    /// Puts the bits in the opposite order.
+    pub fn reverse(&mut self)
+        ensures { BecomesBits self.old self.new (reverse (lent_bits self.old)) }
+    {
+        let span = self.span();
+        let memory = &mut *self.memory;
+        reverse_bits(span, memory);
+    }
+
+    /// Moves each bit `by` places towards the first, word by word: the first `by` bits are lost,
+    /// and the last `by` become zero. Requires that `by` is at most the length.
+    pub fn shift_left(&mut self, by: usize)
+        requires { by ≤ lent_len self.old }
+        ensures { let xs = lent_bits self.old
+            in BecomesBits self.old self.new (drop by xs ++ replicate by false) }
+    {
+        let span = self.span();
+        let memory = &mut *self.memory;
+        shift_bits_left(span, memory, by);
+    }
+
+    /// Moves each bit `by` places towards the last, word by word: the last `by` bits are lost,
+    /// and the first `by` become zero. Requires that `by` is at most the length.
+    pub fn shift_right(&mut self, by: usize)
+        requires { by ≤ lent_len self.old }
+        ensures { let xs = lent_bits self.old
+            in BecomesBits self.old self.new (replicate by false ++ take (length xs - by) xs) }
+    {
+        let span = self.span();
+        let memory = &mut *self.memory;
+        shift_bits_right(span, memory, by);
+    }
+
+    /// Puts the first `by` bits behind the others. Requires that `by` is at most the length.
+    pub fn rotate_left(&mut self, by: usize)
+        requires { by ≤ lent_len self.old }
+        ensures { let xs = lent_bits self.old
+            in BecomesBits self.old self.new (drop by xs ++ take by xs) }
+    {
+        let span = self.span();
+        let memory = &mut *self.memory;
+        rotate_bits(span, memory, by);
+    }
+
+    /// Puts the last `by` bits before the others. Requires that `by` is at most the length.
+    pub fn rotate_right(&mut self, by: usize)
+        requires { by ≤ lent_len self.old }
+        ensures { let xs = lent_bits self.old
+            in BecomesBits self.old self.new
+            (drop (length xs - by) xs ++ take (length xs - by) xs) }
+    {
+        let len = self.len();
+        self.rotate_left(len - by);
+    }
+}

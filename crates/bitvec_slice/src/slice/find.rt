@@ -1,0 +1,258 @@
+//! What is counted and found in a slice, by whole words.
+
+ghost use Rattle.std.specs.Prelude.{◌≡◌, ℕ, ◌+◌, ◌*◌, ◌<◌, ◌≤◌, ◌↔◌, IsTrue, true, false, not};
+ghost use Rattle.std.specs.Prelude.{length, MatchOption};
+ghost use Rattle.bitvec.specs.Place.{words_met};
+ghost use Rattle.bitvec.specs.Span.{element};
+
+use crate::slice::BitSlice;
+use bitvec::mem;
+use bitvec::mem::BitRegister;
+use bitvec::order::BitOrder;
+
+impl<'a, R: BitRegister, O: BitOrder<R>> BitSlice<'a, R, O> {
+    ghost use Rattle.bitvec_slice.specs.BitSlice.{slice_span, slice_len, bits_of};
+    ghost use Rattle.bitvec_slice.specs.Bits.{ones_in, zeros_in, AllAre, IsFirst, IsLast};
+    ghost use Rattle.bitvec_slice.specs.Bits.{BeginsWith, EndsWith, AreFree};
+    ghost use Rattle.bitvec_slice.specs.Bits.{AllBetween, IsFirstBetween, IsLastBetween};
+
+    /// How many bits are one.
+    pub fn count_ones(&self) -> usize
+        ensures { result ≡ ones_in (bits_of self.now) }
+    {
+        let mut total = 0;
+        for k in 0..self.span.elements() {
+            let word = self.span.part(self.memory, k).load_value();
+            total += word.count_ones() as usize;
+        }
+        total
+    }
+
+    /// How many bits are zero.
+    pub fn count_zeros(&self) -> usize
+        ensures { result ≡ zeros_in (bits_of self.now) }
+    {
+        self.len() - self.count_ones()
+    }
+
+    // The index of the first bit in its word.
+    fn head(&self) -> usize
+        ensures { result ≡ (slice_span self.now).head }
+    {
+        usize::from(self.span.head().into_inner())
+    }
+
+    // Whether none of the bits in word `k`, counted from the slice's first word, is `bit`.
+    fn lacks(&self, k: usize, bit: bool) -> bool
+        requires { k < words_met R.BITS (slice_span self.now).head (slice_span self.now).len }
+        ensures { IsTrue result ↔ ((j : ℕ) → j < slice_len self.now
+            → k * R.BITS ≤ (slice_span self.now).head + j
+            → (slice_span self.now).head + j < (k + 1) * R.BITS
+            → element (bits_of self.now) j ≡ not bit) }
+    {
+        let part = self.span.part(self.memory, k);
+        let lacking = if bit {
+            R::ZERO
+        } else {
+            part.mask().into_inner()
+        };
+        part.load_value() == lacking
+    }
+
+    // The first that is `bit`, of the bits from index `from` to before index `upto`, which lie in
+    // word `k`.
+    fn first_in_word(&self, k: usize, from: usize, upto: usize, bit: bool) -> Option<usize>
+        requires met { k < words_met R.BITS (slice_span self.now).head (slice_span self.now).len }
+        requires start { k * R.BITS ≤ (slice_span self.now).head + from }
+        requires end { (slice_span self.now).head + upto ≤ (k + 1) * R.BITS }
+        requires inside { upto ≤ slice_len self.now }
+        ensures { MatchOption result (AllBetween (not bit) (bits_of self.now) from upto)
+            (IsFirstBetween bit (bits_of self.now) from upto) }
+    {
+        if self.lacks(k, bit) {
+            return None;
+        }
+        for i in from..upto {
+            if self.get_unchecked(i) == bit {
+                return Some(i);
+            }
+        }
+        None
+    }
+
+    // The first that is `bit`, of the bits from index `from` to before index `upto`.
+    pub(super) fn first_between(&self, from: usize, upto: usize, bit: bool) -> Option<usize>
+        requires { upto ≤ slice_len self.now }
+        ensures { MatchOption result (AllBetween (not bit) (bits_of self.now) from upto)
+            (IsFirstBetween bit (bits_of self.now) from upto) }
+    {
+        let head = self.head();
+        let width = mem::bits_of::<R>();
+        let mut next = from;
+        while next < upto {
+            let k = (head + next) / width;
+            let end = upto.min((k + 1) * width - head);
+            if let Some(i) = self.first_in_word(k, next, end, bit) {
+                return Some(i);
+            }
+            next = end;
+        }
+        None
+    }
+
+    // The last that is `bit`, of the bits from index `from` to before index `upto`, which lie in
+    // word `k`.
+    fn last_in_word(&self, k: usize, from: usize, upto: usize, bit: bool) -> Option<usize>
+        requires met { k < words_met R.BITS (slice_span self.now).head (slice_span self.now).len }
+        requires start { k * R.BITS ≤ (slice_span self.now).head + from }
+        requires end { (slice_span self.now).head + upto ≤ (k + 1) * R.BITS }
+        requires inside { upto ≤ slice_len self.now }
+        ensures { MatchOption result (AllBetween (not bit) (bits_of self.now) from upto)
+            (IsLastBetween bit (bits_of self.now) from upto) }
+    {
+        if self.lacks(k, bit) {
+            return None;
+        }
+        let mut end = upto;
+        while from < end {
+            end -= 1;
+            if self.get_unchecked(end) == bit {
+                return Some(end);
+            }
+        }
+        None
+    }
+
+    // The last that is `bit`, of the bits from index `from` to before index `upto`.
+    pub(super) fn last_between(&self, from: usize, upto: usize, bit: bool) -> Option<usize>
+        requires { upto ≤ slice_len self.now }
+        ensures { MatchOption result (AllBetween (not bit) (bits_of self.now) from upto)
+            (IsLastBetween bit (bits_of self.now) from upto) }
+    {
+        let head = self.head();
+        let width = mem::bits_of::<R>();
+        let mut end = upto;
+        while from < end {
+            let k = (head + (end - 1)) / width;
+            let start = from.max((k * width).saturating_sub(head));
+            if let Some(i) = self.last_in_word(k, start, end, bit) {
+                return Some(i);
+            }
+            end = start;
+        }
+        None
+    }
+
+    /// The index of the first bit that is one, counted from 0, and `None` where none is.
+    pub fn first_one(&self) -> Option<usize>
+        ensures { MatchOption result (AllAre false (bits_of self.now))
+            (IsFirst true (bits_of self.now)) }
+    {
+        self.first_between(0, self.len(), true)
+    }
+
+    /// The index of the first bit that is zero, counted from 0, and `None` where none is.
+    pub fn first_zero(&self) -> Option<usize>
+        ensures { MatchOption result (AllAre true (bits_of self.now))
+            (IsFirst false (bits_of self.now)) }
+    {
+        self.first_between(0, self.len(), false)
+    }
+
+    /// The index of the last bit that is one, counted from 0, and `None` where none is.
+    pub fn last_one(&self) -> Option<usize>
+        ensures { MatchOption result (AllAre false (bits_of self.now))
+            (IsLast true (bits_of self.now)) }
+    {
+        self.last_between(0, self.len(), true)
+    }
+
+    /// The index of the last bit that is zero, counted from 0, and `None` where none is.
+    pub fn last_zero(&self) -> Option<usize>
+        ensures { MatchOption result (AllAre true (bits_of self.now))
+            (IsLast false (bits_of self.now)) }
+    {
+        self.last_between(0, self.len(), false)
+    }
+
+    /// How many bits are zero before the first that is one; all, where none is.
+    pub fn leading_zeros(&self) -> usize
+        ensures { BeginsWith false (bits_of self.now) result }
+    {
+        self.first_one().unwrap_or(self.len())
+    }
+
+    /// How many bits are one before the first that is zero; all, where none is.
+    pub fn leading_ones(&self) -> usize
+        ensures { BeginsWith true (bits_of self.now) result }
+    {
+        self.first_zero().unwrap_or(self.len())
+    }
+
+    /// How many bits are zero behind the last that is one; all, where none is.
+    pub fn trailing_zeros(&self) -> usize
+        ensures { EndsWith false (bits_of self.now) result }
+    {
+        match self.last_one() {
+            Some(i) => self.len() - (i + 1),
+            None => self.len(),
+        }
+    }
+
+    /// How many bits are one behind the last that is zero; all, where none is.
+    pub fn trailing_ones(&self) -> usize
+        ensures { EndsWith true (bits_of self.now) result }
+    {
+        match self.last_zero() {
+            Some(i) => self.len() - (i + 1),
+            None => self.len(),
+        }
+    }
+
+    /// Whether some bit is one.
+    pub fn any(&self) -> bool
+        ensures { (result ≡ false) ↔ AllAre false (bits_of self.now) }
+    {
+        self.first_one().is_some()
+    }
+
+    /// Whether no bit is one.
+    pub fn not_any(&self) -> bool
+        ensures { IsTrue result ↔ AllAre false (bits_of self.now) }
+    {
+        self.first_one().is_none()
+    }
+
+    /// Whether every bit is one.
+    pub fn all_ones(&self) -> bool
+        ensures { IsTrue result ↔ AllAre true (bits_of self.now) }
+    {
+        self.first_zero().is_none()
+    }
+
+    /// Whether some bit is zero.
+    pub fn not_all(&self) -> bool
+        ensures { (result ≡ false) ↔ AllAre true (bits_of self.now) }
+    {
+        self.first_zero().is_some()
+    }
+
+    /// The first index from which on `count` bits are there and zero, and `None` where there is no
+    /// such index. For a `count` of 0 it is 0.
+    pub fn find_zeros(&self, count: usize) -> Option<usize>
+        ensures { MatchOption result ((i : ℕ) → ¬ AreFree (bits_of self.now) i count)
+            (λ i. AreFree (bits_of self.now) i count
+            × ((k : ℕ) → k < i → ¬ AreFree (bits_of self.now) k count)) }
+    {
+        let len = self.len();
+        let mut start = 0;
+        while count <= len - start {
+            // A one rules out each start from which it is met, so the last one is looked for.
+            match self.last_between(start, start + count, true) {
+                Some(one) => start = one + 1,
+                None => return Some(start),
+            }
+        }
+        None
+    }
+}

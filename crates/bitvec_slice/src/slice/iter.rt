@@ -1,0 +1,123 @@
+//! The bits of a slice one after the other, from both ends.
+
+ghost use Rattle.std.specs.Prelude.{◌≡◌, ⊤, ◌^◌, ◌<◌, Some, length, IfSome};
+ghost use Rattle.std.specs.Iterator.{YieldsFirst, YieldsLast, item_count, at_most, UpTo};
+ghost use Rattle.std.specs.Iterator.SizeHint.{IsWithinCount};
+
+use crate::slice::BitSlice;
+use bitvec::mem::BitRegister;
+use bitvec::order::BitOrder;
+use std::alloc::AllocError;
+use std::iter::FusedIterator;
+
+/// The bits of a slice, in order: as truth values, from both ends.
+#[derive(Drop)]
+pub struct Iter<'a, R: BitRegister, O: BitOrder<R>> {
+    rest: BitSlice<'a, R, O>,
+}
+
+impl<'a, R: BitRegister, O: BitOrder<R>> Clone for Iter<'a, R, O> {
+    ghost is_clone = { λ it copy. copy ≡ it };
+
+    ghost is_infallible = { λ _. ⊤ };
+
+    fn clone(&self) -> Result<Self, AllocError> {
+        Ok(Iter { rest: self.rest })
+    }
+}
+
+impl<'a, R: BitRegister, O: BitOrder<R>> Iter<'a, R, O> {
+    ghost use Rattle.bitvec_slice.specs.BitSlice.{bits_of};
+    ghost use Rattle.bitvec_slice.specs.Iter.{rest_of};
+
+    /// The bits that are still to come.
+    pub fn as_bitslice(&self) -> BitSlice<'a, R, O>
+        ensures { bits_of result ≡ rest_of self.now }
+    {
+        self.rest
+    }
+}
+
+impl<'a, R: BitRegister, O: BitOrder<R>> Iterator for Iter<'a, R, O> {
+    type Item = bool;
+
+    ghost use Rattle.bitvec_slice.specs.Iter.{rest_of};
+
+    ghost next_gives = { YieldsFirst rest_of };
+
+    ghost remaining = { item_count rest_of };
+
+    /// Takes the first of the bits that are left.
+    fn next(&mut self) -> Option<bool> {
+        let bit = self.rest.first()?;
+        let (_, behind) = self.rest.split_at(1);
+        self.rest = behind;
+        Some(bit)
+    }
+
+    fn size_hint(&self) -> (usize, Option<usize>)
+        ensures lower { IsWithinCount result.0 (at_most (length (rest_of self.now))) }
+        ensures upper { IfSome result.1 (UpTo (at_most (length (rest_of self.now)))) }
+        ensures exact { (result.0 ≡ length (rest_of self.now)) × (result.1 ≡ Some result.0) }
+    {
+        let left = self.rest.len();
+        (left, Some(left))
+    }
+}
+
+impl<'a, R: BitRegister, O: BitOrder<R>> DoubleEndedIterator for Iter<'a, R, O> {
+    ghost use Rattle.bitvec_slice.specs.Iter.{rest_of};
+
+    ghost next_back_gives = { YieldsLast rest_of };
+
+    /// Takes the last of the bits that are left.
+    fn next_back(&mut self) -> Option<bool> {
+        let bit = self.rest.last()?;
+        let (before, _) = self.rest.split_at(self.rest.len() - 1);
+        self.rest = before;
+        Some(bit)
+    }
+}
+
+impl<'a, R: BitRegister, O: BitOrder<R>> ExactSizeIterator for Iter<'a, R, O> {
+    fn len(&self) -> usize {
+        self.rest.len()
+    }
+}
+
+/// After `None` the iterator returns `None` for good.
+impl<'a, R: BitRegister, O: BitOrder<R>> FusedIterator for Iter<'a, R, O> {}
+
+impl<'a, R: BitRegister, O: BitOrder<R>> BitSlice<'a, R, O> {
+    ghost use Rattle.bitvec_slice.specs.BitSlice.{bits_of};
+    ghost use Rattle.bitvec_slice.specs.Iter.{rest_of, GivesBitsInOrder, GivesBitsInReverse};
+
+    /// Its bits as truth values, in order or from the back.
+    pub fn iter(&self) -> Iter<'a, R, O>
+        // All the bits are still to come.
+        ensures rest { rest_of result ≡ bits_of self.now }
+        ensures bound { length (rest_of result) < 2 ^ 64 }
+
+        // It gives them in order, or from the back.
+        ensures runs { GivesBitsInOrder result }
+        ensures runs_back { GivesBitsInReverse result }
+    {
+        Iter { rest: *self }
+    }
+}
+
+impl<'a, R: BitRegister, O: BitOrder<R>> IntoIterator for BitSlice<'a, R, O> {
+    type Item = bool;
+
+    type IntoIter = Iter<'a, R, O>;
+
+    ghost use Rattle.bitvec_slice.specs.BitSlice.{bits_of};
+    ghost use Rattle.bitvec_slice.specs.Iter.{rest_of, GivesBitsInOrder, GivesBitsInReverse};
+
+    ghost into_iter_gives = { λ slice it. (rest_of it ≡ bits_of slice)
+        × (length (rest_of it) < 2 ^ 64) × GivesBitsInOrder it × GivesBitsInReverse it };
+
+    fn into_iter(self) -> Iter<'a, R, O> {
+        self.iter()
+    }
+}

@@ -1,0 +1,152 @@
+//! Iterators over the indices of a slice's ones, and over those of its zeros.
+//!
+//! Each gives its indices in rising order from the front, and in falling order from the back. Taken
+//! from both ends in any mixture it gives each index once, and then `None` for good.
+
+ghost use Rattle.std.specs.Prelude.{◌≡◌, ◌≤◌, length};
+ghost use Rattle.bitvec_slice.specs.BitSlice.{slice_len, bits_of};
+ghost use Rattle.bitvec_slice.specs.Bits.{ones_between, zeros_between};
+
+use crate::slice::BitSlice;
+use bitvec::mem::BitRegister;
+use bitvec::order::BitOrder;
+use std::iter::FusedIterator;
+
+/// The indices of the bits that are one, in rising order, from [`BitSlice::iter_ones`].
+#[derive(Drop)]
+pub struct IterOnes<'a, R: BitRegister, O: BitOrder<R>> {
+    slice: BitSlice<'a, R, O>,
+    next: usize,
+    end: usize,
+    pub ghost inside: { end ≤ slice_len slice },
+}
+
+/// The indices of the bits that are zero, in rising order, from [`BitSlice::iter_zeros`].
+#[derive(Drop)]
+pub struct IterZeros<'a, R: BitRegister, O: BitOrder<R>> {
+    slice: BitSlice<'a, R, O>,
+    next: usize,
+    end: usize,
+    pub ghost inside: { end ≤ slice_len slice },
+}
+
+impl<'a, R: BitRegister, O: BitOrder<R>> BitSlice<'a, R, O> {
+    ghost use Rattle.bitvec_slice.specs.Ones.{ones_left, zeros_left};
+
+    /// The indices of the bits that are one, counted from 0, in rising order.
+    pub fn iter_ones(&self) -> IterOnes<'a, R, O>
+        ensures { ones_left result ≡ ones_between (bits_of self.now) 0 (length (bits_of self.now)) }
+    {
+        IterOnes {
+            slice: *self,
+            next: 0,
+            end: self.len(),
+        }
+    }
+
+    /// The indices of the bits that are zero, counted from 0, in rising order.
+    pub fn iter_zeros(&self) -> IterZeros<'a, R, O>
+        ensures { zeros_left result
+            ≡ zeros_between (bits_of self.now) 0 (length (bits_of self.now)) }
+    {
+        IterZeros {
+            slice: *self,
+            next: 0,
+            end: self.len(),
+        }
+    }
+}
+
+impl<'a, R: BitRegister, O: BitOrder<R>> Iterator for IterOnes<'a, R, O> {
+    type Item = usize;
+
+    ghost use Rattle.std.specs.Iterator.{YieldsFirst, item_count};
+    ghost use Rattle.bitvec_slice.specs.Ones.{ones_left};
+
+    ghost next_gives = { YieldsFirst ones_left };
+
+    ghost remaining = { item_count ones_left };
+
+    fn next(&mut self) -> Option<usize> {
+        match self.slice.first_between(self.next, self.end, true) {
+            Some(i) => {
+                self.next = i + 1;
+                Some(i)
+            }
+            None => {
+                self.next = self.end;
+                None
+            }
+        }
+    }
+}
+
+impl<'a, R: BitRegister, O: BitOrder<R>> DoubleEndedIterator for IterOnes<'a, R, O> {
+    ghost use Rattle.std.specs.Iterator.{YieldsLast};
+    ghost use Rattle.bitvec_slice.specs.Ones.{ones_left};
+
+    ghost next_back_gives = { YieldsLast ones_left };
+
+    fn next_back(&mut self) -> Option<usize> {
+        match self.slice.last_between(self.next, self.end, true) {
+            Some(i) => {
+                self.end = i;
+                Some(i)
+            }
+            None => {
+                self.next = self.end;
+                None
+            }
+        }
+    }
+}
+
+/// After `None` the iterator returns `None` for good.
+impl<'a, R: BitRegister, O: BitOrder<R>> FusedIterator for IterOnes<'a, R, O> {}
+
+impl<'a, R: BitRegister, O: BitOrder<R>> Iterator for IterZeros<'a, R, O> {
+    type Item = usize;
+
+    ghost use Rattle.std.specs.Iterator.{YieldsFirst, item_count};
+    ghost use Rattle.bitvec_slice.specs.Ones.{zeros_left};
+
+    ghost next_gives = { YieldsFirst zeros_left };
+
+    ghost remaining = { item_count zeros_left };
+
+    fn next(&mut self) -> Option<usize> {
+        match self.slice.first_between(self.next, self.end, false) {
+            Some(i) => {
+                self.next = i + 1;
+                Some(i)
+            }
+            None => {
+                self.next = self.end;
+                None
+            }
+        }
+    }
+}
+
+impl<'a, R: BitRegister, O: BitOrder<R>> DoubleEndedIterator for IterZeros<'a, R, O> {
+    ghost use Rattle.std.specs.Iterator.{YieldsLast};
+    ghost use Rattle.bitvec_slice.specs.Ones.{zeros_left};
+
+    ghost next_back_gives = { YieldsLast zeros_left };
+
+    fn next_back(&mut self) -> Option<usize> {
+        match self.slice.last_between(self.next, self.end, false) {
+            Some(i) => {
+                self.end = i;
+                Some(i)
+            }
+            None => {
+                self.next = self.end;
+                None
+            }
+        }
+    }
+}
+
+/// After `None` the iterator returns `None` for good.
+impl<'a, R: BitRegister, O: BitOrder<R>> FusedIterator for IterZeros<'a, R, O> {}
