@@ -1,0 +1,30 @@
+//! Callers.
+
+ghost use Rattle.std.specs.Prelude.{◌≡◌, ◌≤◌, ◌↔◌, IsTrue, true, false, length, map, slice_set};
+ghost use Rattle.bitvec.specs.BitSpan.{span_of};
+ghost use Rattle.bitvec.specs.Span.{Fits, KeepsOthers, list_of};
+
+use bitvec::mem::BitRegister;
+use bitvec::order::BitOrder;
+use bitvec::ptr::span::BitSpan;
+use bitvec_slice::slice::BitSliceMut;
+
+/// Two bits.
+fn set_two<R: BitRegister, O: BitOrder<R>>(span: BitSpan<R, O>, memory: &mut [R]) -> bool
+    requires { 2 ≤ (span_of span).len }
+    ensures fits { IsTrue result ↔ Fits R.BITS (span_of span) (length memory.old) }
+    ensures list { IsTrue result → list_of R.BITS O.at_of (span_of span) (map R.number memory.new)
+        ≡ slice_set (slice_set (list_of R.BITS O.at_of (span_of span) (map R.number memory.old)) 0
+        true) 1 false }
+    ensures others { KeepsOthers R.BITS O.at_of (span_of span) (map R.number memory.old)
+        (map R.number memory.new) }
+    ensures words { length memory.new ≡ length memory.old }
+{
+    if !span.fits(memory.len()) {
+        return false;
+    }
+    let mut slice = BitSliceMut::new_unchecked(span, memory);
+    slice.set(0, true);
+    slice.set(1, false);
+    true
+}

@@ -1,0 +1,11 @@
+//! Bit slices, by the names that a user writes.
+#![tactic(auto)]
+
+#[cfg(test)]
+mod callers;
+#[cfg(test)]
+mod calls;
+#[cfg(test)]
+mod lists;
+#[cfg(test)]
+mod numbers;
