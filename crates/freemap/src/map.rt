@@ -1,0 +1,104 @@
+//! A free map: which blocks of a store are in use, one bit a block.
+
+ghost use Rattle.std.specs.Prelude.{◌≡◌, ◌↔◌, ℕ, ◌+◌, ◌*◌, ◌≤◌, true, false, None, IsSome, IfSome};
+ghost use Rattle.std.specs.Prelude.{MatchOption, replicate, length, slice_get};
+ghost use Rattle.bitvec.specs.Place.{region_max_bits};
+ghost use Rattle.bitvec.specs.BitSpan.{span_of};
+ghost use Rattle.bitvec_slice.specs.Bits.{AreFree};
+ghost use Rattle.bitvec_slice.specs.Whole.{whole_span};
+ghost use Rattle.freemap.specs.Blocks.{blocks_of, marked, IsFirstFree};
+
+use bitvec::index::{BitIdx, Limits};
+use bitvec::order::Lsb0;
+use bitvec::ptr::span::BitSpan;
+use bitvec_slice::slice::{BitSlice, BitSliceMut};
+
+/// The blocks of a store, 64 to each word: a bit is one where its block is in use.
+#[derive(Drop)]
+pub struct FreeMap<const N: usize> {
+    words: [u64; N],
+    pub ghost short: { N * 64 ≤ region_max_bits },
+}
+
+// The span of every block of so many words.
+fn span_of_all(words: usize) -> BitSpan<u64, Lsb0>
+    requires { words * 64 ≤ region_max_bits }
+    ensures { span_of result ≡ whole_span 64 words }
+{
+    BitSpan::new(0, BitIdx::MIN, words * 64).unwrap()
+}
+
+// The first of `count` blocks in a row that are all free, and `None` where there are none.
+fn find(words: &[u64], count: usize) -> Option<usize>
+    requires { length words.now * 64 ≤ region_max_bits }
+    ensures { MatchOption result ((at : ℕ) → ¬ AreFree (blocks_of words.now) at count)
+        (λ at. IsFirstFree (blocks_of words.now) count at) }
+{
+    BitSlice::new(span_of_all(words.len()), words)?.find_zeros(count)
+}
+
+// Makes `count` blocks from block `at` on be in use, or free.
+fn mark(words: &mut [u64], at: usize, count: usize, used: bool)
+    requires short { length words.old * 64 ≤ region_max_bits }
+    requires inside { at + count ≤ length words.old * 64 }
+    ensures blocks { blocks_of words.new ≡ marked (blocks_of words.old) at count used }
+    ensures words { length words.new ≡ length words.old }
+{
+    let mut blocks = BitSliceMut::new_unchecked(span_of_all(words.len()), words);
+    blocks.fill_range(at, at + count, used);
+}
+
+impl<const N: usize> FreeMap<N> {
+    ghost use Rattle.freemap.specs.Map.{in_use};
+
+    /// A map of which every block is free, and `None` where a span cannot have as many bits.
+    pub fn new() -> Option<Self>
+        ensures accepted { IsSome result ↔ (N * 64 ≤ region_max_bits) }
+        ensures free { IfSome result (λ map. in_use map ≡ replicate (N * 64) false) }
+    {
+        if N <= 36028797018963967 {
+            Some(FreeMap { words: [0; N] })
+        } else {
+            None
+        }
+    }
+
+    /// How many blocks there are.
+    pub fn blocks(&self) -> usize
+        ensures { result ≡ length (in_use self.now) }
+    {
+        N * 64
+    }
+
+    /// Whether a block is in use, and `None` where there is no such block.
+    pub fn is_in_use(&self, block: usize) -> Option<bool>
+        ensures { result ≡ slice_get (in_use self.now) block }
+    {
+        BitSlice::new(span_of_all(N), &self.words)?.get(block)
+    }
+
+    /// Hands out `count` blocks in a row, the first such that are all free, and returns the first
+    /// of them; `None` exactly where there are none, and then the map stays as it is.
+    ///
+    /// What is handed out was free, so none of it is out already, and every other block stays as
+    /// it is.
+    pub fn alloc(&mut self, count: usize) -> Option<usize>
+        ensures answer { MatchOption result ((at : ℕ) → ¬ AreFree (in_use self.old) at count)
+            (λ at. IsFirstFree (in_use self.old) count at) }
+        ensures taken { MatchOption result (in_use self.new ≡ in_use self.old)
+            (λ at. in_use self.new ≡ marked (in_use self.old) at count true) }
+    {
+        let at = find(&self.words, count)?;
+        mark(&mut self.words, at, count, true);
+        Some(at)
+    }
+
+    /// Takes `count` blocks back, from block `at` on, and leaves every other block as it is.
+    /// Requires that there are such blocks.
+    pub fn free(&mut self, at: usize, count: usize)
+        requires { at + count ≤ length (in_use self.old) }
+        ensures { in_use self.new ≡ marked (in_use self.old) at count false }
+    {
+        mark(&mut self.words, at, count, false);
+    }
+}
