@@ -500,6 +500,54 @@ fn time_domains(source: &[u64], target: &mut [u64]) {
     time("fill", WORDS, || fill(black_box(target), black_box(true)));
 }
 
+// ---- slices
+
+/// How many bits are one, but for three at the start and four at the end.
+#[inline(never)]
+fn count_ones(words: &[u64]) -> usize {
+    let [first, body @ .., last] = words else { return 0 };
+    let ends = (first & (!0 << 3)).count_ones() + (last & (!0 >> 4)).count_ones();
+    body.iter().map(|word| word.count_ones() as usize).sum::<usize>() + ends as usize
+}
+
+/// The place of the first of those bits that is one, from the first of them on.
+#[inline(never)]
+fn first_one(words: &[u64]) -> Option<usize> {
+    let [first, body @ .., last] = words else { return None };
+    let place = |k: usize, word: u64| k * 64 + word.trailing_zeros() as usize - 3;
+    let head = first & (!0 << 3);
+    if head != 0 {
+        return Some(place(0, head));
+    }
+    if let Some(k) = body.iter().position(|word| *word != 0) {
+        return Some(place(k + 1, body[k]));
+    }
+    let tail = last & (!0 >> 4);
+    (tail != 0).then(|| place(body.len() + 1, tail))
+}
+
+/// Whether those bits of two memories are the same.
+#[inline(never)]
+fn equal(words: &[u64], others: &[u64]) -> bool {
+    let ([first, body @ .., last], [a, middle @ .., b]) = (words, others) else { return false };
+    (first ^ a) & (!0 << 3) == 0 && body == middle && (last ^ b) & (!0 >> 4) == 0
+}
+
+fn time_slices(source: &[u64]) {
+    let mut one_bit = vec![0; WORDS];
+    one_bit[WORDS - 1] = 1 << 59;
+    let copy = source.to_vec();
+    time("count-ones", WORDS, || {
+        black_box(count_ones(black_box(source)));
+    });
+    time("first-one", WORDS, || {
+        black_box(first_one(black_box(&one_bit)));
+    });
+    time("equal", WORDS, || {
+        black_box(equal(black_box(source), black_box(&copy)));
+    });
+}
+
 fn main() {
     let source = words();
     let mut target = words();
@@ -508,4 +556,5 @@ fn main() {
     time_other_copies(&source, &mut target);
     time_runs(&mut target);
     time_domains(&source, &mut target);
+    time_slices(&source);
 }

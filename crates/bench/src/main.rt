@@ -1,13 +1,14 @@
 //! How long the layer's calls take, and whether they do what plain loops do.
 //!
-//! With no argument it copies, runs and fills a few thousand words, compares each memory with what
-//! a plain loop makes, and prints a line for each that agrees. With the argument `time` it prints a
-//! name and nanoseconds for each call: of a word, a request or a span.
+//! With no argument it copies, runs, fills and searches a few thousand words, compares each memory
+//! or answer with what a plain loop makes, and prints a line for each that agrees. With the
+//! argument `time` it prints a name and nanoseconds for each call: of a word, a request or a span.
 #![tactic(auto)]
 
 mod copies;
 mod domains;
 mod runs;
+mod slices;
 mod timer;
 mod words;
 
@@ -21,5 +22,6 @@ fn main(rt: HostRuntime) -> io::Result<()> {
     };
     copies::copies(rt, mode)?;
     runs::runs(rt, mode)?;
-    domains::domains(rt, mode)
+    domains::domains(rt, mode)?;
+    slices::slices(rt, mode)
 }
