@@ -10,3 +10,4 @@ mod IterLemmas
 mod ListEdits
 pub mod OnesLemmas
 pub mod SlicePartLemmas
+mod SkipLemmas

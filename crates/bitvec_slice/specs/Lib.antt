@@ -6,3 +6,4 @@ pub mod Iter
 pub mod Ones
 pub mod SpanStretch
 pub mod Whole
+pub mod Words

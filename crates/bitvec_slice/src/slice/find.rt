@@ -1,7 +1,7 @@
 //! What is counted and found in a slice, by whole words.
 
-ghost use Rattle.std.specs.Prelude.{◌≡◌, ℕ, ◌+◌, ◌*◌, ◌<◌, ◌≤◌, ◌↔◌, IsTrue, true, false, not};
-ghost use Rattle.std.specs.Prelude.{length, MatchOption};
+ghost use Rattle.std.specs.Prelude.{◌≡◌, ℕ, ◌+◌, ◌*◌, ◌^◌, ◌<◌, ◌≤◌, ◌↔◌, IsTrue, true, false};
+ghost use Rattle.std.specs.Prelude.{not, length, map, nat_abs, MatchOption};
 ghost use Rattle.bitvec.specs.Place.{words_met};
 ghost use Rattle.bitvec.specs.Span.{element};
 
@@ -11,10 +11,11 @@ use bitvec::mem::BitRegister;
 use bitvec::order::BitOrder;
 
 impl<'a, R: BitRegister, O: BitOrder<R>> BitSlice<'a, R, O> {
-    ghost use Rattle.bitvec_slice.specs.BitSlice.{slice_span, slice_len, bits_of};
+    ghost use Rattle.bitvec_slice.specs.BitSlice.{slice_memory, slice_span, slice_len, bits_of};
     ghost use Rattle.bitvec_slice.specs.Bits.{ones_in, zeros_in, AllAre, IsFirst, IsLast};
     ghost use Rattle.bitvec_slice.specs.Bits.{BeginsWith, EndsWith, AreFree};
     ghost use Rattle.bitvec_slice.specs.Bits.{AllBetween, IsFirstBetween, IsLastBetween};
+    ghost use Rattle.bitvec_slice.specs.Words.{HaveDigits};
 
     /// How many bits are one.
     pub fn count_ones(&self) -> usize
@@ -59,6 +60,45 @@ impl<'a, R: BitRegister, O: BitOrder<R>> BitSlice<'a, R, O> {
         part.load_value() == lacking
     }
 
+    // The number of the first word from word `k` on that has not the digits of `lacking`, counted
+    // from the slice's first word; `end` where all before word `end` have them.
+    fn first_other(&self, k: usize, end: usize, lacking: R) -> usize
+        requires ordered { k ≤ end }
+        requires met { end ≤ words_met R.BITS (slice_span self.now).head (slice_span self.now).len }
+        requires below { R.number lacking < 2 ^ R.BITS }
+        ensures start { k ≤ result }
+        ensures end { result ≤ end }
+        ensures words { HaveDigits R.BITS (R.number lacking) (map R.number (slice_memory self.now))
+            (nat_abs (slice_span self.now).word + k) (nat_abs (slice_span self.now).word + result) }
+    {
+        let first = self.span.address() as usize;
+        let mut at = k;
+        while at < end && self.memory[first + at].or(R::ZERO) == lacking {
+            at += 1;
+        }
+        at
+    }
+
+    // An index from `from` to `upto`, from `from` to before which no bit is `bit`: it passes over
+    // whole words where `from` is the first bit of one.
+    fn pass_words(&self, from: usize, upto: usize, bit: bool) -> usize
+        requires ordered { from ≤ upto }
+        requires inside { upto ≤ slice_len self.now }
+        ensures start { from ≤ result }
+        ensures end { result ≤ upto }
+        ensures lacking { AllBetween (not bit) (bits_of self.now) from result }
+    {
+        let head = self.head();
+        let width = mem::bits_of::<R>();
+        let k = (head + from) / width;
+        if k * width != head + from {
+            return from;
+        }
+        let end = (head + upto) / width;
+        let lacking = if bit { R::ZERO } else { R::ALL };
+        self.first_other(k, end, lacking) * width - head
+    }
+
     // The first that is `bit`, of the bits from index `from` to before index `upto`, which lie in
     // word `k`.
     fn first_in_word(&self, k: usize, from: usize, upto: usize, bit: bool) -> Option<usize>
@@ -95,7 +135,7 @@ impl<'a, R: BitRegister, O: BitOrder<R>> BitSlice<'a, R, O> {
             if let Some(i) = self.first_in_word(k, next, end, bit) {
                 return Some(i);
             }
-            next = end;
+            next = self.pass_words(end, upto, bit);
         }
         None
     }

@@ -1,10 +1,9 @@
-use Rattle.std.proofs.Common.{Bool, List, map, refl, arith}
+use Rattle.std.proofs.Common.{Bool, List, map, refl}
 use Rattle.std.proofs.lemmas.List.{length-map}
 use Rattle.bitvec.specs.BitSpan.{span_of}
 use Rattle.bitvec.specs.Span.{list_of}
-use Rattle.bitvec.proofs.PartLemmas.{length-list_of}
 use Rattle.bitvec_slice.specs.BitSliceMut.{lent_span, lent_words}
-use Rattle.bitvec_slice.proofs.EditLemmas.{len_is, list_at, others_at}
+use Rattle.bitvec_slice.proofs.EditLemmas.{list_at, others_at}
 use Rattle.bitvec_slice.proofs.slice.bit_slice_mut.BitSliceMut.copy_from_bitslice.Goals as goal
 
 pub returns : goal.returns

@@ -1,8 +1,8 @@
-use Rattle.std.proofs.Common.{Bool, false, List, ◌-◌, ◌++◌, length, take, replicate, map, refl, arith}
+use Rattle.std.proofs.Common.{Bool, false, List, ◌-◌, ◌++◌, length, take, replicate, map, refl}
 use Rattle.std.proofs.lemmas.List.{length-map}
 use Rattle.bitvec.specs.BitSpan.{span_of}
 use Rattle.bitvec_slice.specs.BitSliceMut.{lent_span, lent_words}
-use Rattle.bitvec_slice.proofs.EditLemmas.{len_is, list_at, others_at}
+use Rattle.bitvec_slice.proofs.EditLemmas.{list_at, others_at}
 use Rattle.bitvec_slice.proofs.slice.bit_slice_mut.BitSliceMut.shift_right.Goals as goal
 
 pub returns : goal.returns

@@ -1,0 +1,113 @@
+-- Whole words that have no bit of a kind.
+use Rattle.std.proofs.Common.{◌≡◌, ℕ, ◌+◌, ◌-◌, ◌*◌, ◌/◌, ◌%◌, ◌^◌, ◌<◌, ◌≤◌, ◌||◌, Bool, true, false, List, length, get_or, map, sym, ap, ◌∙◌, inl, inr, arith}
+use Rattle.std.specs.Prelude.{nat_abs, slice_index}
+use Rattle.std.proofs.lemmas.Bool.{cases_eq, cases_lt, cases_Bool}
+use Rattle.std.proofs.lemmas.List.{get_or-map}
+use Rattle.std.proofs.lemmas.Nat.{div-add-mod', mod_below}
+use Rattle.std.proofs.Math.Nat.{mul-le-mul_right}
+use Rattle.bitvec.specs.Digit.{digit}
+use Rattle.bitvec.specs.Memory.{bit_of}
+use Rattle.bitvec.specs.Order.{IsOneToOne}
+use Rattle.bitvec.specs.Place.{words_met}
+use Rattle.bitvec.specs.Span.{Span, list_of}
+use Rattle.bitvec.proofs.DigitLemmas.{digit-zero, digit_all}
+use Rattle.bitvec.proofs.MemoryLemmas.{bit_of-place}
+use Rattle.bitvec.proofs.PartLemmas.{element-list_of}
+use Rattle.bitvec.proofs.PlaceLemmas.{words_met-some}
+use Rattle.bitvec_slice.specs.Bits.{AllBetween}
+use Rattle.bitvec_slice.specs.Words.{HaveDigits}
+
+-- a digit of a number joined with zero
+pub or_zero : (w z r p : ℕ) → z ≡ 0 → digit r p ≡ (digit w p || digit z p) → digit w p ≡ digit r p
+or_zero w z r p none joined =
+    let off : digit z p ≡ false = ap (λ n. digit n p) none ∙ digit-zero p in
+    elim (cases_Bool (digit w p)) [ inl on ↦ cc | inr out ↦ cc ]
+
+-- every digit of the least number, and of the greatest
+pub all_zero : (n p : ℕ) → n ≡ 0 → digit n p ≡ false
+all_zero n p e = ap (λ m. digit m p) e ∙ digit-zero p
+
+pub all_one : (bits n p : ℕ) → n ≡ 2 ^ bits - 1 → p < bits → digit n p ≡ true
+all_one bits n p e small = ap (λ m. digit m p) e ∙ digit_all bits p small
+
+-- a word of a memory, by its number
+pub number_at : {W : Type 0} (number : W → ℕ) (words : List W) (k : ℕ) (none : W) → k < length words → number (get_or words k none) ≡ slice_index (map number words) k
+number_at number words k none inside = sym (get_or-map number words k none 0 inside)
+
+-- one word more has the digits
+pub one_more_word : (bits number : ℕ) (words : List ℕ) (from at : ℕ) → HaveDigits bits number words from at → ((p : ℕ) → p < bits → digit (slice_index words at) p ≡ digit number p)
+    → HaveDigits bits number words from (at + 1)
+one_more_word bits number words from at before here w p low high small =
+    elim (cases_eq w at) [
+      | inl e ↦ rw e (here p small)
+      | inr differ ↦ before w p low (omega arith) small
+    ]
+
+-- an index from the start of a word on, and before that of another, is of a word between them
+between_words : (bits n k r : ℕ) → 0 < bits → k * bits ≤ n → n < r * bits → (k ≤ n / bits) × (n / bits < r)
+between_words bits n k r some low high =
+    let parts = div-add-mod' n bits in
+    let rest = mod_below n bits some in (
+      elim (cases_lt (n / bits) k) [
+        | inl less ↦ absurd (let row : (n / bits + 1) * bits ≤ k * bits = mul-le-mul_right bits (omega arith) in omega (arith, row, parts, rest, low))
+        | inr most ↦ most
+      ],
+      elim (cases_lt (n / bits) r) [
+        | inl less ↦ less
+        | inr most ↦ absurd (let row : r * bits ≤ n / bits * bits = mul-le-mul_right bits (omega arith) in omega (arith, row, parts, high))
+      ],
+    )
+
+-- where whole words have the digits of a number whose digits are all `bit`, so are the elements that lie in them
+pub skipped_elements : (bits : ℕ) (at : ℕ → ℕ) (span : Span) (words : List ℕ) (number k r from upto : ℕ) (bit : Bool) → IsOneToOne bits at → 0 < bits
+    → HaveDigits bits number words (nat_abs span.word + k) (nat_abs span.word + r) → ((p : ℕ) → p < bits → digit number p ≡ bit)
+    → k * bits ≤ span.head + from → span.head + upto ≤ r * bits → upto ≤ span.len → AllBetween bit (list_of bits at span words) from upto
+skipped_elements bits at span words number k r from upto bit law some have all low high inside j after before =
+    let n : ℕ = span.head + j in
+    let place : nat_abs span.word * bits + span.head + j ≡ nat_abs span.word * bits + (span.head + j) = omega arith in
+    let within = between_words bits (span.head + j) k r some (omega arith) (omega arith) in
+    let small = law.below ((span.head + j) % bits) (mod_below (span.head + j) bits some) in
+    element-list_of bits at span words j (omega arith) ∙ ap (bit_of bits at words) place ∙ bit_of-place bits at words (nat_abs span.word) (span.head + j) some
+    ∙ have (nat_abs span.word + (span.head + j) / bits) (at ((span.head + j) % bits)) (omega (arith, within.0)) (omega (arith, within.1)) small ∙ all (at ((span.head + j) % bits)) small
+
+-- two stretches, one behind the other
+pub all_joined : (bit : Bool) (xs : List Bool) (from mid upto : ℕ) → AllBetween bit xs from mid → AllBetween bit xs mid upto → AllBetween bit xs from upto
+all_joined bit xs from mid upto first second j after before =
+    elim (cases_lt j mid) [
+      | inl less ↦ first j after less
+      | inr most ↦ second j most before
+    ]
+
+-- words that end before some place are words that a list of so many elements meets
+pub words_before : (bits width head index len upto : ℕ) → width ≡ bits → index ≡ head → head < bits → upto ≤ len → (index + upto) / width ≤ words_met bits head len
+words_before bits width head index len upto ew ei small inside =
+    let q : ℕ = (head + upto) / bits in
+    let e : (index + upto) / width ≡ (head + upto) / bits = cc in
+    let parts = div-add-mod' (head + upto) bits in
+    let most : (head + upto) / bits ≤ words_met bits head len =
+    elim (cases_eq len 0) [
+      | inl none ↦ (elim (cases_lt 0 ((head + upto) / bits)) [
+        | inl some ↦ absurd (let row : 1 * bits ≤ (head + upto) / bits * bits = mul-le-mul_right bits (omega arith) in omega (arith, row, parts, small, inside, none))
+        | inr zero ↦ omega (arith, zero)
+      ])
+      | inr other ↦ (
+          let met = words_met-some bits head len (omega arith) in
+          let last = div-add-mod' (head + len - 1) bits in
+          let rest = mod_below (head + len - 1) bits (omega arith) in
+          elim (cases_lt ((head + len - 1) / bits + 1) ((head + upto) / bits)) [
+            | inl more ↦ absurd (let row : ((head + len - 1) / bits + 2) * bits ≤ (head + upto) / bits * bits = mul-le-mul_right bits (omega arith) in omega (arith, row, parts, last, rest, inside, other, small))
+            | inr enough ↦ omega (arith, enough, met)
+          ])
+    ] in
+    omega (arith, e, most)
+
+-- the bounds of the elements in the words that are passed over
+pub passed_bounds : (bits width head index len from upto r : ℕ) → width ≡ bits → index ≡ head → (index + from) / width * width ≡ index + from → (index + from) / width ≤ r → r ≤ (index + upto) / width → upto ≤ len
+    → ((index + from) / width * bits ≤ head + from) × (head + (r * width - index) ≤ r * bits) × (r * width - index ≤ len)
+passed_bounds bits width head index len from upto r ew ei start low high inside =
+    let same : (index + from) / width * bits ≡ (index + from) / width * width = ap (λ n. (index + from) / width * n) (sym ew) in
+    let rows : r * bits ≡ r * width = ap (λ n. r * n) (sym ew) in
+    let below : (index + from) / width * width ≤ r * width = mul-le-mul_right width low in
+    let above : r * width ≤ (index + upto) / width * width = mul-le-mul_right width high in
+    let parts = div-add-mod' (index + upto) width in
+    (omega (arith, same, start, ei), omega (arith, rows, below, start, ei), omega (arith, above, parts, inside, ei))
