@@ -25,6 +25,18 @@ pub use self::iter::Iter;
 pub use self::ones::{IterOnes, IterZeros};
 
 /// The bits of a span in a memory, for reading.
+///
+/// # Examples
+///
+/// ```
+/// let memory = [0x2Cu8];
+/// let span: BitSpan<u8, Lsb0> = BitSpan::new(0, BitIdx::new_unchecked(2), 4).unwrap();
+/// let slice = BitSlice::new(span, &memory).ok_or("outside")?;
+/// assert_eq!(rt; slice.get(0), Some(true));
+/// assert_eq!(rt; slice.get(4), None);
+/// assert_eq!(rt; slice.count_ones(), 3);
+/// assert_eq!(rt; slice.first_zero(), Some(2));
+/// ```
 pub struct BitSlice<'a, R: BitRegister, O: BitOrder<R>> {
     pub(crate) memory: &'a [R],
     pub(crate) span: BitSpan<R, O>,

@@ -6,6 +6,8 @@ mod callers;
 #[cfg(test)]
 mod calls;
 #[cfg(test)]
+mod examples;
+#[cfg(test)]
 mod lists;
 #[cfg(test)]
 mod numbers;

@@ -20,6 +20,17 @@ use std::marker::PhantomData;
 ///
 /// The memory is lent until the slice is gone, and then has the slice's list in its place and every
 /// other bit as it was.
+///
+/// # Examples
+///
+/// ```
+/// let mut memory = [0x00u8, 0xFF];
+/// let span: BitSpan<u8, Msb0> = BitSpan::new(0, BitIdx::new_unchecked(4), 8).unwrap();
+/// let mut slice = BitSliceMut::new(span, &mut memory).ok_or("outside")?;
+/// slice.reverse();
+/// drop(slice);
+/// assert_eq!(rt; memory, [0x0F, 0x0F]);
+/// ```
 pub struct BitSliceMut<'a, R: BitRegister, O: BitOrder<R>> {
     pub(crate) memory: &'a mut [R],
     word: isize,

@@ -11,6 +11,17 @@ use std::alloc::AllocError;
 use std::iter::FusedIterator;
 
 /// The bits of a slice, in order: as truth values, from both ends.
+///
+/// # Examples
+///
+/// ```
+/// let memory = [0x0Bu8];
+/// let span: BitSpan<u8, Lsb0> = BitSpan::new(0, BitIdx::new_unchecked(0), 4).unwrap();
+/// let mut bits = BitSlice::new(span, &memory).ok_or("outside")?.iter();
+/// assert_eq!(rt; bits.next(), Some(true));
+/// assert_eq!(rt; bits.next_back(), Some(true));
+/// assert_eq!(rt; bits.len(), 2);
+/// ```
 #[derive(Drop)]
 pub struct Iter<'a, R: BitRegister, O: BitOrder<R>> {
     rest: BitSlice<'a, R, O>,

@@ -13,6 +13,18 @@ use bitvec::order::BitOrder;
 use std::iter::FusedIterator;
 
 /// The indices of the bits that are one, in rising order, from [`BitSlice::iter_ones`].
+///
+/// # Examples
+///
+/// ```
+/// let memory = [0x0Bu8];
+/// let span: BitSpan<u8, Lsb0> = BitSpan::new(0, BitIdx::new_unchecked(0), 4).unwrap();
+/// let mut ones = BitSlice::new(span, &memory).ok_or("outside")?.iter_ones();
+/// assert_eq!(rt; ones.next(), Some(0));
+/// assert_eq!(rt; ones.next_back(), Some(3));
+/// assert_eq!(rt; ones.next(), Some(1));
+/// assert_eq!(rt; ones.next(), None);
+/// ```
 #[derive(Drop)]
 pub struct IterOnes<'a, R: BitRegister, O: BitOrder<R>> {
     slice: BitSlice<'a, R, O>,
@@ -22,6 +34,16 @@ pub struct IterOnes<'a, R: BitRegister, O: BitOrder<R>> {
 }
 
 /// The indices of the bits that are zero, in rising order, from [`BitSlice::iter_zeros`].
+///
+/// # Examples
+///
+/// ```
+/// let memory = [0x0Bu8];
+/// let span: BitSpan<u8, Lsb0> = BitSpan::new(0, BitIdx::new_unchecked(0), 4).unwrap();
+/// let mut zeros = BitSlice::new(span, &memory).ok_or("outside")?.iter_zeros();
+/// assert_eq!(rt; zeros.next(), Some(2));
+/// assert_eq!(rt; zeros.next(), None);
+/// ```
 #[derive(Drop)]
 pub struct IterZeros<'a, R: BitRegister, O: BitOrder<R>> {
     slice: BitSlice<'a, R, O>,
