@@ -80,7 +80,8 @@ impl<'a, R: BitRegister, O: BitOrder<R>> BitSliceMut<'a, R, O> {
         BitSpan::new(self.word(), BitIdx::new_unchecked(self.head), self.len).unwrap()
     }
 
-    /// The bits of a span in a memory that it fits: [`fits`](BitSpan::fits) is the test.
+    /// The bits of a span in a memory. Requires that the span lies in it: [`fits`](BitSpan::fits) is
+    /// the test. Our own.
     pub fn new_unchecked(span: BitSpan<R, O>, memory: &'a mut [R]) -> Self
         requires { Fits R.BITS (span_of span) (length memory.old) }
         ensures reference { (lent_memory result).ghost_name ≡ memory.entry.ghost_name }
@@ -154,7 +155,8 @@ impl<'a, R: BitRegister, O: BitOrder<R>> BitSliceMut<'a, R, O> {
         self.as_bitslice().get_unchecked(i)
     }
 
-    /// Writes the bit `i` places after the first.
+    /// Writes the bit `i` places after the first. Requires that there is one:
+    /// [`len`](BitSliceMut::len) is the test.
     pub fn set(&mut self, i: usize, bit: bool)
         requires { i < lent_len self.old }
         ensures { BecomesBits self.old self.new (slice_set (lent_bits self.old) i bit) }

@@ -84,7 +84,8 @@ fn are_same<R: BitRegister, O: BitOrder<R>, R2: BitRegister, O2: BitOrder<R2>, P
 }
 
 impl<'a, R: BitRegister, O: BitOrder<R>> BitSlice<'a, R, O> {
-    /// Whether another slice has the same bits, whatever its register and order are.
+    /// Whether another slice has the same bits, whatever its register and order are. Our own, for
+    /// `==` between slices of two types.
     pub fn equals<R2: BitRegister, O2: BitOrder<R2>>(&self, other: &BitSlice<'_, R2, O2>) -> bool
         ensures { IsTrue result ↔ (bits_of self.now ≡ bits_of other.now) }
     {

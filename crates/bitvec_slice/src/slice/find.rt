@@ -278,7 +278,7 @@ impl<'a, R: BitRegister, O: BitOrder<R>> BitSlice<'a, R, O> {
     }
 
     /// The first index from which on `count` bits are there and zero, and `None` where there is no
-    /// such index. For a `count` of 0 it is 0.
+    /// such index. For a `count` of 0 it is 0. Our own.
     pub fn find_zeros(&self, count: usize) -> Option<usize>
         ensures { MatchOption result ((i : ℕ) → ¬ AreFree (bits_of self.now) i count)
             (λ i. AreFree (bits_of self.now) i count

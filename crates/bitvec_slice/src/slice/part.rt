@@ -70,7 +70,7 @@ impl<'a, R: BitRegister, O: BitOrder<R>> BitSlice<'a, R, O> {
         }
     }
 
-    /// The first `mid` bits, and those behind them. Requires at most the length.
+    /// The first `mid` bits, and those behind them. Requires that `mid` is at most the length.
     pub fn split_at(&self, mid: usize) -> (Self, Self)
         requires { mid ≤ slice_len self.now }
         ensures front_len { slice_len result.0 ≡ mid }
@@ -111,7 +111,7 @@ impl<'a, R: BitRegister, O: BitOrder<R>> BitSlice<'a, R, O> {
 impl<'a, R: BitRegister, O: BitOrder<R>> BitSliceMut<'a, R, O> {
     ghost use Rattle.bitvec_slice.specs.BitSliceMut.{lent_memory, lent_span, lent_bits};
 
-    /// Every bit of a memory. Requires that there are at most 2305843009213693951.
+    /// Every bit of a memory. Requires that there are at most 2305843009213693951. Our own.
     pub fn all_unchecked(memory: &'a mut [R]) -> Self
         requires { length memory.old * R.BITS ≤ region_max_bits }
         ensures reference { (lent_memory result).ghost_name ≡ memory.entry.ghost_name }
