@@ -169,7 +169,6 @@ impl<R: BitRegister> BitIdx<R> {
     ///
     /// For no bits that is no register, and this index as the end. No sum passes the type, whatever
     /// `len` is.
-    #[tactic(auto, using(crate::proofs::Steps::tails))]
     pub fn span(self, len: usize) -> (usize, BitEnd<R>)
         ensures empty { len ≡ 0 → (result.0 ≡ 0) × (result.1 ≡ self) }
         ensures elements { 0 < len → result.0 ≡ (self + len + (R.BITS - 1)) / R.BITS }

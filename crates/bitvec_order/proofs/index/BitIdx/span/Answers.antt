@@ -1,0 +1,15 @@
+use Rattle.std.proofs.Common.{rules}
+use Rattle.bitvec_order.proofs.Steps.{tail_within, tail_past, elements_past}
+use Rattle.bitvec_order.proofs.index.BitIdx.span.Goals as goal
+
+pub returns-then-over-width-clause-tail : goal.returns-then-over-width-clause-tail
+returns-then-over-width-clause-tail g c = λ some.
+    search (rules, tail_within c.args.self c.args.len g.R.BitRegister.BITS)
+
+pub returns-else-over-width-clause-elements : goal.returns-else-over-width-clause-elements
+returns-else-over-width-clause-elements g c = λ some.
+    search (rules, elements_past c.args.self c.args.len g.R.BitRegister.BITS)
+
+pub returns-else-over-width-clause-tail : goal.returns-else-over-width-clause-tail
+returns-else-over-width-clause-tail g c = λ some.
+    search (rules, tail_past c.args.self c.args.len g.R.BitRegister.BITS)
