@@ -8,6 +8,7 @@ use Rattle.std.proofs.lemmas.Int.{ints, wrapping_neg_is, int_wrap-sub_right, fit
 use Rattle.std.proofs.lemmas.Nat.{div-add-mod'}
 use Rattle.std.proofs.Math.Nat.{mul-le-mul, mul-le-mul_left}
 use borrow.Author.Differences.{sum_is_lem, product_is}
+use mir.Val.{to_z, of_z}
 use Rattle.bitvec_ptr.specs.Place.{Ptr, place_at, place_of}
 use Rattle.bitvec_ptr.specs.Steps.{wrapped_ptr}
 
@@ -45,6 +46,10 @@ wrapped-from_parts bits ptr count far words word next f q r w =
     let wordly : word ≡ (wrapped_ptr bits ptr count).word = w ∙ ap (λ z. int_wrap w64 (ptr.word +ℤ z)) (q ∙ ap (λ z. int_div_euclid z (pos bits)) f) in
     let bitly : next ≡ (wrapped_ptr bits ptr count).bit = ap nat_abs (r ∙ ap (λ z. int_rem_euclid z (pos bits)) f) in
     λ i. record { word = wordly i; bit = bitly i }
+
+-- a sum of an index and a count that was read as signed
+pub far_same : (index bit : ℕ) (count : ℤ) → FitsSigned w64 count → index ≡ bit → int_wrap w64 (pos index +ℤ to_z w64 (of_z w64 count)) ≡ int_wrap w64 (pos bit +ℤ count)
+far_same index bit count fits e = ap (λ n. int_wrap w64 (pos n +ℤ to_z w64 (of_z w64 count))) e ∙ ap (λ z. int_wrap w64 (pos bit +ℤ z)) (to_z-of_z w64 count fits)
 
 -- where a step ends, from its parts
 pub moved-from_parts : (bits : ℕ) (from to : Ptr) (count far words word : ℤ) (next : ℕ) → 0 < bits → to ≡ record { word = word; bit = next } → far ≡ pos from.bit +ℤ count → words ≡ int_div_euclid far (pos bits)

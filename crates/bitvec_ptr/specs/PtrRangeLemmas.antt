@@ -1,5 +1,5 @@
 -- A pointer and itself bound an empty range.
-use Rattle.std.specs.Prelude.{ℕ, pos, ◌≤ℤ◌}
+use Rattle.std.specs.Prelude.{ℕ, ◌≤ℤ◌}
 use Rattle.std.proofs.Common.{arith}
 use Rattle.std.proofs.lemmas.Int.{ints}
 use Rattle.bitvec_ptr.specs.Place.{Ptr, place_of, greatest_isize}

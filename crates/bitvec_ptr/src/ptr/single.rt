@@ -3,7 +3,7 @@
 ghost use Rattle.std.specs.Prelude.{◌≡◌, ⊤, ℕ, ℤ, pos, neg_ℤ, ◌+◌, ◌-◌, ◌/◌, ◌==◌, if◌then◌else◌};
 ghost use Rattle.std.specs.Prelude.{Some, length, map, slice_get, slice_set, swap, ◌<◌, ◌≤◌, ◌+ℤ◌};
 ghost use Rattle.std.specs.Prelude.{◌≤ℤ◌, ◌↔◌, IsTrue, FitsSigned};
-ghost use Rattle.std.specs.Int.{w64, int_wrap, int_div_euclid, int_rem_euclid};
+ghost use Rattle.std.specs.Int.{w64, int_wrap};
 ghost use Rattle.bitvec_ptr.specs.Place.{place_of, index_of, words_met};
 ghost use Rattle.bitvec_ptr.specs.Memory.{bit_of, memory_bits};
 ghost use Rattle.bitvec_mem.specs.Digit.{digit};
@@ -70,17 +70,6 @@ impl<R: BitRegister, O> Dangling for BitPtr<R, O> {
     };
 
     ghost DANGLING = { dangling };
-}
-
-// The words and the index in the last that a number of bits makes up, rounded down.
-fn split_far<R: BitRegister>(far: isize) -> (isize, BitIdx<R>)
-    ensures word { result.0 ≡ int_div_euclid far (pos R.BITS) }
-    ensures bit { pos result.1 ≡ int_rem_euclid far (pos R.BITS) }
-{
-    let width = isize::from(R::BITS);
-    let word = far.div_euclid(width);
-    let bit = far.rem_euclid(width);
-    (word, BitIdx::new_unchecked(bit as u8))
 }
 
 impl<R: BitRegister, O> BitPtr<R, O> {
@@ -183,10 +172,10 @@ impl<R: BitRegister, O> BitPtr<R, O> {
     pub fn can_offset(self, count: isize) -> bool
         ensures { IsTrue result ↔ CanOffset R.BITS (ptr_of self) count }
     {
-        let Some(far) = isize::from(self.bit).checked_add(count) else {
+        let Some(_) = isize::from(self.bit).checked_add(count) else {
             return false;
         };
-        let (words, _) = split_far::<R>(far);
+        let (words, _) = self.bit().offset(count);
         self.word.checked_add(words).is_some()
     }
 
@@ -196,7 +185,7 @@ impl<R: BitRegister, O> BitPtr<R, O> {
         requires { CanOffset R.BITS (ptr_of self) count }
         ensures { place_of R.BITS (ptr_of result) ≡ place_of R.BITS (ptr_of self) +ℤ count }
     {
-        let (words, bit) = split_far::<R>(isize::from(self.bit) + count);
+        let (words, bit) = self.bit().offset(count);
         Self::new(self.word + words, bit)
     }
 
@@ -238,7 +227,7 @@ impl<R: BitRegister, O> BitPtr<R, O> {
     pub fn wrapping_offset(self, count: isize) -> Self
         ensures { ptr_of result ≡ wrapped_ptr R.BITS (ptr_of self) count }
     {
-        let (words, bit) = split_far::<R>(isize::from(self.bit).wrapping_add(count));
+        let (words, bit) = self.bit().offset(count);
         Self::new(self.word.wrapping_add(words), bit)
     }
 

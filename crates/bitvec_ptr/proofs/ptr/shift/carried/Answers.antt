@@ -1,4 +1,4 @@
-use Rattle.std.proofs.Common.{◌≡◌, ◌+◌, ◌-◌, ◌^◌, ◌<◌, ◌≤◌, ◌&&◌, ℕ, true, false, sym, ◌∙◌, ap, arith}
+use Rattle.std.proofs.Common.{◌^◌, ◌<◌, ◌≤◌, ◌&&◌, ◌∙◌, ap, arith}
 use Rattle.std.proofs.Math.Bool.{and-false}
 use Rattle.std.proofs.Math.Pow.{pow_mono}
 use Rattle.bitvec_mem.specs.Digit.{digit}
