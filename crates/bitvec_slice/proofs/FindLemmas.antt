@@ -68,7 +68,7 @@ pub lacking_same : (bits : ℕ) (at : ℕ → ℕ) (head len k : ℕ) (a b : Boo
 lacking_same bits at head len k a b m n d e h = subst (λ x. IsLacking bits at head len k a x) (sym e) (subst (λ x. IsLacking bits at head len k x n) (sym d) h)
 
 -- what a word has at the place of an element
-test_at : (head : ℕ) (xs : List Bool) (m j : ℕ) → m ≡ head + j → (nat_le head m && element xs (m - head)) ≡ element xs j
+pub test_at : (head : ℕ) (xs : List Bool) (m j : ℕ) → m ≡ head + j → (nat_le head m && element xs (m - head)) ≡ element xs j
 test_at head xs m j e = rw (le-leb head m (omega arith)) (ap (element xs) (let same : m - head ≡ j = omega arith in same))
 
 module _ (bits : ℕ) (at : ℕ → ℕ) (head len k : ℕ) (bit : Bool) (xs : List Bool) (n v : ℕ) (law : IsOneToOne bits at) (lacking : IsLacking bits at head len k bit n) (long : length xs ≡ len) (is : v ≡ word_of bits at head xs k) where

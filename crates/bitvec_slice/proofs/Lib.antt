@@ -9,5 +9,6 @@ pub mod FindLemmas
 mod IterLemmas
 mod ListEdits
 pub mod OnesLemmas
-pub mod SlicePartLemmas
+pub mod SameWordsLemmas
 mod SkipLemmas
+pub mod SlicePartLemmas

@@ -1,7 +1,7 @@
 -- What a `BitSlice` shows.
 use Rattle.std.specs.Prelude.{ℕ, Bool, List, map}
 use Rattle.bitvec.specs.BitSpan.{span_of}
-use Rattle.bitvec.specs.Span.{Span, list_of}
+use Rattle.bitvec.specs.Span.{Span, list_of, word_of}
 use Rattle.bitvec_slice.specs.declared.slice.BitSlice.{BitSlice}
 
 -- the memory that it reads
@@ -19,3 +19,7 @@ slice_len slice = (slice_span slice).len
 -- its bits, in order
 abbrev pub bits_of : {R O : Type 0} {a b c d e f g h i : _} → BitSlice R O a b c d e f g h i → List Bool
 bits_of {a = own} {i = order} slice = list_of own.BITS order.at_of (slice_span slice) (map own.number (slice_memory slice))
+
+-- the number of word k of those that it meets: its bits there, and all other digits zero
+abbrev pub slice_word : {R O : Type 0} {a b c d e f g h i : _} → BitSlice R O a b c d e f g h i → ℕ → ℕ
+slice_word {a = own} {i = order} slice k = word_of own.BITS order.at_of (slice_span slice).head (bits_of slice) k

@@ -19,6 +19,7 @@ mod find;
 mod iter;
 mod ones;
 mod part;
+mod same_words;
 
 pub use self::bit_slice_mut::BitSliceMut;
 pub use self::iter::Iter;

@@ -80,8 +80,8 @@ impl<'a, R: BitRegister, O: BitOrder<R>> BitSliceMut<'a, R, O> {
         BitSpan::new(self.word(), BitIdx::new_unchecked(self.head), self.len).unwrap()
     }
 
-    /// The bits of a span in a memory. Requires that the span lies in it: [`fits`](BitSpan::fits) is
-    /// the test. Our own.
+    /// The bits of a span in a memory. Requires that the span lies in it:
+    /// [`fits`](BitSpan::fits) is the test. Our own.
     pub fn new_unchecked(span: BitSpan<R, O>, memory: &'a mut [R]) -> Self
         requires { Fits R.BITS (span_of span) (length memory.old) }
         ensures reference { (lent_memory result).ghost_name ≡ memory.entry.ghost_name }

@@ -1,12 +1,14 @@
 //! Whether two slices have the same bits, whatever their registers and orders are.
 //!
-//! Both are gathered block by block into whole words of one register and one order.
+//! Slices whose bits stand at the same places of their words are compared word by word. Any others
+//! are gathered block by block into whole words of one register and one order.
 
 ghost use Rattle.std.specs.Prelude.{◌≡◌, ◌≤◌, ◌↔◌, ◌++◌, IsTrue, length, drop, replicate};
 ghost use Rattle.bitvec.specs.Memory.{memory_bits};
 ghost use Rattle.bitvec_slice.specs.BitSlice.{bits_of};
 
 use crate::slice::BitSlice;
+use crate::slice::same_words::{have_same_positions, have_same_words};
 use bitvec::index::{BitIdx, Limits};
 use bitvec::mem::BitRegister;
 use bitvec::order::{BitOrder, Lsb0, Msb0};
@@ -91,6 +93,10 @@ impl<'a, R: BitRegister, O: BitOrder<R>> BitSlice<'a, R, O> {
     {
         if self.len() != other.len() {
             return false;
+        }
+        let same_heads = self.span.head().into_inner() == other.span.head().into_inner();
+        if same_heads && have_same_positions::<R, O, R2, O2>() {
+            return have_same_words(self, other);
         }
         // A block is gathered word by word where its order runs the way of the slice's, else bit by
         // bit.
