@@ -1,15 +1,18 @@
--- The list of a whole memory, and the lists of a slice's parts.
-use Rattle.std.proofs.Common.{◌≡◌, ℕ, ◌+◌, ◌*◌, ◌-◌, ◌/◌, ◌%◌, ◌≤◌, Bool, false, List, ◌++◌, length, take, drop, sym, ap, subst, ◌∙◌, inl, inr, arith}
-use Rattle.std.specs.Prelude.{pos}
+-- The list of a whole memory, the lists of a slice's parts, and the list of words that are all zero.
+use Rattle.std.proofs.Common.{◌≡◌, ℕ, ◌+◌, ◌*◌, ◌-◌, ◌/◌, ◌%◌, ◌≤◌, Bool, false, List, ◌++◌, length, get_or, take, drop, replicate, sym, ap, subst, ◌∙◌, inl, inr, arith}
+use Rattle.std.specs.Prelude.{pos, nat_abs}
 use Rattle.std.proofs.Math.Seq.{take-append_seam, drop-append_seam}
-use Rattle.std.proofs.lemmas.Bool.{cases_eq}
+use Rattle.std.proofs.lemmas.Bool.{cases_eq, cases_lt}
 use Rattle.std.proofs.lemmas.Int.{ints}
+use Rattle.std.proofs.lemmas.List.{get_or_past, get_or-replicate, length-replicate}
 use Rattle.std.proofs.lemmas.Nat.{div-add-mod'}
+use Rattle.bitvec.specs.Digit.{digit}
 use Rattle.bitvec.specs.Memory.{bit_of, memory_bits}
 use Rattle.bitvec.specs.Place.{words_met}
 use Rattle.bitvec.specs.Span.{Span, Fits, list_of}
 use Rattle.bitvec.proofs.CopyLemmas.{word_within}
-use Rattle.bitvec.proofs.MemoryLemmas.{tabulate_same}
+use Rattle.bitvec.proofs.DigitLemmas.{digit-zero}
+use Rattle.bitvec.proofs.MemoryLemmas.{tabulate-from_elements, tabulate_same}
 use Rattle.bitvec.proofs.PartLemmas.{length-list_of}
 use Rattle.bitvec.proofs.PlaceLemmas.{words_met-none, words_met-some}
 use Rattle.bitvec.proofs.SplitLemmas.{span_before}
@@ -54,3 +57,17 @@ module _ (bits : ℕ) (at : ℕ → ℕ) (first second span : Span) (words : Lis
 
   pub list_of-back : list_of bits at second words ≡ drop mid (list_of bits at span words)
   list_of-back = sym (ap (drop mid) (sym joined) ∙ drop_first (list_of bits at first words) (list_of bits at second words) mid long)
+
+zero_word : (n k : ℕ) → let none : ℕ = 0 in get_or (replicate n none) k none ≡ none
+zero_word n k =
+    elim (cases_lt k n) [
+      | inl inside ↦ get_or-replicate n k 0 0 inside
+      | inr past ↦ get_or_past (replicate n 0) k 0 (omega (arith, past, length-replicate {A = ℕ} n 0))
+    ]
+
+-- each bit of words that are all zero is false, whatever the register and the order are
+pub list_of-zeros : (bits : ℕ) (at : ℕ → ℕ) (span : Span) (n : ℕ) → list_of bits at span (replicate n 0) ≡ replicate span.len false
+list_of-zeros bits at span n =
+    let place : ℕ → ℕ = λ j. nat_abs span.word * bits + span.head + j in
+    sym (tabulate-from_elements (replicate span.len false) span.len (λ j. bit_of bits at (replicate n 0) (place j)) false (length-replicate span.len false)
+    (λ j h. get_or-replicate span.len j false false h ∙ sym (ap (λ w. digit w (at (place j % bits))) (zero_word n (place j / bits)) ∙ digit-zero (at (place j % bits)))))

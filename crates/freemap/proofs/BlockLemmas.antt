@@ -1,13 +1,9 @@
 -- The blocks of words as a slice's bits.
-use Rattle.std.proofs.Common.{◌≡◌, ℕ, ◌+◌, ◌-◌, ◌*◌, ◌/◌, ◌%◌, Bool, false, List, ◌++◌, length, get_or, map, take, drop, replicate, refl, sym, ap, ◌∙◌, inl, inr, arith}
-use Rattle.std.proofs.lemmas.Bool.{cases_lt}
-use Rattle.std.proofs.lemmas.List.{map-id, get_or_past, get_or-replicate, length-replicate}
-use Rattle.bitvec.specs.Digit.{digit}
-use Rattle.bitvec.specs.Memory.{bit_of}
+use Rattle.std.proofs.Common.{◌≡◌, ℕ, ◌+◌, ◌-◌, ◌*◌, Bool, false, List, ◌++◌, length, map, take, drop, replicate, refl, sym, ap, ◌∙◌, arith}
+use Rattle.std.proofs.lemmas.List.{map-id, length-replicate}
 use Rattle.bitvec.specs.Span.{Span, list_of}
-use Rattle.bitvec.proofs.DigitLemmas.{digit-zero}
-use Rattle.bitvec.proofs.MemoryLemmas.{tabulate-from_elements}
 use Rattle.bitvec.proofs.PartLemmas.{length-list_of}
+use Rattle.bitvec_slice.proofs.SlicePartLemmas.{list_of-zeros}
 use Rattle.bitvec_slice.specs.Whole.{whole_span}
 use Rattle.freemap.specs.Blocks.{blocks_of, marked}
 
@@ -29,17 +25,6 @@ blocks_marked span old new at count used e same filled =
     ∙ ap (λ (xs : List Bool). take at xs ++ replicate (at + count - at) used ++ drop (at + count) xs) (slice_blocks old span e)
     ∙ ap (λ n. take at (blocks_of old) ++ replicate n used ++ drop (at + count) (blocks_of old)) many
 
--- a word of words that are all zero
-zero_word : (n k : ℕ) → let none : ℕ = 0 in get_or (replicate n none) k none ≡ none
-zero_word n k =
-    elim (cases_lt k n) [
-      | inl inside ↦ get_or-replicate n k 0 0 inside
-      | inr past ↦ get_or_past (replicate n 0) k 0 (omega (arith, past, length-replicate {A = ℕ} n 0))
-    ]
-
 -- the blocks of words that are all zero are free
 pub blocks_free : (n : ℕ) → blocks_of (replicate n 0) ≡ replicate (n * 64) false
-blocks_free n =
-    let many : length (replicate n 0) ≡ n = length-replicate n 0 in
-    sym (tabulate-from_elements (replicate (n * 64) false) (length (replicate n 0) * 64) (λ j. bit_of 64 (λ i. i) (replicate n 0) (0 * 64 + 0 + j)) false (length-replicate (n * 64) false ∙ ap (λ m. m * 64) (sym many))
-    (λ j h. get_or-replicate (n * 64) j false false (omega (arith, h, many)) ∙ sym (ap (λ w. digit w ((0 * 64 + 0 + j) % 64)) (zero_word n ((0 * 64 + 0 + j) / 64)) ∙ digit-zero ((0 * 64 + 0 + j) % 64))))
+blocks_free n = list_of-zeros 64 (λ i. i) (whole_span 64 (length (replicate n 0))) n ∙ ap (λ m. replicate (m * 64) false) (length-replicate n 0)

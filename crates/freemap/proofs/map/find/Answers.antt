@@ -1,4 +1,4 @@
-use Rattle.std.proofs.Common.{ℕ, Bool, List, ◌∙◌, refl, subst}
+use Rattle.std.proofs.Common.{ℕ, Bool, List, ◌∙◌, subst}
 use Rattle.std.specs.Prelude.{MatchOption}
 use Rattle.bitvec.specs.BitSpan.{span_of}
 use Rattle.bitvec_slice.specs.Bits.{AreFree}

@@ -1,4 +1,4 @@
-use Rattle.std.proofs.Common.{rules, ◌≡◌, length, sym, arith}
+use Rattle.std.proofs.Common.{rules, ◌≡◌, length, arith}
 use Rattle.freemap.proofs.BlockLemmas.{blocks_long}
 use Rattle.freemap.proofs.map.FreeMap.blocks.Goals as goal
 
