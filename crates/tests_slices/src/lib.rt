@@ -10,4 +10,6 @@ mod examples;
 #[cfg(test)]
 mod lists;
 #[cfg(test)]
+mod moves;
+#[cfg(test)]
 mod numbers;

@@ -10,7 +10,7 @@ use bitvec_slice::slice::{BitSlice, BitSliceMut};
 use notation::hilo::HiLo;
 
 /// The positions of a byte by a table.
-struct Mixed;
+pub struct Mixed;
 
 impl Positions<u8> for Mixed {
     ghost at_of = { mixed_position };
@@ -25,12 +25,13 @@ impl OneToOne<u8> for Mixed {
 }
 
 /// The order of these positions, for bytes alone.
-type Mix = ByPosition<Mixed>;
+pub type Mix = ByPosition<Mixed>;
 
-const MEMORY: [u8; 3] = [0x5C, 0x00, 0xF3];
+/// Three bytes.
+pub const MEMORY: [u8; 3] = [0x5C, 0x00, 0xF3];
 
-// The bits of a memory, each by the position of its index.
-fn bits_of<O: BitOrder<u8>>(memory: &[u8; 3]) -> [bool; 24] {
+/// The bits of a memory, each by the position of its index.
+pub fn bits_of<O: BitOrder<u8>>(memory: &[u8; 3]) -> [bool; 24] {
     let mut bits = [false; 24];
     for place in 0..24 {
         let index = BitIdx::new_unchecked((place % 8) as u8);
@@ -40,8 +41,8 @@ fn bits_of<O: BitOrder<u8>>(memory: &[u8; 3]) -> [bool; 24] {
     bits
 }
 
-// The span of `len` bits from a place on.
-fn span_at<O>(start: usize, len: usize) -> BitSpan<u8, O> {
+/// The span of `len` bits from a place on.
+pub fn span_at<O>(start: usize, len: usize) -> BitSpan<u8, O> {
     let head = BitIdx::new_unchecked((start % 8) as u8);
     BitSpan::new((start / 8) as isize, head, len).unwrap_or_default()
 }
