@@ -1,6 +1,7 @@
 //! Callers.
 
-ghost use Rattle.std.specs.Prelude.{◌≡◌, ◌≤◌, ◌↔◌, IsTrue, true, false, length, map, slice_set};
+ghost use Rattle.std.specs.Prelude.{◌≡◌, ◌≤◌, ◌↔◌, IsTrue, IsFalse, true, false, length, map};
+ghost use Rattle.std.specs.Prelude.{slice_set};
 ghost use Rattle.bitvec.specs.BitSpan.{span_of};
 ghost use Rattle.bitvec.specs.Span.{Fits, KeepsOthers, list_of};
 
@@ -19,6 +20,7 @@ fn set_two<R: BitRegister, O: BitOrder<R>>(span: BitSpan<R, O>, memory: &mut [R]
     ensures others { KeepsOthers R.BITS O.at_of (span_of span) (map R.number memory.old)
         (map R.number memory.new) }
     ensures words { length memory.new ≡ length memory.old }
+    ensures refused { IsFalse result → memory.new ≡ memory.old }
 {
     if !span.fits(memory.len()) {
         return false;

@@ -1,0 +1,67 @@
+//! Spans whose numbers come from outside: each function tests what the call below it requires.
+
+ghost use Rattle.std.specs.Prelude.{◌≡◌, ◌↔◌, IsTrue, IsFalse, IsSome, IfSome, length, map};
+ghost use Rattle.std.specs.Prelude.{replicate};
+ghost use Rattle.bitvec.specs.BitSpan.{span_of};
+ghost use Rattle.bitvec.specs.Span.{Fits, KeepsOthers, list_of};
+ghost use Rattle.bitvec_slice.specs.BitSlice.{bits_of, slice_len};
+ghost use Rattle.bitvec_slice.specs.Bits.{ones_in};
+
+use bitvec::mem::BitRegister;
+use bitvec::order::BitOrder;
+use bitvec::ptr::span::BitSpan;
+use bitvec_slice::slice::{BitSlice, BitSliceMut};
+
+/// How many bits of a span are ones, and `None` exactly where the span does not lie in the memory.
+pub fn ones_of<R: BitRegister, O: BitOrder<R>>(span: BitSpan<R, O>, memory: &[R]) -> Option<usize>
+    ensures inside { IsSome result ↔ Fits R.BITS (span_of span) (length memory.now) }
+    ensures ones { IfSome result (λ ones. ones
+        ≡ ones_in (list_of R.BITS O.at_of (span_of span) (map R.number memory.now))) }
+{
+    Some(BitSlice::new(span, memory)?.count_ones())
+}
+
+/// Makes each bit of a span the same, and returns whether the span lies in the memory.
+pub fn fill_if_inside<R: BitRegister, O: BitOrder<R>>(
+    span: BitSpan<R, O>,
+    memory: &mut [R],
+    bit: bool,
+) -> bool
+    ensures inside { IsTrue result ↔ Fits R.BITS (span_of span) (length memory.old) }
+    ensures list { IsTrue result → list_of R.BITS O.at_of (span_of span) (map R.number memory.new)
+        ≡ replicate (span_of span).len bit }
+    ensures others { KeepsOthers R.BITS O.at_of (span_of span) (map R.number memory.old)
+        (map R.number memory.new) }
+    ensures words { length memory.new ≡ length memory.old }
+    ensures refused { IsFalse result → memory.new ≡ memory.old }
+{
+    if !span.fits(memory.len()) {
+        return false;
+    }
+    span.fill(memory, bit);
+    true
+}
+
+/// Copies the bits of a slice to a span, of any register and order, and returns whether the span
+/// lies in the memory and has as many.
+pub fn copy_if_inside<R: BitRegister, O: BitOrder<R>, R2: BitRegister, O2: BitOrder<R2>>(
+    source: &BitSlice<'_, R, O>,
+    span: BitSpan<R2, O2>,
+    memory: &mut [R2],
+) -> bool
+    ensures inside { IsTrue result ↔ (Fits R2.BITS (span_of span) (length memory.old)
+        × (slice_len source.now ≡ (span_of span).len)) }
+    ensures list { IsTrue result → list_of R2.BITS O2.at_of (span_of span)
+        (map R2.number memory.new) ≡ bits_of source.now }
+    ensures others { KeepsOthers R2.BITS O2.at_of (span_of span) (map R2.number memory.old)
+        (map R2.number memory.new) }
+    ensures words { length memory.new ≡ length memory.old }
+    ensures refused { IsFalse result → memory.new ≡ memory.old }
+{
+    if !span.fits(memory.len()) || source.len() != span.len() {
+        return false;
+    }
+    let mut slice = BitSliceMut::new_unchecked(span, memory);
+    slice.copy_from_bitslice(*source);
+    true
+}
