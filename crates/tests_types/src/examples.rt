@@ -1,12 +1,13 @@
 //! The examples in the documents of registers, indices, orders, masks and the verifier.
 
-ghost use Rattle.std.specs.Prelude.{bit_xor};
+ghost use Rattle.std.specs.Prelude.{◌^◌, bit_xor};
+ghost use Rattle.bitvec.specs.Order.{mask_start, mask_end, plain_mask_of};
 
 use bitvec::index::{BitEnd, BitIdx, BitMask, BitPos, BitSel, Limits, MaskLimits};
 use bitvec::mem::{BitElement, BitRegister};
 use bitvec::order::{
-    BitAt, ByPosition, Lsb0, Msb0, OrderCandidate, OrderFault, Positions, VerifyFault, verify,
-    verify_for_type,
+    BitAt, ByNumbers, ByPosition, Lsb0, Msb0, Numbers, OrderCandidate, OrderFault, Positions,
+    VerifyFault, plain_mask_between, plain_selector, verify, verify_for_type,
 };
 use std::test::Fail;
 
@@ -17,6 +18,30 @@ impl Positions<u8> for Swapped {
 
     fn position(index: u8) -> u8 {
         index ^ 4
+    }
+}
+
+struct Mixed;
+
+impl Positions<u8> for Mixed {
+    ghost at_of = { λ i. i };
+
+    fn position(index: u8) -> u8 {
+        index
+    }
+}
+
+impl Numbers<u8> for Mixed {
+    ghost select_of = { λ i. 2 ^ bit_xor i 4 };
+
+    ghost mask_of = { λ from upto. plain_mask_of (λ i. i) (mask_start from) (mask_end 8 upto) };
+
+    fn selector(index: u8) -> u8 {
+        plain_selector::<u8, Swapped>(index)
+    }
+
+    fn mask_between(from: Option<u8>, upto: Option<u8>) -> u8 {
+        plain_mask_between::<u8, Mixed>(from, upto)
     }
 }
 
@@ -161,6 +186,14 @@ fn an_order_by_positions(rt: HostRuntime) {
     let mask = ByPosition::<Swapped>::mask(None, Some(end));
     assert_eq!(rt; mask.into_inner(), 0x70);
     assert!(rt; verify_for_type::<u8, ByPosition<Swapped>>().is_ok());
+}
+
+#[test]
+fn a_candidate_by_numbers(rt: HostRuntime) {
+    let fault = verify_for_type::<u8, ByNumbers<Mixed>>().err();
+    let (index, other) = (BitIdx::MIN, BitIdx::new_unchecked(4));
+    let (got, want) = (other.select::<Lsb0>(), index.select::<Lsb0>());
+    assert_eq!(rt; fault, Some(OrderFault::Select { index, got, want }));
 }
 
 #[test]
