@@ -1,0 +1,4 @@
+mod NumberLemmas
+mod OrderLemmas
+mod RangeLemmas
+mod ReadLemmas

@@ -1,0 +1,36 @@
+-- Ranges of the bits of a memory. A place counts the bits of a memory from 0 on, `bits` is the width of a word, `at` takes
+-- an index in a word to its position in the number, and a memory is the list of its words' numbers.
+use Rattle.std.specs.Prelude.{◌≡◌, ℕ, pos, ◌/◌, ◌%◌, Bool, List, length, slice_set}
+use Rattle.bitvec.specs.Memory.{memory_bits, list_with_copy}
+use Rattle.bitvec.specs.Place.{Ptr}
+use Rattle.bitvec.specs.Span.{Span, KeepsOthers, list_of}
+
+-- the word and the index in it of a place
+abbrev pub place_ptr : ℕ → ℕ → Ptr
+place_ptr bits place = record { word = pos (place / bits); bit = place % bits }
+
+-- the span of the `count` bits from place `start` on
+abbrev pub range_span : ℕ → ℕ → ℕ → Span
+range_span bits start count = record { word = pos (start / bits); head = start % bits; len = count }
+
+-- these bits in a memory, in order
+abbrev pub range_bits : ℕ → (ℕ → ℕ) → ℕ → ℕ → List ℕ → List Bool
+range_bits bits at start count words = list_of bits at (range_span bits start count) words
+
+-- the bits of a range become those of a list, and every other bit of the memory is as before
+abbrev pub RangeBecomes : ℕ → (ℕ → ℕ) → ℕ → ℕ → List Bool → List ℕ → List ℕ → Type 0
+RangeBecomes bits at start count xs old new =
+    (range_bits bits at start count new ≡ xs) × KeepsOthers bits at (range_span bits start count) old new × (length new ≡ length old)
+
+-- two ranges of as many bits, each in a memory of its own, have the same bits
+abbrev pub HaveSameBits : ℕ → (ℕ → ℕ) → ℕ → List ℕ → ℕ → List ℕ → ℕ → Type 0
+HaveSameBits bits at start words other_start other_words count = range_bits bits at start count words ≡ range_bits bits at other_start count other_words
+
+-- the bit at a place becomes `bit`, and every other bit of the memory is as before
+abbrev pub WritesBit : ℕ → (ℕ → ℕ) → ℕ → Bool → List ℕ → List ℕ → Type 0
+WritesBit bits at place bit old new = memory_bits bits at new ≡ slice_set (memory_bits bits at old) place bit
+
+-- the `count` bits of a memory from place `to` on become those of a source from place `from` on, and every other bit is as
+-- before
+abbrev pub CopiesBits : ℕ → (ℕ → ℕ) → List ℕ → ℕ → List ℕ → ℕ → ℕ → List ℕ → Type 0
+CopiesBits bits at source from old to count new = memory_bits bits at new ≡ list_with_copy (memory_bits bits at source) from (memory_bits bits at old) to count

@@ -1,0 +1,38 @@
+-- The statuses, and that of a range: the first of its conditions that does not hold. `bits` is the width of a word.
+use Rattle.std.specs.Prelude.{ℕ, ◌+◌, ◌*◌, ◌==◌, nat_lt, if◌then◌else◌}
+use Rattle.bitvec.specs.Place.{region_max_bits}
+
+-- all conditions hold
+abbrev pub ok : ℕ
+ok = 0
+
+-- the order's code is neither 0 nor 1
+abbrev pub no_order : ℕ
+no_order = 1
+
+-- a range has more bits than a span can have
+abbrev pub too_long : ℕ
+too_long = 3
+
+-- a range ends behind its memory
+abbrev pub outside : ℕ
+outside = 4
+
+-- a number is to have more than 64 digits
+abbrev pub too_wide : ℕ
+too_wide = 5
+
+-- the status of an order and of the range of `count` bits from place `start` on, in a memory of so many words
+abbrev pub range_status : ℕ → ℕ → ℕ → ℕ → ℕ → ℕ
+range_status bits order words start count =
+    if nat_lt 1 order then no_order else (if nat_lt region_max_bits count then too_long else (if nat_lt (words * bits) (start + count) then outside else ok))
+
+-- the same of two ranges of as many bits, each in a memory of its own
+abbrev pub ranges_status : ℕ → ℕ → ℕ → ℕ → ℕ → ℕ → ℕ → ℕ
+ranges_status bits order words start other_words other_start count =
+    let first = range_status bits order words start count in if first == ok then range_status bits order other_words other_start count else first
+
+-- the same of a range that is a number
+abbrev pub number_status : ℕ → ℕ → ℕ → ℕ → ℕ → ℕ
+number_status bits order words start count =
+    let first = range_status bits order words start count in if first == ok then (if nat_lt 64 count then too_wide else ok) else first

@@ -1,0 +1,173 @@
+//! Single bits of a memory.
+
+ghost use Rattle.std.specs.Prelude.{◌≡◌, ◌≢◌, ◌*◌, ◌<◌, length, map};
+ghost use Rattle.bitvec.specs.Memory.{bit_of};
+ghost use Rattle.bitvec_c.specs.Order.{order_at};
+ghost use Rattle.bitvec_c.specs.Range.{WritesBit};
+ghost use Rattle.bitvec_c.specs.Status.{ok, range_status};
+
+use crate::range::pointer;
+use crate::status::{LSB0, OK, test_range};
+use bitvec::mem::BitRegister;
+use bitvec::order::{BitOrder, Lsb0, Msb0};
+
+// The bit at a place.
+fn read_in<R: BitRegister, O: BitOrder<R>>(memory: &[R], place: usize) -> bool
+    requires { place < length memory.now * R.BITS }
+    ensures { result ≡ bit_of R.BITS O.at_of (map R.number memory.now) place }
+{
+    pointer::<R, O>(place).read(memory)
+}
+
+// The same under the order of a code.
+fn read<R: BitRegister>(order: u8, memory: &[R], place: usize) -> bool
+    requires { place < length memory.now * R.BITS }
+    ensures { result ≡ bit_of R.BITS (order_at R.BITS order) (map R.number memory.now) place }
+{
+    if order == LSB0 {
+        read_in::<R, Lsb0>(memory, place)
+    } else {
+        read_in::<R, Msb0>(memory, place)
+    }
+}
+
+// Answers the bit at a place.
+fn get<R: BitRegister>(order: u8, memory: &[R], place: usize, bit: &mut bool) -> u8
+    ensures status { result ≡ range_status R.BITS order (length memory.now) place 1 }
+    ensures read { result ≡ ok → bit.new
+        ≡ bit_of R.BITS (order_at R.BITS order) (map R.number memory.now) place }
+    ensures refused { result ≢ ok → bit.new ≡ bit.old }
+{
+    let status = test_range::<R>(order, memory.len(), place, 1);
+    if status == OK {
+        *bit = read(order, memory, place);
+    }
+    status
+}
+
+// Writes the bit at a place under the order of a code, and changes no other bit.
+fn write<R: BitRegister>(order: u8, memory: &mut [R], place: usize, bit: bool)
+    requires { place < length memory.old * R.BITS }
+    ensures { WritesBit R.BITS (order_at R.BITS order) place bit (map R.number memory.old)
+        (map R.number memory.new) }
+{
+    if order == LSB0 {
+        pointer::<R, Lsb0>(place).write(memory, bit);
+    } else {
+        pointer::<R, Msb0>(place).write(memory, bit);
+    }
+}
+
+// Writes the bit at a place where the call's conditions hold, and answers the status.
+fn set<R: BitRegister>(order: u8, memory: &mut [R], place: usize, bit: bool) -> u8
+    ensures status { result ≡ range_status R.BITS order (length memory.old) place 1 }
+    ensures written { result ≡ ok → WritesBit R.BITS (order_at R.BITS order) place bit
+        (map R.number memory.old) (map R.number memory.new) }
+    ensures refused { result ≢ ok → memory.new ≡ memory.old }
+{
+    let status = test_range::<R>(order, memory.len(), place, 1);
+    if status == OK {
+        write(order, memory, place, bit);
+    }
+    status
+}
+
+/// Answers the bit at a place of a memory of words of 8 bits.
+///
+/// It refuses with `NO_ORDER` or `OUTSIDE`.
+#[unsafe(no_mangle)]
+pub extern "C" fn bitvec_c_get_u8(order: u8, memory: &[u8], place: usize, bit: &mut bool) -> u8
+    ensures status { result ≡ range_status 8 order (length memory.now) place 1 }
+    ensures read { result ≡ ok → bit.new ≡ bit_of 8 (order_at 8 order) memory.now place }
+    ensures refused { result ≢ ok → bit.new ≡ bit.old }
+{
+    get(order, memory, place, bit)
+}
+
+/// Answers the bit at a place of a memory of words of 16 bits.
+///
+/// It refuses with `NO_ORDER` or `OUTSIDE`.
+#[unsafe(no_mangle)]
+pub extern "C" fn bitvec_c_get_u16(order: u8, memory: &[u16], place: usize, bit: &mut bool) -> u8
+    ensures status { result ≡ range_status 16 order (length memory.now) place 1 }
+    ensures read { result ≡ ok → bit.new ≡ bit_of 16 (order_at 16 order) memory.now place }
+    ensures refused { result ≢ ok → bit.new ≡ bit.old }
+{
+    get(order, memory, place, bit)
+}
+
+/// Answers the bit at a place of a memory of words of 32 bits.
+///
+/// It refuses with `NO_ORDER` or `OUTSIDE`.
+#[unsafe(no_mangle)]
+pub extern "C" fn bitvec_c_get_u32(order: u8, memory: &[u32], place: usize, bit: &mut bool) -> u8
+    ensures status { result ≡ range_status 32 order (length memory.now) place 1 }
+    ensures read { result ≡ ok → bit.new ≡ bit_of 32 (order_at 32 order) memory.now place }
+    ensures refused { result ≢ ok → bit.new ≡ bit.old }
+{
+    get(order, memory, place, bit)
+}
+
+/// Answers the bit at a place of a memory of words of 64 bits.
+///
+/// It refuses with `NO_ORDER` or `OUTSIDE`.
+#[unsafe(no_mangle)]
+pub extern "C" fn bitvec_c_get_u64(order: u8, memory: &[u64], place: usize, bit: &mut bool) -> u8
+    ensures status { result ≡ range_status 64 order (length memory.now) place 1 }
+    ensures read { result ≡ ok → bit.new ≡ bit_of 64 (order_at 64 order) memory.now place }
+    ensures refused { result ≢ ok → bit.new ≡ bit.old }
+{
+    get(order, memory, place, bit)
+}
+
+/// Writes the bit at a place of a memory of words of 8 bits, and changes no other bit.
+///
+/// It refuses with `NO_ORDER` or `OUTSIDE`.
+#[unsafe(no_mangle)]
+pub extern "C" fn bitvec_c_set_u8(order: u8, memory: &mut [u8], place: usize, bit: bool) -> u8
+    ensures status { result ≡ range_status 8 order (length memory.old) place 1 }
+    ensures written { result ≡ ok
+        → WritesBit 8 (order_at 8 order) place bit memory.old memory.new }
+    ensures refused { result ≢ ok → memory.new ≡ memory.old }
+{
+    set(order, memory, place, bit)
+}
+
+/// Writes the bit at a place of a memory of words of 16 bits, and changes no other bit.
+///
+/// It refuses with `NO_ORDER` or `OUTSIDE`.
+#[unsafe(no_mangle)]
+pub extern "C" fn bitvec_c_set_u16(order: u8, memory: &mut [u16], place: usize, bit: bool) -> u8
+    ensures status { result ≡ range_status 16 order (length memory.old) place 1 }
+    ensures written { result ≡ ok
+        → WritesBit 16 (order_at 16 order) place bit memory.old memory.new }
+    ensures refused { result ≢ ok → memory.new ≡ memory.old }
+{
+    set(order, memory, place, bit)
+}
+
+/// Writes the bit at a place of a memory of words of 32 bits, and changes no other bit.
+///
+/// It refuses with `NO_ORDER` or `OUTSIDE`.
+#[unsafe(no_mangle)]
+pub extern "C" fn bitvec_c_set_u32(order: u8, memory: &mut [u32], place: usize, bit: bool) -> u8
+    ensures status { result ≡ range_status 32 order (length memory.old) place 1 }
+    ensures written { result ≡ ok
+        → WritesBit 32 (order_at 32 order) place bit memory.old memory.new }
+    ensures refused { result ≢ ok → memory.new ≡ memory.old }
+{
+    set(order, memory, place, bit)
+}
+
+/// Writes the bit at a place of a memory of words of 64 bits, and changes no other bit.
+///
+/// It refuses with `NO_ORDER` or `OUTSIDE`.
+#[unsafe(no_mangle)]
+pub extern "C" fn bitvec_c_set_u64(order: u8, memory: &mut [u64], place: usize, bit: bool) -> u8
+    ensures status { result ≡ range_status 64 order (length memory.old) place 1 }
+    ensures written { result ≡ ok
+        → WritesBit 64 (order_at 64 order) place bit memory.old memory.new }
+    ensures refused { result ≢ ok → memory.new ≡ memory.old }
+{
+    set(order, memory, place, bit)
+}

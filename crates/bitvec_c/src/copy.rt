@@ -1,0 +1,314 @@
+//! Copies of ranges of bits, between two memories and inside one.
+
+ghost use Rattle.std.specs.Prelude.{◌≡◌, ◌≢◌, ◌+◌, ◌*◌, ◌≤◌, length, map};
+ghost use Rattle.bitvec_c.specs.Order.{order_at};
+ghost use Rattle.bitvec_c.specs.Range.{CopiesBits};
+ghost use Rattle.bitvec_c.specs.Status.{ok, ranges_status};
+
+use crate::range::pointer;
+use crate::status::{LSB0, OK, test_ranges};
+use bitvec::mem::BitRegister;
+use bitvec::order::{BitOrder, Lsb0, Msb0};
+
+// Copies a range of bits to one of another memory, and changes no other bit.
+fn copy_in<R: BitRegister, O: BitOrder<R>>(
+    source: &[R],
+    source_start: usize,
+    target: &mut [R],
+    target_start: usize,
+    count: usize,
+)
+    requires source_inside { source_start + count ≤ length source.now * R.BITS }
+    requires target_inside { target_start + count ≤ length target.old * R.BITS }
+    ensures { CopiesBits R.BITS O.at_of (map R.number source.now) source_start
+        (map R.number target.old) target_start count (map R.number target.new) }
+{
+    let from = pointer::<R, O>(source_start);
+    let to = pointer::<R, O>(target_start);
+    from.copy_to(source, to, target, count);
+}
+
+// The same under the order of a code.
+fn copy_range<R: BitRegister>(
+    order: u8,
+    source: &[R],
+    source_start: usize,
+    target: &mut [R],
+    target_start: usize,
+    count: usize,
+)
+    requires source_inside { source_start + count ≤ length source.now * R.BITS }
+    requires target_inside { target_start + count ≤ length target.old * R.BITS }
+    ensures { CopiesBits R.BITS (order_at R.BITS order) (map R.number source.now) source_start
+        (map R.number target.old) target_start count (map R.number target.new) }
+{
+    if order == LSB0 {
+        copy_in::<R, Lsb0>(source, source_start, target, target_start, count);
+    } else {
+        copy_in::<R, Msb0>(source, source_start, target, target_start, count);
+    }
+}
+
+// Copies a range of bits where the call's conditions hold, and answers the status.
+fn copy<R: BitRegister>(
+    order: u8,
+    source: &[R],
+    source_start: usize,
+    target: &mut [R],
+    target_start: usize,
+    count: usize,
+) -> u8
+    ensures status { result ≡ ranges_status R.BITS order (length source.now) source_start
+        (length target.old) target_start count }
+    ensures copied { result ≡ ok
+        → CopiesBits R.BITS (order_at R.BITS order) (map R.number source.now) source_start
+        (map R.number target.old) target_start count (map R.number target.new) }
+    ensures refused { result ≢ ok → target.new ≡ target.old }
+{
+    let words = target.len();
+    let status = test_ranges::<R>(
+        order,
+        source.len(),
+        source_start,
+        words,
+        target_start,
+        count,
+    );
+    if status == OK {
+        copy_range(order, source, source_start, target, target_start, count);
+    }
+    status
+}
+
+// Copies a range of bits to another of the same memory, and changes no other bit. What is copied is
+// what was there before the call.
+fn move_in<R: BitRegister, O: BitOrder<R>>(
+    memory: &mut [R],
+    source_start: usize,
+    target_start: usize,
+    count: usize,
+)
+    requires source_inside { source_start + count ≤ length memory.old * R.BITS }
+    requires target_inside { target_start + count ≤ length memory.old * R.BITS }
+    ensures { let old = map R.number memory.old in CopiesBits R.BITS O.at_of old source_start
+        old target_start count (map R.number memory.new) }
+{
+    let from = pointer::<R, O>(source_start);
+    let to = pointer::<R, O>(target_start);
+    from.copy_within(memory, to, count);
+}
+
+// The same under the order of a code.
+fn move_range<R: BitRegister>(
+    order: u8,
+    memory: &mut [R],
+    source_start: usize,
+    target_start: usize,
+    count: usize,
+)
+    requires source_inside { source_start + count ≤ length memory.old * R.BITS }
+    requires target_inside { target_start + count ≤ length memory.old * R.BITS }
+    ensures { let old = map R.number memory.old in CopiesBits R.BITS (order_at R.BITS order)
+        old source_start old target_start count (map R.number memory.new) }
+{
+    if order == LSB0 {
+        move_in::<R, Lsb0>(memory, source_start, target_start, count);
+    } else {
+        move_in::<R, Msb0>(memory, source_start, target_start, count);
+    }
+}
+
+// Copies a range of bits inside a memory where the call's conditions hold, and answers the status.
+fn copy_within<R: BitRegister>(
+    order: u8,
+    memory: &mut [R],
+    source_start: usize,
+    target_start: usize,
+    count: usize,
+) -> u8
+    ensures status { result ≡ ranges_status R.BITS order (length memory.old) source_start
+        (length memory.old) target_start count }
+    ensures copied { result ≡ ok → let old = map R.number memory.old
+        in CopiesBits R.BITS (order_at R.BITS order) old source_start old target_start count
+        (map R.number memory.new) }
+    ensures refused { result ≢ ok → memory.new ≡ memory.old }
+{
+    let words = memory.len();
+    let status = test_ranges::<R>(order, words, source_start, words, target_start, count);
+    if status == OK {
+        move_range(order, memory, source_start, target_start, count);
+    }
+    status
+}
+
+/// Copies a range of bits to one of another memory, both of words of 8 bits, and changes no other
+/// bit.
+///
+/// It refuses with `NO_ORDER`, `TOO_LONG` or `OUTSIDE`.
+#[unsafe(no_mangle)]
+pub extern "C" fn bitvec_c_copy_u8(
+    order: u8,
+    source: &[u8],
+    source_start: usize,
+    target: &mut [u8],
+    target_start: usize,
+    count: usize,
+) -> u8
+    ensures status { result ≡ ranges_status 8 order (length source.now) source_start
+        (length target.old) target_start count }
+    ensures copied { result ≡ ok → CopiesBits 8 (order_at 8 order) source.now source_start
+        target.old target_start count target.new }
+    ensures refused { result ≢ ok → target.new ≡ target.old }
+{
+    copy(order, source, source_start, target, target_start, count)
+}
+
+/// Copies a range of bits to one of another memory, both of words of 16 bits, and changes no other
+/// bit.
+///
+/// It refuses with `NO_ORDER`, `TOO_LONG` or `OUTSIDE`.
+#[unsafe(no_mangle)]
+pub extern "C" fn bitvec_c_copy_u16(
+    order: u8,
+    source: &[u16],
+    source_start: usize,
+    target: &mut [u16],
+    target_start: usize,
+    count: usize,
+) -> u8
+    ensures status { result ≡ ranges_status 16 order (length source.now) source_start
+        (length target.old) target_start count }
+    ensures copied { result ≡ ok → CopiesBits 16 (order_at 16 order) source.now source_start
+        target.old target_start count target.new }
+    ensures refused { result ≢ ok → target.new ≡ target.old }
+{
+    copy(order, source, source_start, target, target_start, count)
+}
+
+/// Copies a range of bits to one of another memory, both of words of 32 bits, and changes no other
+/// bit.
+///
+/// It refuses with `NO_ORDER`, `TOO_LONG` or `OUTSIDE`.
+#[unsafe(no_mangle)]
+pub extern "C" fn bitvec_c_copy_u32(
+    order: u8,
+    source: &[u32],
+    source_start: usize,
+    target: &mut [u32],
+    target_start: usize,
+    count: usize,
+) -> u8
+    ensures status { result ≡ ranges_status 32 order (length source.now) source_start
+        (length target.old) target_start count }
+    ensures copied { result ≡ ok → CopiesBits 32 (order_at 32 order) source.now source_start
+        target.old target_start count target.new }
+    ensures refused { result ≢ ok → target.new ≡ target.old }
+{
+    copy(order, source, source_start, target, target_start, count)
+}
+
+/// Copies a range of bits to one of another memory, both of words of 64 bits, and changes no other
+/// bit.
+///
+/// It refuses with `NO_ORDER`, `TOO_LONG` or `OUTSIDE`.
+#[unsafe(no_mangle)]
+pub extern "C" fn bitvec_c_copy_u64(
+    order: u8,
+    source: &[u64],
+    source_start: usize,
+    target: &mut [u64],
+    target_start: usize,
+    count: usize,
+) -> u8
+    ensures status { result ≡ ranges_status 64 order (length source.now) source_start
+        (length target.old) target_start count }
+    ensures copied { result ≡ ok → CopiesBits 64 (order_at 64 order) source.now source_start
+        target.old target_start count target.new }
+    ensures refused { result ≢ ok → target.new ≡ target.old }
+{
+    copy(order, source, source_start, target, target_start, count)
+}
+
+/// Copies a range of bits to another of the same memory, of words of 8 bits, and changes no other
+/// bit. What is copied is what was there before the call.
+///
+/// It refuses with `NO_ORDER`, `TOO_LONG` or `OUTSIDE`.
+#[unsafe(no_mangle)]
+pub extern "C" fn bitvec_c_copy_within_u8(
+    order: u8,
+    memory: &mut [u8],
+    source_start: usize,
+    target_start: usize,
+    count: usize,
+) -> u8
+    ensures status { result ≡ ranges_status 8 order (length memory.old) source_start
+        (length memory.old) target_start count }
+    ensures copied { result ≡ ok → CopiesBits 8 (order_at 8 order) memory.old source_start
+        memory.old target_start count memory.new }
+    ensures refused { result ≢ ok → memory.new ≡ memory.old }
+{
+    copy_within(order, memory, source_start, target_start, count)
+}
+
+/// Copies a range of bits to another of the same memory, of words of 16 bits, and changes no other
+/// bit. What is copied is what was there before the call.
+///
+/// It refuses with `NO_ORDER`, `TOO_LONG` or `OUTSIDE`.
+#[unsafe(no_mangle)]
+pub extern "C" fn bitvec_c_copy_within_u16(
+    order: u8,
+    memory: &mut [u16],
+    source_start: usize,
+    target_start: usize,
+    count: usize,
+) -> u8
+    ensures status { result ≡ ranges_status 16 order (length memory.old) source_start
+        (length memory.old) target_start count }
+    ensures copied { result ≡ ok → CopiesBits 16 (order_at 16 order) memory.old source_start
+        memory.old target_start count memory.new }
+    ensures refused { result ≢ ok → memory.new ≡ memory.old }
+{
+    copy_within(order, memory, source_start, target_start, count)
+}
+
+/// Copies a range of bits to another of the same memory, of words of 32 bits, and changes no other
+/// bit. What is copied is what was there before the call.
+///
+/// It refuses with `NO_ORDER`, `TOO_LONG` or `OUTSIDE`.
+#[unsafe(no_mangle)]
+pub extern "C" fn bitvec_c_copy_within_u32(
+    order: u8,
+    memory: &mut [u32],
+    source_start: usize,
+    target_start: usize,
+    count: usize,
+) -> u8
+    ensures status { result ≡ ranges_status 32 order (length memory.old) source_start
+        (length memory.old) target_start count }
+    ensures copied { result ≡ ok → CopiesBits 32 (order_at 32 order) memory.old source_start
+        memory.old target_start count memory.new }
+    ensures refused { result ≢ ok → memory.new ≡ memory.old }
+{
+    copy_within(order, memory, source_start, target_start, count)
+}
+
+/// Copies a range of bits to another of the same memory, of words of 64 bits, and changes no other
+/// bit. What is copied is what was there before the call.
+///
+/// It refuses with `NO_ORDER`, `TOO_LONG` or `OUTSIDE`.
+#[unsafe(no_mangle)]
+pub extern "C" fn bitvec_c_copy_within_u64(
+    order: u8,
+    memory: &mut [u64],
+    source_start: usize,
+    target_start: usize,
+    count: usize,
+) -> u8
+    ensures status { result ≡ ranges_status 64 order (length memory.old) source_start
+        (length memory.old) target_start count }
+    ensures copied { result ≡ ok → CopiesBits 64 (order_at 64 order) memory.old source_start
+        memory.old target_start count memory.new }
+    ensures refused { result ≢ ok → memory.new ≡ memory.old }
+{
+    copy_within(order, memory, source_start, target_start, count)
+}

@@ -1,0 +1,373 @@
+//! What is counted, found and compared in ranges of bits.
+
+ghost use Rattle.std.specs.Prelude.{◌≡◌, ◌≢◌, ◌+◌, ◌*◌, ◌≤◌, ◌↔◌, IsTrue, false, length, map};
+ghost use Rattle.bitvec.specs.Place.{region_max_bits};
+ghost use Rattle.bitvec_slice.specs.Bits.{ones_in, BeginsWith};
+ghost use Rattle.bitvec_c.specs.Order.{order_at};
+ghost use Rattle.bitvec_c.specs.Range.{range_bits, HaveSameBits};
+ghost use Rattle.bitvec_c.specs.Status.{ok, range_status, ranges_status};
+
+use crate::range::bits;
+use crate::status::{LSB0, OK, test_range, test_ranges};
+use bitvec::mem::BitRegister;
+use bitvec::order::{Lsb0, Msb0};
+
+// How many bits of a range are one.
+fn ones_of<R: BitRegister>(order: u8, memory: &[R], start: usize, count: usize) -> usize
+    requires short { count ≤ region_max_bits }
+    requires inside { start + count ≤ length memory.now * R.BITS }
+    ensures { result ≡ ones_in (range_bits R.BITS (order_at R.BITS order) start count
+        (map R.number memory.now)) }
+{
+    if order == LSB0 {
+        bits::<R, Lsb0>(memory, start, count).count_ones()
+    } else {
+        bits::<R, Msb0>(memory, start, count).count_ones()
+    }
+}
+
+// Answers how many bits of a range are one.
+fn count_ones<R: BitRegister>(
+    order: u8,
+    memory: &[R],
+    start: usize,
+    count: usize,
+    ones: &mut usize,
+) -> u8
+    ensures status { result ≡ range_status R.BITS order (length memory.now) start count }
+    ensures counted { result ≡ ok → ones.new
+        ≡ ones_in (range_bits R.BITS (order_at R.BITS order) start count
+        (map R.number memory.now)) }
+    ensures refused { result ≢ ok → ones.new ≡ ones.old }
+{
+    let status = test_range::<R>(order, memory.len(), start, count);
+    if status == OK {
+        *ones = ones_of(order, memory, start, count);
+    }
+    status
+}
+
+// The index in a range of its first bit that is one, and how many bits it has where none is.
+fn first_of<R: BitRegister>(order: u8, memory: &[R], start: usize, count: usize) -> usize
+    requires short { count ≤ region_max_bits }
+    requires inside { start + count ≤ length memory.now * R.BITS }
+    ensures { BeginsWith false (range_bits R.BITS (order_at R.BITS order) start count
+        (map R.number memory.now)) result }
+{
+    if order == LSB0 {
+        bits::<R, Lsb0>(memory, start, count).leading_zeros()
+    } else {
+        bits::<R, Msb0>(memory, start, count).leading_zeros()
+    }
+}
+
+// Answers the index in a range of its first bit that is one.
+fn first_one<R: BitRegister>(
+    order: u8,
+    memory: &[R],
+    start: usize,
+    count: usize,
+    index: &mut usize,
+) -> u8
+    ensures status { result ≡ range_status R.BITS order (length memory.now) start count }
+    ensures found { result ≡ ok
+        → BeginsWith false (range_bits R.BITS (order_at R.BITS order) start count
+        (map R.number memory.now)) index.new }
+    ensures refused { result ≢ ok → index.new ≡ index.old }
+{
+    let status = test_range::<R>(order, memory.len(), start, count);
+    if status == OK {
+        *index = first_of(order, memory, start, count);
+    }
+    status
+}
+
+// Whether two ranges have the same bits.
+fn are_equal<R: BitRegister>(
+    order: u8,
+    memory: &[R],
+    start: usize,
+    other: &[R],
+    other_start: usize,
+    count: usize,
+) -> bool
+    requires short { count ≤ region_max_bits }
+    requires inside { start + count ≤ length memory.now * R.BITS }
+    requires other_inside { other_start + count ≤ length other.now * R.BITS }
+    ensures { IsTrue result ↔ HaveSameBits R.BITS (order_at R.BITS order) start
+        (map R.number memory.now) other_start (map R.number other.now) count }
+{
+    if order == LSB0 {
+        bits::<R, Lsb0>(memory, start, count).equals(&bits::<R, Lsb0>(other, other_start, count))
+    } else {
+        bits::<R, Msb0>(memory, start, count).equals(&bits::<R, Msb0>(other, other_start, count))
+    }
+}
+
+// Answers whether two ranges have the same bits.
+fn equal<R: BitRegister>(
+    order: u8,
+    memory: &[R],
+    start: usize,
+    other: &[R],
+    other_start: usize,
+    count: usize,
+    same: &mut bool,
+) -> u8
+    ensures status { result ≡ ranges_status R.BITS order (length memory.now) start
+        (length other.now) other_start count }
+    ensures compared { result ≡ ok → IsTrue same.new ↔ HaveSameBits R.BITS
+        (order_at R.BITS order) start (map R.number memory.now) other_start
+        (map R.number other.now) count }
+    ensures refused { result ≢ ok → same.new ≡ same.old }
+{
+    let status = test_ranges::<R>(order, memory.len(), start, other.len(), other_start, count);
+    if status == OK {
+        *same = are_equal(order, memory, start, other, other_start, count);
+    }
+    status
+}
+
+/// Answers how many bits of a range are one, in a memory of words of 8 bits.
+///
+/// It refuses with `NO_ORDER`, `TOO_LONG` or `OUTSIDE`.
+#[unsafe(no_mangle)]
+pub extern "C" fn bitvec_c_count_ones_u8(
+    order: u8,
+    memory: &[u8],
+    start: usize,
+    count: usize,
+    ones: &mut usize,
+) -> u8
+    ensures status { result ≡ range_status 8 order (length memory.now) start count }
+    ensures counted { result ≡ ok → ones.new
+        ≡ ones_in (range_bits 8 (order_at 8 order) start count memory.now) }
+    ensures refused { result ≢ ok → ones.new ≡ ones.old }
+{
+    count_ones(order, memory, start, count, ones)
+}
+
+/// Answers how many bits of a range are one, in a memory of words of 16 bits.
+///
+/// It refuses with `NO_ORDER`, `TOO_LONG` or `OUTSIDE`.
+#[unsafe(no_mangle)]
+pub extern "C" fn bitvec_c_count_ones_u16(
+    order: u8,
+    memory: &[u16],
+    start: usize,
+    count: usize,
+    ones: &mut usize,
+) -> u8
+    ensures status { result ≡ range_status 16 order (length memory.now) start count }
+    ensures counted { result ≡ ok → ones.new
+        ≡ ones_in (range_bits 16 (order_at 16 order) start count memory.now) }
+    ensures refused { result ≢ ok → ones.new ≡ ones.old }
+{
+    count_ones(order, memory, start, count, ones)
+}
+
+/// Answers how many bits of a range are one, in a memory of words of 32 bits.
+///
+/// It refuses with `NO_ORDER`, `TOO_LONG` or `OUTSIDE`.
+#[unsafe(no_mangle)]
+pub extern "C" fn bitvec_c_count_ones_u32(
+    order: u8,
+    memory: &[u32],
+    start: usize,
+    count: usize,
+    ones: &mut usize,
+) -> u8
+    ensures status { result ≡ range_status 32 order (length memory.now) start count }
+    ensures counted { result ≡ ok → ones.new
+        ≡ ones_in (range_bits 32 (order_at 32 order) start count memory.now) }
+    ensures refused { result ≢ ok → ones.new ≡ ones.old }
+{
+    count_ones(order, memory, start, count, ones)
+}
+
+/// Answers how many bits of a range are one, in a memory of words of 64 bits.
+///
+/// It refuses with `NO_ORDER`, `TOO_LONG` or `OUTSIDE`.
+#[unsafe(no_mangle)]
+pub extern "C" fn bitvec_c_count_ones_u64(
+    order: u8,
+    memory: &[u64],
+    start: usize,
+    count: usize,
+    ones: &mut usize,
+) -> u8
+    ensures status { result ≡ range_status 64 order (length memory.now) start count }
+    ensures counted { result ≡ ok → ones.new
+        ≡ ones_in (range_bits 64 (order_at 64 order) start count memory.now) }
+    ensures refused { result ≢ ok → ones.new ≡ ones.old }
+{
+    count_ones(order, memory, start, count, ones)
+}
+
+/// Answers the index in a range of its first bit that is one, in a memory of words of 8 bits; how
+/// many bits the range has, where none is.
+///
+/// It refuses with `NO_ORDER`, `TOO_LONG` or `OUTSIDE`.
+#[unsafe(no_mangle)]
+pub extern "C" fn bitvec_c_first_one_u8(
+    order: u8,
+    memory: &[u8],
+    start: usize,
+    count: usize,
+    index: &mut usize,
+) -> u8
+    ensures status { result ≡ range_status 8 order (length memory.now) start count }
+    ensures found { result ≡ ok → BeginsWith false
+        (range_bits 8 (order_at 8 order) start count memory.now) index.new }
+    ensures refused { result ≢ ok → index.new ≡ index.old }
+{
+    first_one(order, memory, start, count, index)
+}
+
+/// Answers the index in a range of its first bit that is one, in a memory of words of 16 bits; how
+/// many bits the range has, where none is.
+///
+/// It refuses with `NO_ORDER`, `TOO_LONG` or `OUTSIDE`.
+#[unsafe(no_mangle)]
+pub extern "C" fn bitvec_c_first_one_u16(
+    order: u8,
+    memory: &[u16],
+    start: usize,
+    count: usize,
+    index: &mut usize,
+) -> u8
+    ensures status { result ≡ range_status 16 order (length memory.now) start count }
+    ensures found { result ≡ ok → BeginsWith false
+        (range_bits 16 (order_at 16 order) start count memory.now) index.new }
+    ensures refused { result ≢ ok → index.new ≡ index.old }
+{
+    first_one(order, memory, start, count, index)
+}
+
+/// Answers the index in a range of its first bit that is one, in a memory of words of 32 bits; how
+/// many bits the range has, where none is.
+///
+/// It refuses with `NO_ORDER`, `TOO_LONG` or `OUTSIDE`.
+#[unsafe(no_mangle)]
+pub extern "C" fn bitvec_c_first_one_u32(
+    order: u8,
+    memory: &[u32],
+    start: usize,
+    count: usize,
+    index: &mut usize,
+) -> u8
+    ensures status { result ≡ range_status 32 order (length memory.now) start count }
+    ensures found { result ≡ ok → BeginsWith false
+        (range_bits 32 (order_at 32 order) start count memory.now) index.new }
+    ensures refused { result ≢ ok → index.new ≡ index.old }
+{
+    first_one(order, memory, start, count, index)
+}
+
+/// Answers the index in a range of its first bit that is one, in a memory of words of 64 bits; how
+/// many bits the range has, where none is.
+///
+/// It refuses with `NO_ORDER`, `TOO_LONG` or `OUTSIDE`.
+#[unsafe(no_mangle)]
+pub extern "C" fn bitvec_c_first_one_u64(
+    order: u8,
+    memory: &[u64],
+    start: usize,
+    count: usize,
+    index: &mut usize,
+) -> u8
+    ensures status { result ≡ range_status 64 order (length memory.now) start count }
+    ensures found { result ≡ ok → BeginsWith false
+        (range_bits 64 (order_at 64 order) start count memory.now) index.new }
+    ensures refused { result ≢ ok → index.new ≡ index.old }
+{
+    first_one(order, memory, start, count, index)
+}
+
+/// Answers whether two ranges have the same bits, in two memories of words of 8 bits.
+///
+/// It refuses with `NO_ORDER`, `TOO_LONG` or `OUTSIDE`.
+#[unsafe(no_mangle)]
+pub extern "C" fn bitvec_c_equal_u8(
+    order: u8,
+    memory: &[u8],
+    start: usize,
+    other: &[u8],
+    other_start: usize,
+    count: usize,
+    same: &mut bool,
+) -> u8
+    ensures status { result ≡ ranges_status 8 order (length memory.now) start
+        (length other.now) other_start count }
+    ensures compared { result ≡ ok → IsTrue same.new ↔ HaveSameBits 8 (order_at 8 order)
+        start memory.now other_start other.now count }
+    ensures refused { result ≢ ok → same.new ≡ same.old }
+{
+    equal(order, memory, start, other, other_start, count, same)
+}
+
+/// Answers whether two ranges have the same bits, in two memories of words of 16 bits.
+///
+/// It refuses with `NO_ORDER`, `TOO_LONG` or `OUTSIDE`.
+#[unsafe(no_mangle)]
+pub extern "C" fn bitvec_c_equal_u16(
+    order: u8,
+    memory: &[u16],
+    start: usize,
+    other: &[u16],
+    other_start: usize,
+    count: usize,
+    same: &mut bool,
+) -> u8
+    ensures status { result ≡ ranges_status 16 order (length memory.now) start
+        (length other.now) other_start count }
+    ensures compared { result ≡ ok → IsTrue same.new ↔ HaveSameBits 16 (order_at 16 order)
+        start memory.now other_start other.now count }
+    ensures refused { result ≢ ok → same.new ≡ same.old }
+{
+    equal(order, memory, start, other, other_start, count, same)
+}
+
+/// Answers whether two ranges have the same bits, in two memories of words of 32 bits.
+///
+/// It refuses with `NO_ORDER`, `TOO_LONG` or `OUTSIDE`.
+#[unsafe(no_mangle)]
+pub extern "C" fn bitvec_c_equal_u32(
+    order: u8,
+    memory: &[u32],
+    start: usize,
+    other: &[u32],
+    other_start: usize,
+    count: usize,
+    same: &mut bool,
+) -> u8
+    ensures status { result ≡ ranges_status 32 order (length memory.now) start
+        (length other.now) other_start count }
+    ensures compared { result ≡ ok → IsTrue same.new ↔ HaveSameBits 32 (order_at 32 order)
+        start memory.now other_start other.now count }
+    ensures refused { result ≢ ok → same.new ≡ same.old }
+{
+    equal(order, memory, start, other, other_start, count, same)
+}
+
+/// Answers whether two ranges have the same bits, in two memories of words of 64 bits.
+///
+/// It refuses with `NO_ORDER`, `TOO_LONG` or `OUTSIDE`.
+#[unsafe(no_mangle)]
+pub extern "C" fn bitvec_c_equal_u64(
+    order: u8,
+    memory: &[u64],
+    start: usize,
+    other: &[u64],
+    other_start: usize,
+    count: usize,
+    same: &mut bool,
+) -> u8
+    ensures status { result ≡ ranges_status 64 order (length memory.now) start
+        (length other.now) other_start count }
+    ensures compared { result ≡ ok → IsTrue same.new ↔ HaveSameBits 64 (order_at 64 order)
+        start memory.now other_start other.now count }
+    ensures refused { result ≢ ok → same.new ≡ same.old }
+{
+    equal(order, memory, start, other, other_start, count, same)
+}

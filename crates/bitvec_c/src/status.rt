@@ -1,0 +1,98 @@
+//! The statuses that calls answer, and the tests behind them.
+
+ghost use Rattle.std.specs.Prelude.{◌≡◌, ◌+◌, ◌*◌, ◌≤◌, ◌↔◌, IsTrue};
+ghost use Rattle.bitvec.specs.Place.{region_max_bits};
+ghost use Rattle.bitvec_c.specs.Status.{ok, range_status, ranges_status, number_status};
+
+use bitvec::mem::BitRegister;
+
+/// All conditions of a call hold.
+pub(crate) const OK: u8 = 0;
+
+/// The order is neither [`LSB0`] nor [`MSB0`].
+pub(crate) const NO_ORDER: u8 = 1;
+
+/// A range has more than [`MAX_BITS`] bits.
+pub(crate) const TOO_LONG: u8 = 3;
+
+/// A range ends behind its memory.
+pub(crate) const OUTSIDE: u8 = 4;
+
+/// A number is to have more than [`MAX_DIGITS`] digits.
+pub(crate) const TOO_WIDE: u8 = 5;
+
+/// The code of the order from the least significant digit.
+pub(crate) const LSB0: u8 = 0;
+
+/// The code of the order from the most significant digit.
+pub(crate) const MSB0: u8 = 1;
+
+/// The greatest number of bits in a range.
+pub(crate) const MAX_BITS: usize = 2305843009213693951;
+
+/// The greatest number of digits in a number.
+pub(crate) const MAX_DIGITS: usize = 64;
+
+// Whether the range of `count` bits from place `start` on ends within so many words.
+fn is_inside<R: BitRegister>(words: usize, start: usize, count: usize) -> bool
+    ensures { IsTrue result ↔ (start + count ≤ words * R.BITS) }
+{
+    start as u128 + count as u128 <= words as u128 * u128::from(R::BITS)
+}
+
+/// The status of an order and of a range in a memory of so many words.
+pub(crate) fn test_range<R: BitRegister>(order: u8, words: usize, start: usize, count: usize) -> u8
+    ensures status { result ≡ range_status R.BITS order words start count }
+    ensures order { result ≡ ok → order ≤ 1 }
+    ensures short { result ≡ ok → count ≤ region_max_bits }
+    ensures inside { result ≡ ok → start + count ≤ words * R.BITS }
+{
+    if order > MSB0 {
+        NO_ORDER
+    } else if count > MAX_BITS {
+        TOO_LONG
+    } else if !is_inside::<R>(words, start, count) {
+        OUTSIDE
+    } else {
+        OK
+    }
+}
+
+/// The status of an order and of two ranges of as many bits, each in a memory of its own.
+pub(crate) fn test_ranges<R: BitRegister>(
+    order: u8,
+    words: usize,
+    start: usize,
+    other_words: usize,
+    other_start: usize,
+    count: usize,
+) -> u8
+    ensures status { result
+        ≡ ranges_status R.BITS order words start other_words other_start count }
+    ensures order { result ≡ ok → order ≤ 1 }
+    ensures short { result ≡ ok → count ≤ region_max_bits }
+    ensures inside { result ≡ ok → start + count ≤ words * R.BITS }
+    ensures other_inside { result ≡ ok → other_start + count ≤ other_words * R.BITS }
+{
+    let status = test_range::<R>(order, words, start, count);
+    if status == OK {
+        test_range::<R>(order, other_words, other_start, count)
+    } else {
+        status
+    }
+}
+
+/// The status of an order and of a range that is a number.
+pub(crate) fn test_number<R: BitRegister>(order: u8, words: usize, start: usize, count: usize) -> u8
+    ensures status { result ≡ number_status R.BITS order words start count }
+    ensures order { result ≡ ok → order ≤ 1 }
+    ensures small { result ≡ ok → count ≤ 64 }
+    ensures inside { result ≡ ok → start + count ≤ words * R.BITS }
+{
+    let status = test_range::<R>(order, words, start, count);
+    if status == OK && count > MAX_DIGITS {
+        TOO_WIDE
+    } else {
+        status
+    }
+}
