@@ -1,0 +1,177 @@
+//! The lines of `bits run`: commands through disjoint spans of one memory.
+
+use crate::fault::Fault;
+use crate::spans::span_at;
+use bitvec::mem::BitRegister;
+use bitvec::order::BitOrder;
+use bitvec::ptr::span::BitSpan;
+use bitvec::run::{Command, Reply, Request, can_run, run};
+use notation::names::Call;
+use notation::number::{number, place};
+use notation::words::{words_of, write_words};
+use std::alloc::{AllocError, Allocator};
+use std::fmt::Write as _;
+
+/// The call `bits run` with its words, spans and commands.
+#[derive(Drop)]
+pub struct RunCall<'a, 't, A: Allocator> {
+    /// Where the answer is made.
+    pub alloc: &'a A,
+    /// The memory.
+    pub words: &'t str,
+    /// The spans, as their first places and lengths.
+    pub spans: &'t str,
+    /// The commands, each with the number of its span.
+    pub commands: &'t str,
+}
+
+impl<'a, A: Allocator> Call for RunCall<'a, '_, A> {
+    type Answer = Result<String<&'a A>, Fault<&'a A>>;
+
+    // One line a reply, and the memory.
+    fn at<R: BitRegister, O: BitOrder<R>>(&self) -> Self::Answer {
+        let alloc = self.alloc;
+        let mut memory = words_of::<R, A>(alloc, self.words)?.ok_or(Fault::Usage)?;
+        let places = intervals_of(alloc, self.spans)?;
+        let requests = requests_of::<R, A>(alloc, self.commands)?;
+        let spans = spans_of::<R, O, A>(alloc, &places)?;
+        if !spans.iter().all(|span| span.fits(memory.len())) {
+            return Err(Fault::line(alloc, &"span does not fit")?);
+        }
+        if !can_run(&spans, memory.len()) {
+            return Err(Fault::line(alloc, &"spans overlap")?);
+        }
+        let mut replies = vec![in alloc; Reply::NoSpan; requests.len()]?;
+        run(&spans, &mut memory, &requests, &mut replies);
+        let mut text = String::new(alloc);
+        write_replies(&mut text, &replies)?;
+        write!(text, "memory ")?;
+        write_words(&mut text, &memory)?;
+        writeln!(text)?;
+        Ok(text)
+    }
+}
+
+// A comma list of places and lengths with a plus sign between them, or `-` for none.
+fn intervals_of<'a, A: Allocator>(
+    alloc: &'a A,
+    text: &str,
+) -> Result<Vec<(u64, u64), &'a A>, Fault<&'a A>> {
+    let mut all = Vec::new(alloc);
+    if text == "-" {
+        return Ok(all);
+    }
+    for pair in text.split(',') {
+        let (start, len) = pair.split_once('+').ok_or(Fault::Usage)?;
+        let start = place(start).ok_or(Fault::Usage)?;
+        let len = place(len).ok_or(Fault::Usage)?;
+        all.push((start, len)).map_err(AllocError::from)?;
+    }
+    Ok(all)
+}
+
+// The spans of these places and lengths; the fault is of the first that is refused.
+fn spans_of<'a, R: BitRegister, O: BitOrder<R>, A: Allocator>(
+    alloc: &'a A,
+    places: &[(u64, u64)],
+) -> Result<Vec<BitSpan<R, O>, &'a A>, Fault<&'a A>> {
+    let mut spans = Vec::new(alloc);
+    for (start, len) in places {
+        let span = span_at::<R, O, A>(alloc, *start, *len)?;
+        spans.push(span).map_err(AllocError::from)?;
+    }
+    Ok(spans)
+}
+
+// A comma list of commands, or `-` for none.
+fn requests_of<'a, R: BitRegister, A: Allocator>(
+    alloc: &'a A,
+    text: &str,
+) -> Result<Vec<Request<R>, &'a A>, Fault<&'a A>> {
+    let mut all = Vec::new(alloc);
+    if text == "-" {
+        return Ok(all);
+    }
+    for text in text.split(',') {
+        let words: Vec<&str, &'a A> = text.split(':').collect(alloc)?;
+        let request = request(&words).ok_or(Fault::Usage)?;
+        all.push(request).map_err(AllocError::from)?;
+    }
+    Ok(all)
+}
+
+// The number of a span and its command, from the words between the colons.
+fn request<R: BitRegister>(words: &[&str]) -> Option<Request<R>> {
+    let [span, name, rest @ ..] = words else {
+        return None;
+    };
+    let span = count(span)?;
+    let command = command(name, rest)?;
+    Some(Request { span, command })
+}
+
+// The command of a name with its numbers.
+fn command<R: BitRegister>(name: &str, words: &[&str]) -> Option<Command<R>> {
+    match words {
+        [k] => one_number(name, count(k)?),
+        [k, value] if name == "store" => {
+            let value = R::from_u128(number(value, 16, u128::MAX)?)?;
+            Some(Command::Store(count(k)?, value))
+        }
+        [i, bit] if name == "replace" => Some(Command::Replace(count(i)?, truth(bit)?)),
+        [i, j] if name == "swap" => Some(Command::Swap(count(i)?, count(j)?)),
+        [from, to, len] if name == "copy" => Some(Command::Copy {
+            from: count(from)?,
+            to: count(to)?,
+            count: count(len)?,
+        }),
+        [from, to, bit] if name == "fill" => Some(Command::Fill {
+            from: count(from)?,
+            to: count(to)?,
+            value: truth(bit)?,
+        }),
+        _ => None,
+    }
+}
+
+// The command of a name with one number.
+fn one_number<R: BitRegister>(name: &str, n: usize) -> Option<Command<R>> {
+    match name {
+        "load" => Some(Command::Load(n)),
+        "set" => Some(Command::Set(n)),
+        "clear" => Some(Command::Clear(n)),
+        "invert" => Some(Command::Invert(n)),
+        "read" => Some(Command::Read(n)),
+        _ => None,
+    }
+}
+
+// A decimal number of 64 bits, as a number of bits or words.
+fn count(text: &str) -> Option<usize> {
+    Some(place(text)? as usize)
+}
+
+// A bit, `0` or `1`.
+fn truth(text: &str) -> Option<bool> {
+    Some(number(text, 10, 1)? != 0)
+}
+
+// Writes a line a reply.
+fn write_replies<R: BitRegister, A: Allocator>(
+    text: &mut String<A>,
+    replies: &[Reply<R>],
+) -> Result<(), AllocError> {
+    for reply in replies {
+        match *reply {
+            Reply::Word(word) => {
+                let word = word.to_u128();
+                writeln!(text, "word {word:x}")?;
+            }
+            Reply::Bit(bit) => writeln!(text, "bit {}", u8::from(bit))?,
+            Reply::Done => writeln!(text, "done")?,
+            Reply::PastEnd => writeln!(text, "past end")?,
+            Reply::NoSpan => writeln!(text, "no span")?,
+        }
+    }
+    Ok(())
+}
