@@ -1,15 +1,16 @@
 -- Two lists under one head, compared word by word. `bits` is the width of a word.
-use Rattle.std.proofs.Common.{◌≡◌, ℕ, zero, suc, ◌+◌, ◌-◌, ◌*◌, ◌/◌, ◌%◌, ◌^◌, ◌<◌, ◌↔◌, ◌==◌, ◌||◌, ◌&&◌, Bool, true, false, not, nat_le, nat_lt, bit_or, if◌then◌else◌, List, length, get_or, map, take, drop, refl, sym, ap, subst, ◌∙◌, inl, inr, arith, get_or-drop}
-use Rattle.std.specs.Prelude.{nat_abs, slice_index}
+use Rattle.std.proofs.Common.{◌≡◌, ℕ, zero, suc, ◌+◌, ◌-◌, ◌*◌, ◌/◌, ◌%◌, ◌^◌, ◌<◌, ◌≤◌, ◌↔◌, ◌==◌, ◌||◌, ◌&&◌, Bool, true, false, nat_le, nat_lt, bit_or, if◌then◌else◌, List, length, get_or, map, take, drop, refl, sym, ap, subst, ◌∙◌, inl, inr, arith, get_or-drop}
+use Rattle.std.specs.Prelude.{IsTrue, nat_abs, slice_index}
 use Rattle.std.proofs.lemmas.Bool.{cases_eq, eqb-true, eq-eqb, ne_eqb, le-leb, lt-ltb}
 use Rattle.std.proofs.lemmas.List.{get_or-take, take-map, drop-map}
-use Rattle.std.proofs.lemmas.Nat.{div-add-mod', le-div, mod_below}
-use Rattle.bitvec.specs.Digit.{digit}
+use Rattle.std.proofs.lemmas.Nat.{div-add-mod', le-div, mod_below, pow_pos}
+use Rattle.bitvec.specs.Digit.{digit, exclusive_or}
 use Rattle.bitvec.specs.SameDigits.{same_from_digits}
 use Rattle.bitvec.specs.Order.{IsOneToOne, number_of}
 use Rattle.bitvec.specs.Parts.{part_head, part_tail}
 use Rattle.bitvec.specs.Place.{words_met}
 use Rattle.bitvec.specs.Span.{Span, list_of, element, word_of}
+use Rattle.bitvec.proofs.DigitLemmas.{digit-zero}
 use Rattle.bitvec.proofs.IndexLemmas.{index_at, digit-number_of_at}
 use Rattle.bitvec.proofs.MemoryLemmas.{tabulate-from_elements}
 use Rattle.bitvec.proofs.PartLemmas.{value_of-part_of}
@@ -17,26 +18,60 @@ use Rattle.bitvec.proofs.PlaceLemmas.{words_met-some}
 use Rattle.bitvec_slice.specs.Words.{HaveSamePositions, HaveSameDigits}
 use Rattle.bitvec_slice.proofs.FindLemmas.{test_at}
 
-or_not : (b test : Bool) → ((b || not test) ≡ false) ↔ ((b ≡ false) × (test ≡ true))
-or_not true test = ((λ e. absurd cc), λ e. absurd (let f = e.0 in cc))
-or_not false true = ((λ e. (refl, refl)), λ e. refl)
-or_not false false = ((λ e. absurd cc), λ e. absurd (let f = e.1 in cc))
+or_off : (mark a b : Bool) → ((mark || exclusive_or a b) ≡ false) ↔ ((mark ≡ false) × (a ≡ b))
+or_off true a b = ((λ e. absurd cc), λ e. absurd (let f = e.0 in cc))
+or_off false true true = ((λ e. (refl, refl)), λ e. refl)
+or_off false true false = ((λ e. absurd cc), λ e. absurd (let f = e.1 in cc))
+or_off false false true = ((λ e. absurd cc), λ e. absurd (let f = e.1 in cc))
+or_off false false false = ((λ e. (refl, refl)), λ e. refl)
+
+-- the ones of a number are the digits in which some word, from word `from` to before word `upto`, differs from the other memory's
+pub record MarksDifferences (bits : ℕ) (words other : List ℕ) (from upto marks : ℕ) : Type 0 where
+  pub below : marks < 2 ^ bits
+  pub digits : (p : ℕ) → p < bits → (digit marks p ≡ false) ↔ ((w : ℕ) → from ≤ w → w < upto → digit (slice_index words w) p ≡ digit (slice_index other w) p)
+
+-- no words yet
+pub marks_none : (bits : ℕ) (words other : List ℕ) (from marks : ℕ) → marks ≡ 0 → MarksDifferences bits words other from (from + 0) marks
+marks_none bits words other from marks none = record {
+  below = subst (λ n. n < 2 ^ bits) (sym none) (pow_pos bits);
+  digits = λ p small. ((λ off w low high. absurd (omega (arith, low, high))), λ all. ap (λ n. digit n p) none ∙ digit-zero p);
+}
 
 -- one word more, whose numbers are a and b
-pub one_more_same : (bits : ℕ) (words other : List ℕ) (from i a b : ℕ) (differ : Bool) → slice_index words (from + i) ≡ a → slice_index other (from + i) ≡ b → a < 2 ^ bits → b < 2 ^ bits
-    → (differ ≡ false) ↔ HaveSameDigits bits words other from (from + i) → ((differ || not (a == b)) ≡ false) ↔ HaveSameDigits bits words other from (from + (i + 1))
-one_more_same bits words other from i a b differ is_a is_b small_a small_b before =
-    let both = or_not differ (a == b) in (
-      λ e w p low high small.
-          let known = both.0 e in
-          elim (cases_eq w (from + i)) [
-            | inl here ↦ (let same : a ≡ b = eqb-true a b known.1 in ap (λ v. digit (slice_index words v) p) here ∙ ap (λ n. digit n p) (is_a ∙ same ∙ sym is_b) ∙ sym (ap (λ v. digit (slice_index other v) p) here))
-            | inr differs ↦ before.0 known.0 w p low (omega (arith, high, differs)) small
-          ],
-      λ all.
-          let same : a ≡ b = same_from_digits bits a b small_a small_b (λ p small. sym (ap (λ n. digit n p) is_a) ∙ all (from + i) p (omega arith) (omega arith) small ∙ ap (λ n. digit n p) is_b) in
-          both.1 (before.1 (λ w p low high small. all w p low (omega (arith, high)) small), eq-eqb a b same),
-    )
+pub marks_more : (bits : ℕ) (words other : List ℕ) (from i a b marks more : ℕ) → slice_index words (from + i) ≡ a → slice_index other (from + i) ≡ b → more < 2 ^ bits → ((p : ℕ) → p < bits → digit more p ≡ (digit marks p || exclusive_or (digit a p) (digit b p)))
+    → MarksDifferences bits words other from (from + i) marks → MarksDifferences bits words other from (from + (i + 1)) more
+marks_more bits words other from i a b marks more is_a is_b fits joined before = record {
+  below = fits;
+  digits =
+      λ p small.
+      let both = or_off (digit marks p) (digit a p) (digit b p) in
+      let so_far = before.digits p small in (
+        λ off w low high.
+            let known = both.0 (sym (joined p small) ∙ off) in
+            elim (cases_eq w (from + i)) [
+              | inl here ↦ (
+                  ap (λ v. digit (slice_index words v) p) here
+                  ∙ ap (λ n. digit n p) is_a
+                  ∙ known.1
+                  ∙ sym (ap (λ v. digit (slice_index other v) p) here ∙ ap (λ n. digit n p) is_b))
+              | inr differs ↦ so_far.0 known.0 w low (omega (arith, high, differs))
+            ],
+        λ all.
+            let same : digit a p ≡ digit b p = sym (ap (λ n. digit n p) is_a) ∙ all (from + i) (omega arith) (omega arith) ∙ ap (λ n. digit n p) is_b in
+            joined p small ∙ both.1 (so_far.1 (λ w low high. all w low (omega (arith, high))), same),
+      );
+}
+
+-- no differences are marked exactly where there are none
+pub marks_test : (bits : ℕ) (words other : List ℕ) (from upto marks none : ℕ) (test : Bool) → MarksDifferences bits words other from upto marks → none ≡ 0 → test ≡ (marks == none) → IsTrue test ↔ HaveSameDigits bits words other from upto
+marks_test bits words other from upto marks none test found is_zero is = (
+  λ yes w p low high small.
+      let no_marks : marks ≡ 0 = eqb-true marks none (sym is ∙ yes) ∙ is_zero in
+      (found.digits p small).0 (ap (λ n. digit n p) no_marks ∙ digit-zero p) w low high,
+  λ all.
+      let no_marks : marks ≡ 0 = same_from_digits bits marks 0 found.below (pow_pos bits) (λ p small. (found.digits p small).1 (λ w low high. all w p low high small) ∙ sym (digit-zero p)) in
+      is ∙ eq-eqb marks none (no_marks ∙ sym is_zero),
+)
 
 -- a word of some words of a memory
 pub inner_index : {W : Type 0} (number : W → ℕ) (words : List W) (from count q : ℕ) → q < count → slice_index (map number (take count (drop from words))) q ≡ slice_index (map number words) (from + q)

@@ -1,9 +1,9 @@
 //! Whether two slices have the same bits, word by word, where the bit of each index stands at the
 //! same place of its word in both.
 
-ghost use Rattle.std.specs.Prelude.{◌≡◌, ◌↔◌, ℕ, ◌+◌, ◌<◌, ◌≤◌, IsTrue, false, length, map};
+ghost use Rattle.std.specs.Prelude.{◌≡◌, ◌↔◌, ℕ, ◌+◌, ◌^◌, ◌<◌, ◌≤◌, IsTrue, length, map};
 ghost use Rattle.std.specs.Prelude.{slice_index};
-ghost use Rattle.bitvec.specs.Digit.{digit};
+ghost use Rattle.bitvec.specs.Digit.{digit, exclusive_or};
 ghost use Rattle.bitvec.specs.Place.{words_met};
 ghost use Rattle.bitvec_slice.specs.BitSlice.{slice_span, slice_word, bits_of};
 ghost use Rattle.bitvec_slice.specs.Words.{HaveSamePositions, HaveSameDigits};
@@ -40,10 +40,21 @@ pub(super) fn have_same_positions<
     true
 }
 
-// Whether some word, of the `count` words from index `from` on, is another number than the one at
-// its index of the other list. All are looked at.
+// The digits at which a word differs from one of another register of the same width.
 #[inline(always)]
-fn do_differ<R: BitRegister, R2: BitRegister>(
+fn difference<R: BitRegister, R2: BitRegister>(word: R, other: R2) -> R
+    requires { R.BITS ≡ R2.BITS }
+    ensures below { R.number result < 2 ^ R.BITS }
+    ensures digits { (p : ℕ) → p < R.BITS → digit (R.number result) p
+        ≡ exclusive_or (digit (R.number word) p) (digit (R2.number other) p) }
+{
+    word.xor(R::from_u128(other.to_u128()).unwrap_or(R::ZERO))
+}
+
+// Whether the `count` words from index `from` on are the same numbers in both lists. All are looked
+// at, whatever the first are.
+#[inline(always)]
+fn is_same_stretch<R: BitRegister, R2: BitRegister>(
     here: &[R],
     there: &[R2],
     from: usize,
@@ -52,14 +63,14 @@ fn do_differ<R: BitRegister, R2: BitRegister>(
     requires here_in { from + count ≤ length here.now }
     requires there_in { from + count ≤ length there.now }
     requires width { R.BITS ≡ R2.BITS }
-    ensures { (result ≡ false) ↔ HaveSameDigits R.BITS (map R.number here.now)
+    ensures { IsTrue result ↔ HaveSameDigits R.BITS (map R.number here.now)
         (map R2.number there.now) from (from + count) }
 {
-    let mut differ = false;
+    let mut differences = R::ZERO;
     for i in 0..count {
-        differ |= here[from + i].to_u128() != there[from + i].to_u128();
+        differences = differences.or(difference(here[from + i], there[from + i]));
     }
-    differ
+    differences == R::ZERO
 }
 
 // Whether the words of two lists are the same numbers.
@@ -71,12 +82,12 @@ fn are_same_numbers<R: BitRegister, R2: BitRegister>(here: &[R], there: &[R2]) -
 {
     let mut start = 0;
     while here.len() - start > BLOCK_WORDS {
-        if do_differ(here, there, start, BLOCK_WORDS) {
+        if !is_same_stretch(here, there, start, BLOCK_WORDS) {
             return false;
         }
         start += BLOCK_WORDS;
     }
-    !do_differ(here, there, start, here.len() - start)
+    is_same_stretch(here, there, start, here.len() - start)
 }
 
 impl<'a, R: BitRegister, O: BitOrder<R>> BitSlice<'a, R, O> {
