@@ -1,4 +1,6 @@
 mod NumberLemmas
 mod OrderLemmas
+mod PlainLemmas
 mod RangeLemmas
 mod ReadLemmas
+mod RunLemmas

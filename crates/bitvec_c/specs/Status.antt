@@ -10,6 +10,10 @@ ok = 0
 abbrev pub no_order : ℕ
 no_order = 1
 
+-- a run has more than 64 spans
+abbrev pub too_many_spans : ℕ
+too_many_spans = 2
+
 -- a range has more bits than a span can have
 abbrev pub too_long : ℕ
 too_long = 3
@@ -21,6 +25,18 @@ outside = 4
 -- a number is to have more than 64 digits
 abbrev pub too_wide : ℕ
 too_wide = 5
+
+-- two spans of a run have a bit in common
+abbrev pub overlap : ℕ
+overlap = 6
+
+-- a run has not as many replies as requests
+abbrev pub no_room : ℕ
+no_room = 7
+
+-- the code of a request's command is that of no command
+abbrev pub no_command : ℕ
+no_command = 8
 
 -- the status of an order and of the range of `count` bits from place `start` on, in a memory of so many words
 abbrev pub range_status : ℕ → ℕ → ℕ → ℕ → ℕ → ℕ

@@ -10,5 +10,7 @@ mod copy;
 mod fill;
 mod find;
 mod number;
+mod plain;
 mod range;
+mod run;
 mod status;

@@ -12,6 +12,9 @@ pub(crate) const OK: u8 = 0;
 /// The order is neither [`LSB0`] nor [`MSB0`].
 pub(crate) const NO_ORDER: u8 = 1;
 
+/// A run has more than [`MAX_SPANS`] spans.
+pub(crate) const TOO_MANY_SPANS: u8 = 2;
+
 /// A range has more than [`MAX_BITS`] bits.
 pub(crate) const TOO_LONG: u8 = 3;
 
@@ -20,6 +23,15 @@ pub(crate) const OUTSIDE: u8 = 4;
 
 /// A number is to have more than [`MAX_DIGITS`] digits.
 pub(crate) const TOO_WIDE: u8 = 5;
+
+/// Two spans of a run have a bit in common.
+pub(crate) const OVERLAP: u8 = 6;
+
+/// A run has not as many replies as requests.
+pub(crate) const NO_ROOM: u8 = 7;
+
+/// The code of a request's command is that of no command.
+pub(crate) const NO_COMMAND: u8 = 8;
 
 /// The code of the order from the least significant digit.
 pub(crate) const LSB0: u8 = 0;
@@ -30,11 +42,14 @@ pub(crate) const MSB0: u8 = 1;
 /// The greatest number of bits in a range.
 pub(crate) const MAX_BITS: usize = 2305843009213693951;
 
+/// The greatest number of spans in a run.
+pub(crate) const MAX_SPANS: usize = 64;
+
 /// The greatest number of digits in a number.
 pub(crate) const MAX_DIGITS: usize = 64;
 
-// Whether the range of `count` bits from place `start` on ends within so many words.
-fn is_inside<R: BitRegister>(words: usize, start: usize, count: usize) -> bool
+/// Whether the range of `count` bits from place `start` on ends within so many words.
+pub(crate) fn is_inside<R: BitRegister>(words: usize, start: usize, count: usize) -> bool
     ensures { IsTrue result ↔ (start + count ≤ words * R.BITS) }
 {
     start as u128 + count as u128 <= words as u128 * u128::from(R::BITS)

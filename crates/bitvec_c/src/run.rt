@@ -1,0 +1,405 @@
+//! Runs of commands through disjoint spans of one memory.
+
+ghost use Rattle.std.specs.Prelude.{◌≡◌, ◌≢◌, ℕ, ◌+◌, ◌*◌, ◌≤◌, ◌↔◌, IsTrue, [], ◌∷◌, length, map};
+ghost use Rattle.bitvec.specs.BitSpan.{span_of};
+ghost use Rattle.bitvec.specs.Commands.{command_number, reply_number};
+ghost use Rattle.bitvec.specs.Run.{CanRun, IsStep, IsRun};
+ghost use Rattle.bitvec.specs.Span.{Fits};
+ghost use Rattle.bitvec_c.specs.Order.{order_at};
+ghost use Rattle.bitvec_c.specs.Plain.{plain_span, AllShort, AllInside, AreCommands};
+ghost use Rattle.bitvec_c.specs.Plain.{plain_request, reply_of, IsPlainReply, IsPlainRun};
+ghost use Rattle.bitvec_c.specs.RunStatus.{IsSpansStatus, IsRunStatus};
+ghost use Rattle.bitvec_c.specs.Status.{ok};
+
+use crate::plain::{
+    PlainReply, PlainRequest, PlainSpan, are_apart, are_commands, are_short, command_of,
+    plain_reply,
+};
+use crate::range::span;
+use crate::status::{
+    LSB0, MAX_SPANS, MSB0, NO_COMMAND, NO_ORDER, NO_ROOM, OK, OUTSIDE, OVERLAP, TOO_LONG,
+    TOO_MANY_SPANS, is_inside,
+};
+use bitvec::mem::BitRegister;
+use bitvec::order::{BitOrder, Lsb0, Msb0};
+use bitvec::ptr::span::BitSpan;
+use bitvec::run::{Command, Reply, Request, run};
+
+// Whether each range ends within so many words.
+fn are_inside<R: BitRegister>(spans: &[PlainSpan], words: usize) -> bool
+    ensures { IsTrue result ↔ AllInside R.BITS words spans.now }
+{
+    spans
+        .iter()
+        .all(|range| is_inside::<R>(words, range.start, range.count))
+}
+
+// The status of an order and of the spans of a run in a memory of so many words.
+fn test_spans<R: BitRegister>(order: u8, spans: &[PlainSpan], words: usize) -> u8
+    ensures status { IsSpansStatus R.BITS order spans.now words result }
+    ensures short { result ≡ ok → AllShort spans.now }
+    ensures can_run { result ≡ ok → CanRun R.BITS (plain_span R.BITS) spans.now words }
+{
+    if order > MSB0 {
+        return NO_ORDER;
+    }
+    if spans.len() > MAX_SPANS {
+        return TOO_MANY_SPANS;
+    }
+    if !are_short(spans) {
+        return TOO_LONG;
+    }
+    if !are_inside::<R>(spans, words) {
+        return OUTSIDE;
+    }
+    if !are_apart::<R>(spans) {
+        return OVERLAP;
+    }
+    OK
+}
+
+// The status of a run with so many replies.
+fn test_run<R: BitRegister>(
+    order: u8,
+    spans: &[PlainSpan],
+    words: usize,
+    requests: &[PlainRequest],
+    replies: usize,
+) -> u8
+    ensures status { IsRunStatus R.BITS order spans.now words requests.now replies result }
+    ensures short { result ≡ ok → AllShort spans.now }
+    ensures can_run { result ≡ ok → CanRun R.BITS (plain_span R.BITS) spans.now words }
+    ensures room { result ≡ ok → replies ≡ length requests.now }
+    ensures commands { result ≡ ok → AreCommands requests.now }
+{
+    let status = test_spans::<R>(order, spans, words);
+    if status != OK {
+        return status;
+    }
+    if replies != requests.len() {
+        return NO_ROOM;
+    }
+    if !are_commands(requests) {
+        return NO_COMMAND;
+    }
+    OK
+}
+
+// Gives a command to a span, by a run of one request. The room for the request and for its reply is
+// the caller's, who knows how large a word is.
+fn step<R: BitRegister, O: BitOrder<R>>(
+    span: BitSpan<R, O>,
+    memory: &mut [R],
+    command: Command<R>,
+    request: &mut [Request<R>],
+    reply: &mut [Reply<R>],
+) -> Reply<R>
+    requires fits { Fits R.BITS (span_of span) (length memory.old) }
+    requires request { length request.old ≡ 1 }
+    requires reply { length reply.old ≡ 1 }
+    ensures { IsStep R.BITS O.at_of (span_of span) (map R.number memory.old)
+        (command_number R.number command) (reply_number R.number result) (map R.number memory.new) }
+{
+    request[0] = Request { span: 0, command };
+    run(&[span], memory, request, reply);
+    reply[0]
+}
+
+// Serves one request.
+fn serve<R: BitRegister, O: BitOrder<R>>(
+    spans: &[PlainSpan],
+    memory: &mut [R],
+    request: &PlainRequest,
+    room: &mut [Request<R>],
+    reply_room: &mut [Reply<R>],
+) -> PlainReply
+    requires room { length room.old ≡ 1 }
+    requires reply_room { length reply_room.old ≡ 1 }
+    requires narrow { R.BITS ≤ 64 }
+    requires short { AllShort spans.now }
+    requires can_run { CanRun R.BITS (plain_span R.BITS) spans.now (length memory.old) }
+    requires command { request.now.command ≤ 9 }
+    ensures run { IsRun R.BITS O.at_of (plain_span R.BITS) spans.now (map R.number memory.old)
+        (plain_request R.BITS request.now ∷ []) (reply_of result ∷ []) (map R.number memory.new) }
+    ensures plain { IsPlainReply result }
+{
+    if request.span < spans.len() {
+        let range = spans[request.span];
+        let own = span::<R, O>(range.start, range.count);
+        let command = command_of(request);
+        plain_reply(step(own, memory, command, room, reply_room))
+    } else {
+        plain_reply::<R>(Reply::NoSpan)
+    }
+}
+
+// Serves the requests in their order, and writes reply n to request n.
+fn run_in<R: BitRegister, O: BitOrder<R>>(
+    spans: &[PlainSpan],
+    memory: &mut [R],
+    requests: &[PlainRequest],
+    replies: &mut [PlainReply],
+    room: &mut [Request<R>],
+    reply_room: &mut [Reply<R>],
+)
+    requires room { length room.old ≡ 1 }
+    requires reply_room { length reply_room.old ≡ 1 }
+    requires narrow { R.BITS ≤ 64 }
+    requires short { AllShort spans.now }
+    requires can_run { CanRun R.BITS (plain_span R.BITS) spans.now (length memory.old) }
+    requires replies { length replies.old ≡ length requests.now }
+    requires commands { AreCommands requests.now }
+    ensures { IsPlainRun R.BITS O.at_of spans.now (map R.number memory.old) requests.now
+        replies.new (map R.number memory.new) }
+{
+    for n in 0..requests.len() {
+        replies[n] = serve::<R, O>(spans, memory, &requests[n], room, reply_room);
+    }
+}
+
+// The same under the order of a code.
+fn run_requests<R: BitRegister>(
+    order: u8,
+    spans: &[PlainSpan],
+    memory: &mut [R],
+    requests: &[PlainRequest],
+    replies: &mut [PlainReply],
+    room: &mut [Request<R>],
+    reply_room: &mut [Reply<R>],
+)
+    requires room { length room.old ≡ 1 }
+    requires reply_room { length reply_room.old ≡ 1 }
+    requires narrow { R.BITS ≤ 64 }
+    requires short { AllShort spans.now }
+    requires can_run { CanRun R.BITS (plain_span R.BITS) spans.now (length memory.old) }
+    requires replies { length replies.old ≡ length requests.now }
+    requires commands { AreCommands requests.now }
+    ensures { IsPlainRun R.BITS (order_at R.BITS order) spans.now (map R.number memory.old)
+        requests.now replies.new (map R.number memory.new) }
+{
+    if order == LSB0 {
+        run_in::<R, Lsb0>(spans, memory, requests, replies, room, reply_room);
+    } else {
+        run_in::<R, Msb0>(spans, memory, requests, replies, room, reply_room);
+    }
+}
+
+// Serves the requests where the call's conditions hold, and answers the status.
+fn run_plain<R: BitRegister>(
+    order: u8,
+    spans: &[PlainSpan],
+    memory: &mut [R],
+    requests: &[PlainRequest],
+    replies: &mut [PlainReply],
+    room: &mut [Request<R>],
+    reply_room: &mut [Reply<R>],
+) -> u8
+    requires room { length room.old ≡ 1 }
+    requires reply_room { length reply_room.old ≡ 1 }
+    requires narrow { R.BITS ≤ 64 }
+    ensures status { IsRunStatus R.BITS order spans.now (length memory.old) requests.now
+        (length replies.old) result }
+    ensures run { result ≡ ok → IsPlainRun R.BITS (order_at R.BITS order) spans.now
+        (map R.number memory.old) requests.now replies.new (map R.number memory.new) }
+    ensures kept { result ≢ ok → memory.new ≡ memory.old }
+    ensures unanswered { result ≢ ok → replies.new ≡ replies.old }
+{
+    let count = replies.len();
+    let status = test_run::<R>(order, spans, memory.len(), requests, count);
+    if status == OK {
+        run_requests(order, spans, memory, requests, replies, room, reply_room);
+    }
+    status
+}
+
+/// Whether spans serve for a run in a memory of so many words of 8 bits: each lies in it, and no
+/// two have a bit in common.
+///
+/// It refuses with `NO_ORDER`, `TOO_MANY_SPANS`, `TOO_LONG`, `OUTSIDE` or `OVERLAP`.
+#[unsafe(no_mangle)]
+pub extern "C" fn bitvec_c_can_run_u8(order: u8, spans: &[PlainSpan], words: usize) -> u8
+    ensures status { IsSpansStatus 8 order spans.now words result }
+    ensures can_run { result ≡ ok → CanRun 8 (plain_span 8) spans.now words }
+{
+    test_spans::<u8>(order, spans, words)
+}
+
+/// Whether spans serve for a run in a memory of so many words of 16 bits: each lies in it, and no
+/// two have a bit in common.
+///
+/// It refuses with `NO_ORDER`, `TOO_MANY_SPANS`, `TOO_LONG`, `OUTSIDE` or `OVERLAP`.
+#[unsafe(no_mangle)]
+pub extern "C" fn bitvec_c_can_run_u16(order: u8, spans: &[PlainSpan], words: usize) -> u8
+    ensures status { IsSpansStatus 16 order spans.now words result }
+    ensures can_run { result ≡ ok → CanRun 16 (plain_span 16) spans.now words }
+{
+    test_spans::<u16>(order, spans, words)
+}
+
+/// Whether spans serve for a run in a memory of so many words of 32 bits: each lies in it, and no
+/// two have a bit in common.
+///
+/// It refuses with `NO_ORDER`, `TOO_MANY_SPANS`, `TOO_LONG`, `OUTSIDE` or `OVERLAP`.
+#[unsafe(no_mangle)]
+pub extern "C" fn bitvec_c_can_run_u32(order: u8, spans: &[PlainSpan], words: usize) -> u8
+    ensures status { IsSpansStatus 32 order spans.now words result }
+    ensures can_run { result ≡ ok → CanRun 32 (plain_span 32) spans.now words }
+{
+    test_spans::<u32>(order, spans, words)
+}
+
+/// Whether spans serve for a run in a memory of so many words of 64 bits: each lies in it, and no
+/// two have a bit in common.
+///
+/// It refuses with `NO_ORDER`, `TOO_MANY_SPANS`, `TOO_LONG`, `OUTSIDE` or `OVERLAP`.
+#[unsafe(no_mangle)]
+pub extern "C" fn bitvec_c_can_run_u64(order: u8, spans: &[PlainSpan], words: usize) -> u8
+    ensures status { IsSpansStatus 64 order spans.now words result }
+    ensures can_run { result ≡ ok → CanRun 64 (plain_span 64) spans.now words }
+{
+    test_spans::<u64>(order, spans, words)
+}
+
+/// Gives the spans of a memory of words of 8 bits the commands of the requests, in their order,
+/// and writes reply n to request n. Each span's replies and last bits are those of its own commands
+/// alone, and every other bit is as before.
+///
+/// It refuses as the test of the spans does, or with `NO_ROOM` or `NO_COMMAND`.
+#[unsafe(no_mangle)]
+pub extern "C" fn bitvec_c_run_u8(
+    order: u8,
+    spans: &[PlainSpan],
+    memory: &mut [u8],
+    requests: &[PlainRequest],
+    replies: &mut [PlainReply],
+) -> u8
+    ensures status { IsRunStatus 8 order spans.now (length memory.old) requests.now
+        (length replies.old) result }
+    ensures run { result ≡ ok → IsPlainRun 8 (order_at 8 order) spans.now memory.old
+        requests.now replies.new memory.new }
+    ensures kept { result ≢ ok → memory.new ≡ memory.old }
+    ensures unanswered { result ≢ ok → replies.new ≡ replies.old }
+{
+    let mut room = [Request {
+        span: 0,
+        command: Command::Load(0),
+    }];
+    let mut reply_room = [Reply::NoSpan];
+    run_plain(
+        order,
+        spans,
+        memory,
+        requests,
+        replies,
+        &mut room,
+        &mut reply_room,
+    )
+}
+
+/// Gives the spans of a memory of words of 16 bits the commands of the requests, in their order,
+/// and writes reply n to request n. Each span's replies and last bits are those of its own commands
+/// alone, and every other bit is as before.
+///
+/// It refuses as the test of the spans does, or with `NO_ROOM` or `NO_COMMAND`.
+#[unsafe(no_mangle)]
+pub extern "C" fn bitvec_c_run_u16(
+    order: u8,
+    spans: &[PlainSpan],
+    memory: &mut [u16],
+    requests: &[PlainRequest],
+    replies: &mut [PlainReply],
+) -> u8
+    ensures status { IsRunStatus 16 order spans.now (length memory.old) requests.now
+        (length replies.old) result }
+    ensures run { result ≡ ok → IsPlainRun 16 (order_at 16 order) spans.now memory.old
+        requests.now replies.new memory.new }
+    ensures kept { result ≢ ok → memory.new ≡ memory.old }
+    ensures unanswered { result ≢ ok → replies.new ≡ replies.old }
+{
+    let mut room = [Request {
+        span: 0,
+        command: Command::Load(0),
+    }];
+    let mut reply_room = [Reply::NoSpan];
+    run_plain(
+        order,
+        spans,
+        memory,
+        requests,
+        replies,
+        &mut room,
+        &mut reply_room,
+    )
+}
+
+/// Gives the spans of a memory of words of 32 bits the commands of the requests, in their order,
+/// and writes reply n to request n. Each span's replies and last bits are those of its own commands
+/// alone, and every other bit is as before.
+///
+/// It refuses as the test of the spans does, or with `NO_ROOM` or `NO_COMMAND`.
+#[unsafe(no_mangle)]
+pub extern "C" fn bitvec_c_run_u32(
+    order: u8,
+    spans: &[PlainSpan],
+    memory: &mut [u32],
+    requests: &[PlainRequest],
+    replies: &mut [PlainReply],
+) -> u8
+    ensures status { IsRunStatus 32 order spans.now (length memory.old) requests.now
+        (length replies.old) result }
+    ensures run { result ≡ ok → IsPlainRun 32 (order_at 32 order) spans.now memory.old
+        requests.now replies.new memory.new }
+    ensures kept { result ≢ ok → memory.new ≡ memory.old }
+    ensures unanswered { result ≢ ok → replies.new ≡ replies.old }
+{
+    let mut room = [Request {
+        span: 0,
+        command: Command::Load(0),
+    }];
+    let mut reply_room = [Reply::NoSpan];
+    run_plain(
+        order,
+        spans,
+        memory,
+        requests,
+        replies,
+        &mut room,
+        &mut reply_room,
+    )
+}
+
+/// Gives the spans of a memory of words of 64 bits the commands of the requests, in their order,
+/// and writes reply n to request n. Each span's replies and last bits are those of its own commands
+/// alone, and every other bit is as before.
+///
+/// It refuses as the test of the spans does, or with `NO_ROOM` or `NO_COMMAND`.
+#[unsafe(no_mangle)]
+pub extern "C" fn bitvec_c_run_u64(
+    order: u8,
+    spans: &[PlainSpan],
+    memory: &mut [u64],
+    requests: &[PlainRequest],
+    replies: &mut [PlainReply],
+) -> u8
+    ensures status { IsRunStatus 64 order spans.now (length memory.old) requests.now
+        (length replies.old) result }
+    ensures run { result ≡ ok → IsPlainRun 64 (order_at 64 order) spans.now memory.old
+        requests.now replies.new memory.new }
+    ensures kept { result ≢ ok → memory.new ≡ memory.old }
+    ensures unanswered { result ≢ ok → replies.new ≡ replies.old }
+{
+    let mut room = [Request {
+        span: 0,
+        command: Command::Load(0),
+    }];
+    let mut reply_room = [Reply::NoSpan];
+    run_plain(
+        order,
+        spans,
+        memory,
+        requests,
+        replies,
+        &mut room,
+        &mut reply_room,
+    )
+}
