@@ -10,7 +10,7 @@ use Rattle.bitvec.specs.Run.{CanRun, IsStep, IsRun}
 use Rattle.bitvec.specs.Span.{Span, Fits, Covers}
 use Rattle.bitvec.specs.declared.run.command.Command.{Command}
 use Rattle.bitvec.specs.declared.run.command.Reply.{Reply}
-use Rattle.bitvec_c.specs.Plain.{plain_span, AllInside, AreApart, plain_request, reply_of, IsPlainReply, IsPlainRun}
+use Rattle.bitvec_c.specs.Plain.{plain_span, AllInside, AllApart, plain_request, reply_of, IsPlainReply, IsPlainRun}
 use Rattle.bitvec_c.specs.declared.plain.PlainSpan.{PlainSpan}
 use Rattle.bitvec_c.specs.declared.plain.PlainRequest.{PlainRequest}
 use Rattle.bitvec_c.specs.declared.plain.PlainReply.{PlainReply}
@@ -24,7 +24,7 @@ can_run_one bits view span words fits = (
 )
 
 -- ranges that end within a memory and have no bit in common can run
-pub can_run_plain : (bits : ℕ) (spans : List PlainSpan) (words : ℕ) → 0 < bits → AllInside bits words spans → AreApart bits spans → CanRun bits (plain_span bits) spans words
+pub can_run_plain : (bits : ℕ) (spans : List PlainSpan) (words : ℕ) → 0 < bits → AllInside bits words spans → AllApart bits spans → CanRun bits (plain_span bits) spans words
 can_run_plain bits spans words some inside apart = (
   (λ k d h. let span = get_or spans k d in (omega (arith, ints), range_within bits words span.start span.count some (inside k d h))),
   apart,

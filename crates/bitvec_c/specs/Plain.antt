@@ -27,8 +27,8 @@ abbrev pub AllInside : ℕ → ℕ → List PlainSpan → Type 0
 AllInside bits words spans = All (λ span. span.start + span.count ≤ words * bits) spans
 
 -- no two ranges have a bit in common
-abbrev pub AreApart : ℕ → List PlainSpan → Type 0
-AreApart bits spans = AllPairs (λ a b. AreDisjoint bits (plain_span bits a) (plain_span bits b)) spans
+abbrev pub AllApart : ℕ → List PlainSpan → Type 0
+AllApart bits spans = AllPairs (λ a b. AreDisjoint bits (plain_span bits a) (plain_span bits b)) spans
 
 -- whether the lowest digit of a number is one
 abbrev pub lowest : ℕ → Bool

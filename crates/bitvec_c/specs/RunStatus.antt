@@ -1,6 +1,6 @@
 -- The statuses of the spans of a run and of a run: the first condition that does not hold.
 use Rattle.std.specs.Prelude.{◌≡◌, ◌⊎◌, ℕ, ◌≤◌, List, length}
-use Rattle.bitvec_c.specs.Plain.{AllShort, AllInside, AreApart, AreCommands}
+use Rattle.bitvec_c.specs.Plain.{AllShort, AllInside, AllApart, AreCommands}
 use Rattle.bitvec_c.specs.Status.{ok, no_order, too_many_spans, too_long, outside, overlap, no_room, no_command}
 use Rattle.bitvec_c.specs.declared.plain.PlainSpan.{PlainSpan}
 use Rattle.bitvec_c.specs.declared.plain.PlainRequest.{PlainRequest}
@@ -16,7 +16,7 @@ SpansStatus bits order spans words rest =
     (Unless (length spans ≤ 64) too_many_spans
     (Unless (AllShort spans) too_long
     (Unless (AllInside bits words spans) outside
-    (Unless (AreApart bits spans) overlap rest))))
+    (Unless (AllApart bits spans) overlap rest))))
 
 -- the status of the test of a run's spans
 abbrev pub IsSpansStatus : ℕ → ℕ → List PlainSpan → ℕ → ℕ → Type 0

@@ -1,7 +1,7 @@
 //! Numbers in ranges of bits.
 
 ghost use Rattle.std.specs.Prelude.{◌≡◌, ◌≢◌, ◌+◌, ◌*◌, ◌≤◌, length, map};
-ghost use Rattle.bitvec_c.specs.Number.{number_in, bits_for};
+ghost use Rattle.bitvec_c.specs.Number.{loaded_number, stored_bits};
 ghost use Rattle.bitvec_c.specs.Order.{order_at, rises};
 ghost use Rattle.bitvec_c.specs.Range.{RangeBecomes};
 ghost use Rattle.bitvec_c.specs.Status.{ok, number_status};
@@ -21,7 +21,7 @@ fn load_in<R: BitRegister, O: Sequential<R>>(
 ) -> u64
     requires small { count ≤ 64 }
     requires inside { start + count ≤ length memory.now * R.BITS }
-    ensures { result ≡ number_in big R.BITS O.RISES O.at_of start count
+    ensures { result ≡ loaded_number big R.BITS O.RISES O.at_of start count
         (map R.number memory.now) }
 {
     let range = bits::<R, O>(memory, start, count);
@@ -36,7 +36,7 @@ fn load_in<R: BitRegister, O: Sequential<R>>(
 fn number_of<R: BitRegister>(order: u8, big: bool, memory: &[R], start: usize, count: usize) -> u64
     requires small { count ≤ 64 }
     requires inside { start + count ≤ length memory.now * R.BITS }
-    ensures { result ≡ number_in big R.BITS (rises order) (order_at R.BITS order) start count
+    ensures { result ≡ loaded_number big R.BITS (rises order) (order_at R.BITS order) start count
         (map R.number memory.now) }
 {
     if order == LSB0 {
@@ -56,7 +56,7 @@ fn load<R: BitRegister>(
     number: &mut u64,
 ) -> u8
     ensures status { result ≡ number_status R.BITS order (length memory.now) start count }
-    ensures loaded { result ≡ ok → number.new ≡ number_in big R.BITS (rises order)
+    ensures loaded { result ≡ ok → number.new ≡ loaded_number big R.BITS (rises order)
         (order_at R.BITS order) start count (map R.number memory.now) }
     ensures refused { result ≢ ok → number.new ≡ number.old }
 {
@@ -78,7 +78,7 @@ fn store_in<R: BitRegister, O: Sequential<R>>(
     requires small { count ≤ 64 }
     requires inside { start + count ≤ length memory.old * R.BITS }
     ensures { RangeBecomes R.BITS O.at_of start count
-        (bits_for big R.BITS O.RISES start count number)
+        (stored_bits big R.BITS O.RISES start count number)
         (map R.number memory.old) (map R.number memory.new) }
 {
     let mut range = bits_mut::<R, O>(memory, start, count);
@@ -101,7 +101,7 @@ fn put_number<R: BitRegister>(
     requires small { count ≤ 64 }
     requires inside { start + count ≤ length memory.old * R.BITS }
     ensures { RangeBecomes R.BITS (order_at R.BITS order) start count
-        (bits_for big R.BITS (rises order) start count number)
+        (stored_bits big R.BITS (rises order) start count number)
         (map R.number memory.old) (map R.number memory.new) }
 {
     if order == LSB0 {
@@ -123,7 +123,7 @@ fn store<R: BitRegister>(
 ) -> u8
     ensures status { result ≡ number_status R.BITS order (length memory.old) start count }
     ensures stored { result ≡ ok → RangeBecomes R.BITS (order_at R.BITS order) start count
-        (bits_for big R.BITS (rises order) start count number)
+        (stored_bits big R.BITS (rises order) start count number)
         (map R.number memory.old) (map R.number memory.new) }
     ensures refused { result ≢ ok → memory.new ≡ memory.old }
 {
@@ -151,7 +151,7 @@ pub extern "C" fn bitvec_c_load_u8(
 ) -> u8
     ensures status { result ≡ number_status 8 order (length memory.now) start count }
     ensures loaded { result ≡ ok → number.new
-        ≡ number_in big_endian 8 (rises order) (order_at 8 order) start count memory.now }
+        ≡ loaded_number big_endian 8 (rises order) (order_at 8 order) start count memory.now }
     ensures refused { result ≢ ok → number.new ≡ number.old }
 {
     load(order, big_endian, memory, start, count, number)
@@ -174,7 +174,7 @@ pub extern "C" fn bitvec_c_load_u16(
 ) -> u8
     ensures status { result ≡ number_status 16 order (length memory.now) start count }
     ensures loaded { result ≡ ok → number.new
-        ≡ number_in big_endian 16 (rises order) (order_at 16 order) start count memory.now }
+        ≡ loaded_number big_endian 16 (rises order) (order_at 16 order) start count memory.now }
     ensures refused { result ≢ ok → number.new ≡ number.old }
 {
     load(order, big_endian, memory, start, count, number)
@@ -197,7 +197,7 @@ pub extern "C" fn bitvec_c_load_u32(
 ) -> u8
     ensures status { result ≡ number_status 32 order (length memory.now) start count }
     ensures loaded { result ≡ ok → number.new
-        ≡ number_in big_endian 32 (rises order) (order_at 32 order) start count memory.now }
+        ≡ loaded_number big_endian 32 (rises order) (order_at 32 order) start count memory.now }
     ensures refused { result ≢ ok → number.new ≡ number.old }
 {
     load(order, big_endian, memory, start, count, number)
@@ -220,7 +220,7 @@ pub extern "C" fn bitvec_c_load_u64(
 ) -> u8
     ensures status { result ≡ number_status 64 order (length memory.now) start count }
     ensures loaded { result ≡ ok → number.new
-        ≡ number_in big_endian 64 (rises order) (order_at 64 order) start count memory.now }
+        ≡ loaded_number big_endian 64 (rises order) (order_at 64 order) start count memory.now }
     ensures refused { result ≢ ok → number.new ≡ number.old }
 {
     load(order, big_endian, memory, start, count, number)
@@ -243,7 +243,7 @@ pub extern "C" fn bitvec_c_store_u8(
 ) -> u8
     ensures status { result ≡ number_status 8 order (length memory.old) start count }
     ensures stored { result ≡ ok → RangeBecomes 8 (order_at 8 order) start count
-        (bits_for big_endian 8 (rises order) start count number)
+        (stored_bits big_endian 8 (rises order) start count number)
         memory.old memory.new }
     ensures refused { result ≢ ok → memory.new ≡ memory.old }
 {
@@ -267,7 +267,7 @@ pub extern "C" fn bitvec_c_store_u16(
 ) -> u8
     ensures status { result ≡ number_status 16 order (length memory.old) start count }
     ensures stored { result ≡ ok → RangeBecomes 16 (order_at 16 order) start count
-        (bits_for big_endian 16 (rises order) start count number)
+        (stored_bits big_endian 16 (rises order) start count number)
         memory.old memory.new }
     ensures refused { result ≢ ok → memory.new ≡ memory.old }
 {
@@ -291,7 +291,7 @@ pub extern "C" fn bitvec_c_store_u32(
 ) -> u8
     ensures status { result ≡ number_status 32 order (length memory.old) start count }
     ensures stored { result ≡ ok → RangeBecomes 32 (order_at 32 order) start count
-        (bits_for big_endian 32 (rises order) start count number)
+        (stored_bits big_endian 32 (rises order) start count number)
         memory.old memory.new }
     ensures refused { result ≢ ok → memory.new ≡ memory.old }
 {
@@ -315,7 +315,7 @@ pub extern "C" fn bitvec_c_store_u64(
 ) -> u8
     ensures status { result ≡ number_status 64 order (length memory.old) start count }
     ensures stored { result ≡ ok → RangeBecomes 64 (order_at 64 order) start count
-        (bits_for big_endian 64 (rises order) start count number)
+        (stored_bits big_endian 64 (rises order) start count number)
         memory.old memory.new }
     ensures refused { result ≢ ok → memory.new ≡ memory.old }
 {

@@ -3,7 +3,7 @@
 ghost use Rattle.std.specs.Prelude.{◌≡◌, ℕ, ◌+◌, ◌*◌, ◌≤◌, ◌^◌, ◌%◌, ◌↔◌, IsTrue, All, length};
 ghost use Rattle.bitvec.specs.Commands.{command_number, reply_number};
 ghost use Rattle.bitvec.specs.Span.{AreDisjoint};
-ghost use Rattle.bitvec_c.specs.Plain.{plain_span, AllShort, AllInside, AreApart, lowest};
+ghost use Rattle.bitvec_c.specs.Plain.{plain_span, AllShort, AllInside, AllApart, lowest};
 ghost use Rattle.bitvec_c.specs.Plain.{plain_command, AreCommands, reply_of, IsPlainReply};
 
 use crate::status::MAX_BITS;
@@ -79,7 +79,7 @@ fn is_apart<R: BitRegister>(span: PlainSpan, others: &[PlainSpan]) -> bool
 
 /// Whether no two ranges have a bit in common, each tested with each.
 pub(crate) fn are_apart<R: BitRegister>(spans: &[PlainSpan]) -> bool
-    ensures { IsTrue result ↔ AreApart R.BITS spans.now }
+    ensures { IsTrue result ↔ AllApart R.BITS spans.now }
 {
     for i in 0..spans.len() {
         if !is_apart::<R>(spans[i], &spans[i + 1..]) {
