@@ -1,0 +1,406 @@
+//! Times calls of this crate beside the loops that a person would write in plain Rust, in one
+//! process, and prints a line for each job: NAME OURS BY_HAND RATIO. The first two are nanoseconds,
+//! of a word where the job goes over a memory, each the median of three times; the ratio is that of
+//! by hand to ours. It wants a machine that does nothing else.
+
+use std::hint::black_box;
+use std::time::{Duration, Instant};
+use worghulen::{copy_bits, BitSlice, BitSliceMut, Lsb0, Msb0};
+
+const WORDS: usize = 65536;
+/// All bits of the words but those of four.
+const COPIED: usize = (WORDS - 4) * 64;
+const READS: usize = 4096;
+
+/// The nanoseconds of a unit, of which a job has so many: the best of nine rounds.
+fn time(units: usize, job: &mut dyn FnMut()) -> f64 {
+    let mut round = |repeats: usize| {
+        let start = Instant::now();
+        for _ in 0..repeats {
+            job();
+        }
+        start.elapsed()
+    };
+    let mut repeats = 1;
+    while repeats < 1 << 20 && round(repeats) < Duration::from_millis(2) {
+        repeats *= 2;
+    }
+    let best = (0..9).map(|_| round(repeats)).min().unwrap_or_default();
+    best.as_nanos() as f64 / (repeats * units) as f64
+}
+
+fn median(mut times: [f64; 3]) -> f64 {
+    times.sort_by(f64::total_cmp);
+    times[1]
+}
+
+/// Times both in turn, three times each, and prints their line.
+fn compare(name: &str, units: usize, mut ours: impl FnMut(), mut by_hand: impl FnMut()) {
+    let (mut our_times, mut their_times) = ([0.0; 3], [0.0; 3]);
+    for (our_time, their_time) in our_times.iter_mut().zip(&mut their_times) {
+        *our_time = time(units, &mut ours);
+        *their_time = time(units, &mut by_hand);
+    }
+    let (ours, by_hand) = (median(our_times), median(their_times));
+    println!("{name} {ours:.3} {by_hand:.3} {:.2}", by_hand / ours);
+}
+
+fn words() -> Vec<u64> {
+    let mut word = 1_u64;
+    let next = |_| {
+        word = word
+            .wrapping_mul(6_364_136_223_846_793_005)
+            .wrapping_add(1_442_695_040_888_963_407);
+        word
+    };
+    (0..WORDS).map(next).collect()
+}
+
+/// The loops by hand.
+mod by_hand {
+    /// Bits of a word from `bit` on, `count` of them, as a mask: by rising or by falling positions.
+    fn mask<const RISING: bool>(bit: usize, count: usize) -> u64 {
+        let ones = if count == 64 { !0 } else { !(!0 << count) };
+        if RISING {
+            ones << bit
+        } else {
+            ones << (64 - bit - count)
+        }
+    }
+
+    /// Two neighbouring words as one, of which the first loses its first `shift` bits.
+    #[inline(always)]
+    fn merged<const RISING: bool>(first: u64, second: u64, shift: usize) -> u64 {
+        match (shift, RISING) {
+            (0, _) => first,
+            (_, true) => first >> shift | second << (64 - shift),
+            (_, false) => first << shift | second >> (64 - shift),
+        }
+    }
+
+    /// The two shifts that join neighbouring words, of which the first loses its first bits.
+    fn shifts<const RISING: bool>(shift: usize) -> (usize, usize) {
+        if RISING {
+            (shift, 64 - shift)
+        } else {
+            (64 - shift, shift)
+        }
+    }
+
+    /// Two neighbouring words as one, by these shifts; none is 0.
+    #[inline(always)]
+    fn joined<const RISING: bool>(first: u64, second: u64, down: usize, up: usize) -> u64 {
+        if RISING {
+            first >> down | second << up
+        } else {
+            second >> down | first << up
+        }
+    }
+
+    /// The word that holds `count` bits from a place on, its first bit at `bit`.
+    #[inline(always)]
+    fn word_at<const RISING: bool>(source: &[u64], from: usize, bit: usize, count: usize) -> u64 {
+        let (k, shift) = (from / 64, from % 64);
+        let second = if shift + count > 64 { source[k + 1] } else { 0 };
+        let word = merged::<RISING>(source[k], second, shift);
+        if RISING {
+            word << bit
+        } else {
+            word >> bit
+        }
+    }
+
+    /// A plain loop over the target's words, each shifted, merged and masked.
+    #[inline(never)]
+    pub fn copy_plain<const RISING: bool>(
+        source: &[u64],
+        from: usize,
+        target: &mut [u64],
+        to: usize,
+        count: usize,
+    ) {
+        let mut done = 0;
+        while done < count {
+            let bit = (to + done) % 64;
+            let part = (64 - bit).min(count - done);
+            let with = word_at::<RISING>(source, from + done, bit, part);
+            let mask = mask::<RISING>(bit, part);
+            let word = &mut target[(to + done) / 64];
+            *word = *word & !mask | with & mask;
+            done += part;
+        }
+    }
+
+    /// Edges by themselves, and between them a loop over whole words that the compiler vectorises.
+    #[inline(never)]
+    pub fn copy_shifted<const RISING: bool>(
+        source: &[u64],
+        from: usize,
+        target: &mut [u64],
+        to: usize,
+        count: usize,
+    ) {
+        let head = ((64 - to % 64) % 64).min(count);
+        copy_plain::<RISING>(source, from, target, to, head);
+        let (first, shift) = ((from + head) / 64, (from + head) % 64);
+        let whole = (count - head) / 64;
+        let start = (to + head) / 64;
+        let words = &mut target[start..start + whole];
+        let (one, next) = (&source[first..][..whole], &source[first + 1..][..whole]);
+        let (down, up) = shifts::<RISING>(shift);
+        for (word, (one, next)) in words.iter_mut().zip(one.iter().zip(next)) {
+            *word = joined::<RISING>(*one, *next, down, up);
+        }
+        let done = head + whole * 64;
+        copy_plain::<RISING>(source, from + done, target, to + done, count - done);
+    }
+
+    /// A bit, and `None` past the end.
+    pub fn get(words: &[u64], place: usize) -> Option<bool> {
+        Some(words.get(place / 64)? >> (place % 64) & 1 == 1)
+    }
+
+    /// Writes a bit, and answers `None` past the end.
+    pub fn set(words: &mut [u64], place: usize, bit: bool) -> Option<()> {
+        let word = words.get_mut(place / 64)?;
+        *word = *word & !(1 << (place % 64)) | u64::from(bit) << (place % 64);
+        Some(())
+    }
+
+    /// A number of at most 64 bits.
+    pub fn load(words: &[u64], start: usize, count: usize) -> u64 {
+        word_at::<true>(words, start, 0, count) & mask::<true>(0, count)
+    }
+
+    /// All bits but three at the start and four at the end, made the same.
+    #[inline(never)]
+    pub fn fill(words: &mut [u64], bit: bool) {
+        let [first, body @ .., last] = words else {
+            return;
+        };
+        let word = if bit { !0 } else { 0 };
+        *first = *first & !(!0 << 3) | word & (!0 << 3);
+        *last = *last & !(!0 >> 4) | word & (!0 >> 4);
+        body.fill(word);
+    }
+
+    /// How many of those bits are one.
+    #[inline(never)]
+    pub fn count_ones(words: &[u64]) -> usize {
+        let [first, body @ .., last] = words else {
+            return 0;
+        };
+        let ends = (first & (!0 << 3)).count_ones() + (last & (!0 >> 4)).count_ones();
+        let ones = body.iter().map(|word| word.count_ones() as usize);
+        ones.sum::<usize>() + ends as usize
+    }
+
+    /// The place of the first of those bits that is one, from the first of them on.
+    #[inline(never)]
+    pub fn first_one(words: &[u64]) -> Option<usize> {
+        let [first, body @ .., last] = words else {
+            return None;
+        };
+        let place = |k: usize, word: u64| k * 64 + word.trailing_zeros() as usize - 3;
+        let head = first & (!0 << 3);
+        if head != 0 {
+            return Some(place(0, head));
+        }
+        if let Some(k) = body.iter().position(|word| *word != 0) {
+            return Some(place(k + 1, body[k]));
+        }
+        let tail = last & (!0 >> 4);
+        (tail != 0).then(|| place(body.len() + 1, tail))
+    }
+
+    /// Whether those bits of two memories are the same.
+    #[inline(never)]
+    pub fn equal(words: &[u64], others: &[u64]) -> bool {
+        let ([first, body @ .., last], [a, middle @ .., b]) = (words, others) else {
+            return false;
+        };
+        (first ^ a) & (!0 << 3) == 0 && body == middle && (last ^ b) & (!0 >> 4) == 0
+    }
+}
+
+fn compare_copies(source: &[u64]) {
+    let (mut target, mut other) = (words(), words());
+    let words = COPIED / 64;
+    compare(
+        "copy-aligned",
+        words,
+        || {
+            copy_bits::<_, Lsb0>(
+                black_box(source),
+                64..64 + COPIED,
+                black_box(&mut target),
+                64,
+            )
+            .unwrap()
+        },
+        || black_box(&mut other)[1..1 + words].copy_from_slice(&black_box(source)[1..1 + words]),
+    );
+    compare(
+        "copy-shifted",
+        words,
+        || {
+            copy_bits::<_, Lsb0>(
+                black_box(source),
+                67..67 + COPIED,
+                black_box(&mut target),
+                78,
+            )
+            .unwrap()
+        },
+        || by_hand::copy_shifted::<true>(black_box(source), 67, black_box(&mut other), 78, COPIED),
+    );
+    compare(
+        "copy-shifted-msb0",
+        words,
+        || {
+            copy_bits::<_, Msb0>(
+                black_box(source),
+                67..67 + COPIED,
+                black_box(&mut target),
+                78,
+            )
+            .unwrap()
+        },
+        || by_hand::copy_shifted::<false>(black_box(source), 67, black_box(&mut other), 78, COPIED),
+    );
+    compare(
+        "copy-200-bits",
+        1,
+        || {
+            copy_bits::<_, Lsb0>(
+                black_box(source),
+                67..black_box(267),
+                black_box(&mut target),
+                78,
+            )
+            .unwrap()
+        },
+        || {
+            by_hand::copy_plain::<true>(
+                black_box(source),
+                67,
+                black_box(&mut other),
+                78,
+                black_box(200),
+            )
+        },
+    );
+    assert_eq!(target, other);
+}
+
+/// Places all over a memory, one for each read.
+fn places() -> impl Iterator<Item = usize> {
+    (0..READS).map(|i| i * 7919 % (WORDS * 64))
+}
+
+fn compare_bits(source: &[u64]) {
+    let (mut target, mut other) = (words(), words());
+    let ours = BitSlice::<_, Lsb0>::new(source, ..).unwrap();
+    compare(
+        "get",
+        READS,
+        || {
+            let bits = black_box(ours);
+            let is_one = |place: &usize| bits.get(black_box(*place)) == Some(true);
+            black_box(places().filter(is_one).count());
+        },
+        || {
+            let words = black_box(source);
+            let is_one = |place: &usize| by_hand::get(words, black_box(*place)) == Some(true);
+            black_box(places().filter(is_one).count());
+        },
+    );
+    let mut bits = BitSliceMut::<_, Lsb0>::new(&mut target, ..).unwrap();
+    compare(
+        "set",
+        READS,
+        || {
+            let bits = black_box(&mut bits);
+            places().for_each(|place| bits.set(black_box(place), place % 3 == 0).unwrap());
+        },
+        || {
+            let words = black_box(&mut other);
+            places()
+                .for_each(|place| by_hand::set(words, black_box(place), place % 3 == 0).unwrap());
+        },
+    );
+    assert_eq!(target, other);
+    let load = |place| BitSlice::<_, Lsb0>::new(source, place..place + 13)?.load_le();
+    compare(
+        "load-13-bits",
+        READS,
+        || {
+            black_box(
+                places()
+                    .map(|place| load(black_box(place)).unwrap())
+                    .sum::<u64>(),
+            );
+        },
+        || {
+            let load = |place| by_hand::load(source, black_box(place), 13);
+            black_box(places().map(load).sum::<u64>());
+        },
+    );
+}
+
+fn compare_passes(source: &[u64]) {
+    let (mut target, mut other) = (words(), words());
+    let inner = 3..WORDS * 64 - 4;
+    compare(
+        "fill",
+        WORDS,
+        || {
+            BitSliceMut::<_, Lsb0>::new(black_box(&mut target), inner.clone())
+                .unwrap()
+                .fill(true)
+        },
+        || by_hand::fill(black_box(&mut other), true),
+    );
+    assert_eq!(target, other);
+    let slice = |words| BitSlice::<u64, Lsb0>::new(words, inner.clone()).unwrap();
+    compare(
+        "count-ones",
+        WORDS,
+        || {
+            black_box(slice(black_box(source)).count_ones());
+        },
+        || {
+            black_box(by_hand::count_ones(black_box(source)));
+        },
+    );
+    let mut one_bit = vec![0; WORDS];
+    one_bit[WORDS - 1] = 1 << 59;
+    compare(
+        "first-one",
+        WORDS,
+        || {
+            black_box(slice(black_box(&one_bit)).first_one());
+        },
+        || {
+            black_box(by_hand::first_one(black_box(&one_bit)));
+        },
+    );
+    let copy = source.to_vec();
+    compare(
+        "equal",
+        WORDS,
+        || {
+            black_box(slice(black_box(source)) == slice(black_box(&copy)));
+        },
+        || {
+            black_box(by_hand::equal(black_box(source), black_box(&copy)));
+        },
+    );
+}
+
+fn main() {
+    let source = words();
+    compare_copies(&source);
+    compare_bits(&source);
+    compare_passes(&source);
+}

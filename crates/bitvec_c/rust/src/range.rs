@@ -1,0 +1,44 @@
+//! Ranges of bits.
+
+use crate::refusal::Refusal;
+use std::ops::{Bound, RangeBounds};
+
+/// How many bits a range has at most.
+const MAX_BITS: usize = usize::MAX >> 3;
+
+/// How many bits so many words have, or the greatest number where that is none.
+pub(crate) fn bits_of(words: usize, width: usize) -> usize {
+    words.saturating_mul(width)
+}
+
+/// Where a range starts, and how many bits it has; refused where these are not among `bits`.
+pub(crate) fn within(
+    range: impl RangeBounds<usize>,
+    bits: usize,
+) -> Result<(usize, usize), Refusal> {
+    let start = match range.start_bound() {
+        Bound::Included(&start) => Some(start),
+        Bound::Excluded(&before) => before.checked_add(1),
+        Bound::Unbounded => Some(0),
+    };
+    let end = match range.end_bound() {
+        Bound::Included(&last) => last.checked_add(1),
+        Bound::Excluded(&end) => Some(end),
+        Bound::Unbounded => Some(bits),
+    };
+    let (start, end) = start.zip(end).ok_or(Refusal::Outside)?;
+    let len = length(start, end)?;
+    if end > bits {
+        return Err(Refusal::Outside);
+    }
+    Ok((start, len))
+}
+
+/// How many bits lie from a place on to before another.
+pub(crate) fn length(start: usize, end: usize) -> Result<usize, Refusal> {
+    let len = end.checked_sub(start).ok_or(Refusal::Reversed)?;
+    if len > MAX_BITS {
+        return Err(Refusal::TooLong);
+    }
+    Ok(len)
+}

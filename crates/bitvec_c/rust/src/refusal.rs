@@ -1,0 +1,63 @@
+//! Why a call is refused.
+
+use std::error::Error;
+use std::fmt::{self, Display, Formatter};
+
+/// Why a call is refused. It has then changed nothing.
+///
+/// # Examples
+///
+/// ```
+/// use worghulen::{BitSlice, Lsb0, Refusal};
+///
+/// let refused = BitSlice::<u8, Lsb0>::new(&[0; 2], 3..17).unwrap_err();
+/// assert_eq!(refused, Refusal::Outside);
+/// assert_eq!(refused.to_string(), "a range does not lie in its memory");
+/// ```
+#[derive(Clone, Copy, PartialEq, Eq, Hash, Debug)]
+pub enum Refusal {
+    /// The order is none of the two. The types of this crate rule it out.
+    NoOrder,
+    /// A range has more than 2305843009213693951 bits.
+    TooLong,
+    /// A range ends past the last bit of its memory or slice, or there is no bit at an index.
+    Outside,
+    /// A number is to have more than 64 bits.
+    TooWide,
+    /// A range starts past its end.
+    Reversed,
+    /// Bits are to be copied from a slice into one of another length.
+    Lengths,
+    /// The library answered with a number that this crate does not know: it is of another version.
+    Unknown(u8),
+}
+
+impl Refusal {
+    /// What a status of the library says.
+    pub(crate) fn check(status: u8) -> Result<(), Self> {
+        Err(match status {
+            0 => return Ok(()),
+            1 => Self::NoOrder,
+            3 => Self::TooLong,
+            4 => Self::Outside,
+            5 => Self::TooWide,
+            unknown => Self::Unknown(unknown),
+        })
+    }
+}
+
+impl Display for Refusal {
+    fn fmt(&self, f: &mut Formatter<'_>) -> fmt::Result {
+        f.write_str(match self {
+            Self::NoOrder => "the order is none of the two",
+            Self::TooLong => "a range has more than 2305843009213693951 bits",
+            Self::Outside => "a range does not lie in its memory",
+            Self::TooWide => "a number is to have more than 64 bits",
+            Self::Reversed => "a range starts past its end",
+            Self::Lengths => "the slices have different lengths",
+            Self::Unknown(number) => return write!(f, "the library answered {number}"),
+        })
+    }
+}
+
+impl Error for Refusal {}

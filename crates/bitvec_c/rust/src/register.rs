@@ -1,0 +1,27 @@
+//! The words of a memory.
+
+use crate::sys::Exports;
+
+/// A word of a memory: `u8`, `u16`, `u32` or `u64`, and no other.
+pub trait Register: Exports + Copy + 'static {
+    /// How many bits a word has.
+    ///
+    /// # Examples
+    ///
+    /// ```
+    /// use worghulen::Register;
+    ///
+    /// assert_eq!(<u16 as Register>::BITS, 16);
+    /// ```
+    const BITS: usize;
+}
+
+macro_rules! registers {
+    ($($word:ident)*) => {
+        $(impl Register for $word {
+            const BITS: usize = $word::BITS as usize;
+        })*
+    };
+}
+
+registers!(u8 u16 u32 u64);

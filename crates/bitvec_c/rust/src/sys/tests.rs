@@ -1,0 +1,163 @@
+//! What the safe functions above rule out: the statuses of the exports for arguments of any kind.
+//! The first condition that does not hold is answered, and nothing is changed.
+
+use super::Exports;
+use crate::refusal::Refusal;
+use std::fmt::Debug;
+
+/// Of words of equal bits, so that the numbers of all widths are alike.
+trait Word: Exports + Eq + Debug {
+    const WIDTH: usize;
+    const ZERO: Self;
+}
+
+macro_rules! words {
+    ($($t:ident)*) => {
+        $(impl Word for $t {
+            const WIDTH: usize = $t::BITS as usize;
+            const ZERO: Self = 0;
+        })*
+    };
+}
+
+words!(u8 u16 u32 u64);
+
+/// Asks the same of all widths.
+macro_rules! for_all_widths {
+    ($($test:ident)*) => { $(
+        #[test]
+        fn $test() {
+            cases::$test::<u8>();
+            cases::$test::<u16>();
+            cases::$test::<u32>();
+            cases::$test::<u64>();
+        }
+    )* };
+}
+
+for_all_widths!(
+    an_order_is_0_or_1 ranges_are_short_enough ranges_lie_in_their_memory numbers_are_narrow_enough
+    conditions_come_in_order
+);
+
+mod cases {
+    use super::*;
+
+    /// How many bits a range has at most.
+    const MOST: usize = usize::MAX / 8;
+
+    /// What every call on one range answers for it, which has to be the same of all.
+    fn of_range<T: Word>(order: u8, start: usize, count: usize) -> Result<(), Refusal> {
+        let mut memory = [T::ZERO; 3];
+        let answers = [
+            T::fill(order, &mut memory, start, count, true),
+            T::copy_within(order, &mut memory, start, 0, count),
+            T::copy_within(order, &mut memory, 0, start, count),
+            T::copy(order, (&[T::ZERO; 3], start), (&mut memory, 0), count),
+            T::copy(order, (&[T::ZERO; 3], 0), (&mut memory, start), count),
+            T::count_ones(order, &memory, start, count).map(|_| ()),
+            T::first_one(order, &memory, start, count).map(|_| ()),
+            T::equal(order, (&memory, start), (&memory, 0), count).map(|_| ()),
+            T::equal(order, (&memory, 0), (&memory, start), count).map(|_| ()),
+        ];
+        assert!(answers.iter().all(|it| *it == answers[0]), "{answers:?}");
+        if answers[0].is_err() {
+            assert_eq!(memory, [T::ZERO; 3]);
+        }
+        answers[0]
+    }
+
+    /// What the calls on one bit answer.
+    fn of_bit<T: Word>(order: u8, place: usize) -> Result<(), Refusal> {
+        let mut memory = [T::ZERO; 3];
+        let answer = T::set(order, &mut memory, place, true);
+        assert_eq!(T::get(order, &memory, place).map(|_| ()), answer);
+        assert_eq!(memory == [T::ZERO; 3], answer.is_err());
+        answer
+    }
+
+    /// What the calls on one number answer.
+    fn of_number<T: Word>(order: u8, start: usize, count: usize) -> Result<(), Refusal> {
+        let mut memory = [T::ZERO; 9];
+        let answer = T::store(order, false, &mut memory, start, count, u64::MAX);
+        assert_eq!(memory == [T::ZERO; 9], answer.is_err());
+        let others = [
+            T::store(order, true, &mut memory, start, count, u64::MAX),
+            T::load(order, false, &memory, start, count).map(|_| ()),
+            T::load(order, true, &memory, start, count).map(|_| ()),
+        ];
+        assert_eq!(others, [answer; 3]);
+        answer
+    }
+
+    pub fn an_order_is_0_or_1<T: Word>() {
+        for (order, expected) in [
+            (0, Ok(())),
+            (1, Ok(())),
+            (2, Err(Refusal::NoOrder)),
+            (u8::MAX, Err(Refusal::NoOrder)),
+        ] {
+            assert_eq!(of_range::<T>(order, 3, 4), expected);
+            assert_eq!(of_bit::<T>(order, 3), expected);
+            assert_eq!(of_number::<T>(order, 3, 4), expected);
+        }
+    }
+
+    pub fn ranges_are_short_enough<T: Word>() {
+        for start in [0, 7, 3 * T::WIDTH, MOST, usize::MAX] {
+            assert_eq!(of_range::<T>(0, start, MOST), Err(Refusal::Outside));
+            assert_eq!(of_range::<T>(1, start, MOST + 1), Err(Refusal::TooLong));
+            assert_eq!(of_range::<T>(0, start, usize::MAX), Err(Refusal::TooLong));
+            assert_eq!(of_number::<T>(0, start, usize::MAX), Err(Refusal::TooLong));
+        }
+    }
+
+    pub fn ranges_lie_in_their_memory<T: Word>() {
+        let bits = 3 * T::WIDTH;
+        for start in 0..bits {
+            assert_eq!(of_range::<T>(1, start, bits - start), Ok(()));
+            assert_eq!(
+                of_range::<T>(1, start, bits - start + 1),
+                Err(Refusal::Outside)
+            );
+            assert_eq!(of_bit::<T>(0, start), Ok(()));
+        }
+        for far in [
+            bits,
+            bits + 1,
+            MOST,
+            usize::MAX / 2,
+            usize::MAX - 1,
+            usize::MAX,
+        ] {
+            assert_eq!(of_range::<T>(0, far, 1), Err(Refusal::Outside));
+            assert_eq!(of_range::<T>(0, far, 2), Err(Refusal::Outside));
+            assert_eq!(of_bit::<T>(1, far), Err(Refusal::Outside));
+        }
+        assert_eq!(of_range::<T>(0, bits, 0), Ok(()));
+        assert_eq!(of_range::<T>(0, bits + 1, 0), Err(Refusal::Outside));
+    }
+
+    pub fn numbers_are_narrow_enough<T: Word>() {
+        for start in 0..8 {
+            assert_eq!(of_number::<T>(1, start, 64), Ok(()));
+            assert_eq!(of_number::<T>(1, start, 65), Err(Refusal::TooWide));
+            let past = if start == 0 {
+                Refusal::TooWide
+            } else {
+                Refusal::Outside
+            };
+            assert_eq!(of_number::<T>(0, start, 9 * T::WIDTH), Err(past));
+        }
+    }
+
+    pub fn conditions_come_in_order<T: Word>() {
+        assert_eq!(of_range::<T>(2, 0, usize::MAX), Err(Refusal::NoOrder));
+        assert_eq!(
+            of_range::<T>(0, usize::MAX, usize::MAX),
+            Err(Refusal::TooLong)
+        );
+        assert_eq!(of_number::<T>(0, usize::MAX, 65), Err(Refusal::Outside));
+        assert_eq!(of_bit::<T>(2, usize::MAX), Err(Refusal::NoOrder));
+    }
+}

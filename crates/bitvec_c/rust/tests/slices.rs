@@ -1,0 +1,298 @@
+//! Each call on slices against the model: its answer or its refusal, and every bit of the memory
+//! after it.
+
+mod common;
+
+use common::{for_all_memories, Random, CASES};
+use std::ops::Bound;
+use worghulen::{BitSlice, BitSliceMut, Lsb0, Msb0, Refusal};
+
+for_all_memories!(a_slice_has_the_bits_of_its_range, 1);
+for_all_memories!(get_reads_one_bit, 2);
+for_all_memories!(set_writes_one_bit, 3);
+for_all_memories!(fill_makes_all_bits_the_same, 4);
+for_all_memories!(load_le_reads_a_number, 5);
+for_all_memories!(load_be_reads_a_number, 6);
+for_all_memories!(store_le_writes_a_number, 7);
+for_all_memories!(store_be_writes_a_number, 8);
+for_all_memories!(count_ones_counts, 9);
+for_all_memories!(first_one_finds_the_first, 10);
+for_all_memories!(iter_ones_finds_all, 11);
+for_all_memories!(equals_compares_all_bits, 12);
+for_all_memories!(copy_from_copies_all_bits, 13);
+for_all_memories!(copy_within_moves_bits, 14);
+for_all_memories!(copy_bits_copies_a_range, 15);
+
+mod cases {
+    use crate::common::{bits_of, checked, moved, word_and_digit, Layout, Random, Word};
+    use std::cmp::Reverse;
+    use std::ops::Range;
+    use worghulen::{copy_bits, BitSlice, BitSliceMut, Refusal};
+
+    pub fn a_slice_has_the_bits_of_its_range<T: Word, O: Layout>(random: &mut Random) {
+        let mut words = random.words::<T>();
+        let model = bits_of::<T, O>(&words);
+        let range = random.range(model.len());
+        let expected = checked(&range, model.len()).map(|range| model[range].to_vec());
+        let len = expected.as_ref().map(Vec::len).map_err(|it| *it);
+        let answer = BitSlice::<T, O>::new(&words, range.clone());
+        assert_eq!(answer.map(|bits| bits.len()), len);
+        assert_eq!(answer.map(|bits| bits.is_empty()), len.map(|len| len == 0));
+        let read = |bits: BitSlice<T, O>| (0..bits.len()).map_while(|i| bits.get(i)).collect();
+        assert_eq!(answer.map(read), expected);
+        let answer = BitSliceMut::<T, O>::new(&mut words, range);
+        assert_eq!(answer.map(|bits| read(bits.as_bitslice())), expected);
+    }
+
+    pub fn get_reads_one_bit<T: Word, O: Layout>(random: &mut Random) {
+        let words = random.words::<T>();
+        let model = bits_of::<T, O>(&words);
+        let range = random.range(model.len());
+        let Ok(bits) = BitSlice::<T, O>::new(&words, range.clone()) else {
+            return;
+        };
+        let index = random.place(range.len());
+        assert_eq!(bits.get(index), model[range].get(index).copied());
+    }
+
+    pub fn set_writes_one_bit<T: Word, O: Layout>(random: &mut Random) {
+        let mut words = random.words::<T>();
+        let mut model = bits_of::<T, O>(&words);
+        let range = random.range(model.len());
+        let (index, bit) = (random.place(range.len()), random.bit());
+        let answer = BitSliceMut::<T, O>::new(&mut words, range.clone())
+            .and_then(|mut bits| bits.set(index, bit));
+        let expected = checked(&range, model.len()).and_then(|range| {
+            let place = model[range].get_mut(index).ok_or(Refusal::Outside)?;
+            *place = bit;
+            Ok(())
+        });
+        assert_eq!(answer, expected);
+        assert_eq!(bits_of::<T, O>(&words), model);
+    }
+
+    pub fn fill_makes_all_bits_the_same<T: Word, O: Layout>(random: &mut Random) {
+        let mut words = random.words::<T>();
+        let mut model = bits_of::<T, O>(&words);
+        let (range, bit) = (random.range(model.len()), random.bit());
+        let answer =
+            BitSliceMut::<T, O>::new(&mut words, range.clone()).map(|mut bits| bits.fill(bit));
+        let expected = checked(&range, model.len()).map(|range| model[range].fill(bit));
+        assert_eq!(answer, expected);
+        assert_eq!(bits_of::<T, O>(&words), model);
+    }
+
+    /// The places of a range from that of the number's least digit on.
+    fn by_digit<T: Word, O: Layout>(range: Range<usize>, big: bool) -> Vec<usize> {
+        let mut places: Vec<_> = range.collect();
+        places.sort_by_key(|place| word_and_digit::<T, O>(*place).1);
+        if big {
+            places.sort_by_key(|place| Reverse(place / T::BITS));
+        } else {
+            places.sort_by_key(|place| place / T::BITS);
+        }
+        places
+    }
+
+    /// A range of a number where it lies among `len` bits.
+    fn checked_number(range: &Range<usize>, len: usize) -> Result<Range<usize>, Refusal> {
+        let range = checked(range, len)?;
+        if range.len() > 64 {
+            return Err(Refusal::TooWide);
+        }
+        Ok(range)
+    }
+
+    fn loads<T: Word, O: Layout>(random: &mut Random, big: bool) {
+        let words = random.words::<T>();
+        let model = bits_of::<T, O>(&words);
+        let range = random.short_range(model.len());
+        let answer = BitSlice::<T, O>::new(&words, range.clone()).and_then(|bits| {
+            if big {
+                bits.load_be()
+            } else {
+                bits.load_le()
+            }
+        });
+        let expected = checked_number(&range, model.len()).map(|range| {
+            let places = by_digit::<T, O>(range, big).into_iter().rev();
+            places.fold(0, |number, place| number << 1 | u64::from(model[place]))
+        });
+        assert_eq!(answer, expected);
+    }
+
+    fn stores<T: Word, O: Layout>(random: &mut Random, big: bool) {
+        let mut words = random.words::<T>();
+        let mut model = bits_of::<T, O>(&words);
+        let (range, number) = (random.short_range(model.len()), random.number());
+        let answer = BitSliceMut::<T, O>::new(&mut words, range.clone()).and_then(|mut bits| {
+            if big {
+                bits.store_be(number)
+            } else {
+                bits.store_le(number)
+            }
+        });
+        let expected = checked_number(&range, model.len()).map(|range| {
+            let places = by_digit::<T, O>(range, big).into_iter().enumerate();
+            places.for_each(|(digit, place)| model[place] = number >> digit & 1 == 1);
+        });
+        assert_eq!(answer, expected);
+        assert_eq!(bits_of::<T, O>(&words), model);
+    }
+
+    pub fn load_le_reads_a_number<T: Word, O: Layout>(random: &mut Random) {
+        loads::<T, O>(random, false);
+    }
+
+    pub fn load_be_reads_a_number<T: Word, O: Layout>(random: &mut Random) {
+        loads::<T, O>(random, true);
+    }
+
+    pub fn store_le_writes_a_number<T: Word, O: Layout>(random: &mut Random) {
+        stores::<T, O>(random, false);
+    }
+
+    pub fn store_be_writes_a_number<T: Word, O: Layout>(random: &mut Random) {
+        stores::<T, O>(random, true);
+    }
+
+    pub fn count_ones_counts<T: Word, O: Layout>(random: &mut Random) {
+        let words = random.words::<T>();
+        let model = bits_of::<T, O>(&words);
+        let range = random.range(model.len());
+        let answer = BitSlice::<T, O>::new(&words, range.clone()).map(|bits| bits.count_ones());
+        let expected = checked(&range, model.len())
+            .map(|range| model[range].iter().filter(|bit| **bit).count());
+        assert_eq!(answer, expected);
+    }
+
+    pub fn first_one_finds_the_first<T: Word, O: Layout>(random: &mut Random) {
+        let words = random.words::<T>();
+        let model = bits_of::<T, O>(&words);
+        let range = random.range(model.len());
+        let answer = BitSlice::<T, O>::new(&words, range.clone()).map(|bits| bits.first_one());
+        let expected =
+            checked(&range, model.len()).map(|range| model[range].iter().position(|bit| *bit));
+        assert_eq!(answer, expected);
+    }
+
+    pub fn iter_ones_finds_all<T: Word, O: Layout>(random: &mut Random) {
+        let words = random.words::<T>();
+        let model = bits_of::<T, O>(&words);
+        let range = random.range(model.len());
+        let Ok(bits) = BitSlice::<T, O>::new(&words, range.clone()) else {
+            return;
+        };
+        let bit_of = |index: &usize| model[range.start + index];
+        let expected: Vec<_> = (0..range.len()).filter(bit_of).collect();
+        let mut ones = bits.iter_ones();
+        assert_eq!(ones.by_ref().collect::<Vec<_>>(), expected);
+        assert_eq!(ones.next(), None);
+    }
+
+    pub fn equals_compares_all_bits<T: Word, O: Layout>(random: &mut Random) {
+        let words = random.words::<T>();
+        let mut others = random.words::<T>();
+        let range = random.range(words.len() * T::BITS);
+        let mut start = random.start(range.len(), others.len() * T::BITS);
+        if !random.one_in(4) {
+            // mostly the same bits, at the same place, but for one
+            others.clone_from(&words);
+            start = range.start;
+            if let Some(word) = others.last_mut() {
+                *word = T::of(word.number() ^ u64::from(random.bit()));
+            }
+        }
+        let (model, other_model) = (bits_of::<T, O>(&words), bits_of::<T, O>(&others));
+        let Ok(bits) = BitSlice::<T, O>::new(&words, range.clone()) else {
+            return;
+        };
+        let other_range = moved(&range, start, other_model.len()).unwrap_or(0..other_model.len());
+        let other = BitSlice::<T, O>::new(&others, other_range.clone()).unwrap();
+        let expected = model[range] == other_model[other_range];
+        assert_eq!(bits.equals(&other), expected);
+        assert_eq!(bits == other, expected);
+    }
+
+    pub fn copy_from_copies_all_bits<T: Word, O: Layout>(random: &mut Random) {
+        let (source, mut target) = (random.words::<T>(), random.words::<T>());
+        let (read, mut model) = (bits_of::<T, O>(&source), bits_of::<T, O>(&target));
+        let from = random.range(read.len());
+        let start = random.start(from.len(), model.len());
+        let to = moved(&from, start, model.len()).unwrap_or_else(|_| random.range(model.len()));
+        let (Ok(source), Ok(mut bits)) = (
+            BitSlice::<T, O>::new(&source, from.clone()),
+            BitSliceMut::<T, O>::new(&mut target, to.clone()),
+        ) else {
+            return;
+        };
+        let expected = if from.len() == to.len() {
+            model[to].copy_from_slice(&read[from]);
+            Ok(())
+        } else {
+            Err(Refusal::Lengths)
+        };
+        assert_eq!(bits.copy_from(&source), expected);
+        assert_eq!(bits_of::<T, O>(&target), model);
+    }
+
+    pub fn copy_within_moves_bits<T: Word, O: Layout>(random: &mut Random) {
+        let mut words = random.words::<T>();
+        let mut model = bits_of::<T, O>(&words);
+        let range = random.range(model.len());
+        let Ok(mut bits) = BitSliceMut::<T, O>::new(&mut words, range.clone()) else {
+            return;
+        };
+        let source = random.range(range.len());
+        let start = random.start(source.len(), range.len());
+        let expected = checked(&source, range.len()).and_then(|source| {
+            moved(&source, start, range.len())?;
+            model[range].copy_within(source, start);
+            Ok(())
+        });
+        assert_eq!(bits.copy_within(source, start), expected);
+        assert_eq!(bits_of::<T, O>(&words), model);
+    }
+
+    pub fn copy_bits_copies_a_range<T: Word, O: Layout>(random: &mut Random) {
+        let (source, mut target) = (random.words::<T>(), random.words::<T>());
+        let (read, mut model) = (bits_of::<T, O>(&source), bits_of::<T, O>(&target));
+        let from = random.range(read.len());
+        let start = random.start(from.len(), model.len());
+        let expected = checked(&from, read.len()).and_then(|from| {
+            let to = moved(&from, start, model.len())?;
+            model[to].copy_from_slice(&read[from]);
+            Ok(())
+        });
+        let answer = copy_bits::<T, O>(&source, from, &mut target, start);
+        assert_eq!(answer, expected);
+        assert_eq!(bits_of::<T, O>(&target), model);
+    }
+}
+
+#[test]
+fn a_range_has_any_bounds() {
+    let words = [0b1011_0010_u8, 0b0100_1101];
+    let bits = BitSlice::<_, Lsb0>::new(&words, ..).unwrap();
+    assert_eq!(bits.len(), 16);
+    let of = |start, end| BitSlice::<_, Lsb0>::new(&words, (start, end));
+    let (included, excluded) = (Bound::Included, Bound::Excluded);
+    let (all, last) = (Bound::Unbounded, usize::MAX);
+    assert_eq!(of(included(3), all), BitSlice::new(&words, 3..16));
+    assert_eq!(of(excluded(3), included(15)), BitSlice::new(&words, 4..16));
+    assert_eq!(of(excluded(3), excluded(3)), Err(Refusal::Reversed));
+    assert_eq!(of(included(3), included(16)), Err(Refusal::Outside));
+    assert_eq!(
+        of(included(last - 3), included(last)),
+        Err(Refusal::Outside)
+    );
+    assert_eq!(of(excluded(last), all), Err(Refusal::Outside));
+    assert_eq!(of(all, excluded(last)), Err(Refusal::TooLong));
+}
+
+#[test]
+fn bits_have_a_text() {
+    let mut words = [0b1011_0010_u8];
+    let bits = BitSliceMut::<_, Msb0>::new(&mut words, 2..6).unwrap();
+    assert_eq!(format!("{bits:?}"), "[1, 1, 0, 0]");
+}
