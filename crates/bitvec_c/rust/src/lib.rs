@@ -1,4 +1,4 @@
-//! Bits in slices of words: copies, single bits, numbers and counts.
+//! Bits in slices of words: copies, single bits, numbers, counts, and runs of commands.
 //!
 //! A memory is a slice of `u8`, `u16`, `u32` or `u64`. A place counts its bits from 0 on: it is the
 //! bit of the index `place % width` in the word `place / width`, and the order, [`Lsb0`] or
@@ -29,6 +29,7 @@ mod order;
 mod range;
 mod refusal;
 mod register;
+mod run;
 mod slice;
 mod slice_mut;
 #[allow(unsafe_code)]
@@ -37,5 +38,6 @@ mod sys;
 pub use order::{Lsb0, Msb0, Order};
 pub use refusal::Refusal;
 pub use register::Register;
+pub use run::{Command, Reply, Request, Spans};
 pub use slice::{BitSlice, Ones};
 pub use slice_mut::{copy_bits, BitSliceMut};

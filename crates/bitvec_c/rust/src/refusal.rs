@@ -18,12 +18,20 @@ use std::fmt::{self, Display, Formatter};
 pub enum Refusal {
     /// The order is none of the two. The types of this crate rule it out.
     NoOrder,
+    /// A run has more than 64 spans.
+    TooManySpans,
     /// A range has more than 2305843009213693951 bits.
     TooLong,
     /// A range ends past the last bit of its memory or slice, or there is no bit at an index.
     Outside,
     /// A number is to have more than 64 bits.
     TooWide,
+    /// Two spans of a run have a bit in common.
+    Overlap,
+    /// A run has not as many replies as requests. This crate makes as many.
+    NoRoom,
+    /// The command of a request is none. The types of this crate rule it out.
+    NoCommand,
     /// A range starts past its end.
     Reversed,
     /// Bits are to be copied from a slice into one of another length.
@@ -38,9 +46,13 @@ impl Refusal {
         Err(match status {
             0 => return Ok(()),
             1 => Self::NoOrder,
+            2 => Self::TooManySpans,
             3 => Self::TooLong,
             4 => Self::Outside,
             5 => Self::TooWide,
+            6 => Self::Overlap,
+            7 => Self::NoRoom,
+            8 => Self::NoCommand,
             unknown => Self::Unknown(unknown),
         })
     }
@@ -50,9 +62,13 @@ impl Display for Refusal {
     fn fmt(&self, f: &mut Formatter<'_>) -> fmt::Result {
         f.write_str(match self {
             Self::NoOrder => "the order is none of the two",
+            Self::TooManySpans => "a run has more than 64 spans",
             Self::TooLong => "a range has more than 2305843009213693951 bits",
             Self::Outside => "a range does not lie in its memory",
             Self::TooWide => "a number is to have more than 64 bits",
+            Self::Overlap => "two spans of a run have a bit in common",
+            Self::NoRoom => "a run has not as many replies as requests",
+            Self::NoCommand => "the command of a request is none",
             Self::Reversed => "a range starts past its end",
             Self::Lengths => "the slices have different lengths",
             Self::Unknown(number) => return write!(f, "the library answered {number}"),

@@ -14,6 +14,34 @@ use crate::refusal::Refusal;
 #[cfg(test)]
 mod tests;
 
+/// A range of bits: the place of the first, and how many there are.
+#[repr(C)]
+#[derive(Clone, Copy, PartialEq, Eq, Hash, Debug)]
+pub struct Span {
+    pub start: usize,
+    pub count: usize,
+}
+
+/// A command, by its number, to the span of a number.
+#[repr(C)]
+#[derive(Clone, Copy)]
+pub struct Request {
+    pub span: usize,
+    pub a: usize,
+    pub b: usize,
+    pub count: usize,
+    pub number: u64,
+    pub command: u8,
+}
+
+/// A reply, and the number of its kind.
+#[repr(C)]
+#[derive(Clone, Copy, Default, PartialEq, Eq, Debug)]
+pub struct Reply {
+    pub number: u64,
+    pub kind: u8,
+}
+
 /// The exports for words of one width. Each is refused as the library's export is.
 pub trait Exports: Copy {
     /// Copies `count` bits from a place of one memory to a place of another.
@@ -82,6 +110,18 @@ pub trait Exports: Copy {
         other: (&[Self], usize),
         count: usize,
     ) -> Result<bool, Refusal>;
+
+    /// Tests the spans of a run over so many words.
+    fn can_run(order: u8, spans: &[Span], words: usize) -> Result<(), Refusal>;
+
+    /// Serves requests through spans.
+    fn run(
+        order: u8,
+        spans: &[Span],
+        memory: &mut [Self],
+        requests: &[Request],
+        replies: &mut [Reply],
+    ) -> Result<(), Refusal>;
 }
 
 /// Implements [`Exports`] for a word `$t` by the exports whose names end in `_$t`.
@@ -326,6 +366,51 @@ macro_rules! exports {
                     )
                 };
                 Refusal::check(status).map(|()| same)
+            }
+
+            fn can_run(order: u8, spans: &[Span], words: usize) -> Result<(), Refusal> {
+                extern "C" {
+                    #[link_name = concat!("bitvec_c_can_run_", stringify!($t))]
+                    fn can_run(order: u8, spans: *const Span, span_count: usize, words: usize)
+                        -> u8;
+                }
+                // SAFETY: one slice, whose items are laid out as C lays them out.
+                Refusal::check(unsafe { can_run(order, spans.as_ptr(), spans.len(), words) })
+            }
+
+            fn run(
+                order: u8,
+                spans: &[Span],
+                memory: &mut [Self],
+                requests: &[Request],
+                replies: &mut [Reply],
+            ) -> Result<(), Refusal> {
+                extern "C" {
+                    #[link_name = concat!("bitvec_c_run_", stringify!($t))]
+                    fn run(
+                        order: u8,
+                        spans: *const Span,
+                        span_count: usize,
+                        memory: *mut $t,
+                        words: usize,
+                        requests: *const Request,
+                        request_count: usize,
+                        replies: *mut Reply,
+                        reply_count: usize,
+                    ) -> u8;
+                }
+                let (first_span, span_count) = (spans.as_ptr(), spans.len());
+                let (words, len) = (memory.as_mut_ptr(), memory.len());
+                let (asked, asked_count) = (requests.as_ptr(), requests.len());
+                let (answers, answer_count) = (replies.as_mut_ptr(), replies.len());
+                // SAFETY: four slices, of which those that are written are borrowed mutably, and
+                // whose items are laid out as C lays them out.
+                Refusal::check(unsafe {
+                    run(
+                        order, first_span, span_count, words, len, asked, asked_count, answers,
+                        answer_count,
+                    )
+                })
             }
         }
     )* };

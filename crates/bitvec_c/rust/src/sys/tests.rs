@@ -1,7 +1,7 @@
 //! What the safe functions above rule out: the statuses of the exports for arguments of any kind.
 //! The first condition that does not hold is answered, and nothing is changed.
 
-use super::Exports;
+use super::{Exports, Reply, Request, Span};
 use crate::refusal::Refusal;
 use std::fmt::Debug;
 
@@ -37,7 +37,7 @@ macro_rules! for_all_widths {
 
 for_all_widths!(
     an_order_is_0_or_1 ranges_are_short_enough ranges_lie_in_their_memory numbers_are_narrow_enough
-    conditions_come_in_order
+    conditions_come_in_order runs_have_lawful_spans runs_have_room_and_commands
 );
 
 mod cases {
@@ -59,6 +59,8 @@ mod cases {
             T::first_one(order, &memory, start, count).map(|_| ()),
             T::equal(order, (&memory, start), (&memory, 0), count).map(|_| ()),
             T::equal(order, (&memory, 0), (&memory, start), count).map(|_| ()),
+            T::can_run(order, &[Span { start, count }], 3),
+            T::run(order, &[Span { start, count }], &mut memory, &[], &mut []),
         ];
         assert!(answers.iter().all(|it| *it == answers[0]), "{answers:?}");
         if answers[0].is_err() {
@@ -159,5 +161,64 @@ mod cases {
         );
         assert_eq!(of_number::<T>(0, usize::MAX, 65), Err(Refusal::Outside));
         assert_eq!(of_bit::<T>(2, usize::MAX), Err(Refusal::NoOrder));
+    }
+
+    pub fn runs_have_lawful_spans<T: Word>() {
+        let span = |start, count| Span { start, count };
+        let (few, far, long) = (span(0, 9), span(9 * T::WIDTH, 1), span(0, MOST + 1));
+        for (spans, expected) in [
+            (vec![span(0, 0); 65], Refusal::TooManySpans),
+            (vec![long; 65], Refusal::TooManySpans),
+            (vec![far, few, few, long], Refusal::TooLong),
+            (vec![few, few, far], Refusal::Outside),
+            (vec![few, span(9, 9), span(8, 1)], Refusal::Overlap),
+        ] {
+            let mut memory = [T::ZERO; 9];
+            assert_eq!(T::can_run(2, &spans, 9), Err(Refusal::NoOrder));
+            assert_eq!(T::can_run(0, &spans, 9), Err(expected));
+            assert_eq!(T::run(1, &spans, &mut memory, &[], &mut []), Err(expected));
+            let replies = &mut [Reply::default()];
+            assert_eq!(T::run(1, &spans, &mut memory, &[], replies), Err(expected));
+        }
+        assert_eq!(T::can_run(1, &[few, span(9, 9), span(3, 0)], 9), Ok(()));
+        assert_eq!(T::can_run(1, &[span(3, 0); 64], 9), Ok(()));
+    }
+
+    pub fn runs_have_room_and_commands<T: Word>() {
+        let spans = [Span { start: 1, count: 5 }];
+        let request = |command| Request {
+            span: 0,
+            a: 0,
+            b: 0,
+            count: 0,
+            number: 0,
+            command,
+        };
+        let (set, wrong) = (request(2), request(10));
+        let before = Reply {
+            number: 7,
+            kind: 77,
+        };
+        for (requests, room, expected) in [
+            (vec![set; 2], 1, Refusal::NoRoom),
+            (vec![set, wrong], 3, Refusal::NoRoom),
+            (vec![set, wrong], 2, Refusal::NoCommand),
+            (vec![Request { span: 9, ..wrong }], 1, Refusal::NoCommand),
+            (vec![request(u8::MAX)], 1, Refusal::NoCommand),
+        ] {
+            let (mut memory, mut replies) = ([T::ZERO; 3], vec![before; room]);
+            let answer = T::run(0, &spans, &mut memory, &requests, &mut replies);
+            assert_eq!(answer, Err(expected));
+            assert_eq!(memory, [T::ZERO; 3]);
+            assert_eq!(replies, vec![before; room]);
+        }
+        let (mut memory, mut replies) = ([T::ZERO; 3], [before; 2]);
+        let requests = [set, Request { span: 1, ..set }];
+        assert_eq!(
+            T::run(0, &spans, &mut memory, &requests, &mut replies),
+            Ok(())
+        );
+        let expected = [Reply { number: 0, kind: 0 }, Reply { number: 0, kind: 4 }];
+        assert_eq!(replies, expected);
     }
 }

@@ -1,0 +1,276 @@
+//! Commands through disjoint ranges of one memory.
+
+use crate::order::Order;
+use crate::range::length;
+use crate::refusal::Refusal;
+use crate::register::Register;
+use crate::sys;
+use std::marker::PhantomData;
+use std::ops::Range;
+
+/// How many spans a run has at most.
+const MAX_SPANS: usize = 64;
+
+/// A command to one span.
+///
+/// A `k` counts the words that the span meets, from 0 on; a bit is named by its place in the span,
+/// from 0 on. The digits of a number that are past a word's width are dropped. Which commands are
+/// refused, [`Reply::PastEnd`] says.
+///
+/// # Examples
+///
+/// ```
+/// use worghulen::{Command, Lsb0, Reply, Request, Spans};
+///
+/// let mut words = [0x9b_u8];
+/// let requests = [Request { span: 0, command: Command::Store(0, 0x24) }];
+/// let replies = Spans::<Lsb0>::new(&[1..7])?.run(&mut words, &requests)?;
+/// assert_eq!(replies, [Reply::Word(0x1a)]);
+/// assert_eq!(words, [0xa5]);
+/// # Ok::<(), worghulen::Refusal>(())
+/// ```
+#[derive(Clone, Copy, PartialEq, Eq, Hash, Debug)]
+pub enum Command {
+    /// Returns the span's bits in its word `k`, each as the digit that it has there, and all others
+    /// zero.
+    Load(usize),
+    /// Puts the digits of the number in the places of the span's bits in its word `k`, and returns
+    /// as `Load` did before.
+    Store(usize, u64),
+    /// Makes the span's bits in its word `k` one, and returns as `Load` did before.
+    Set(usize),
+    /// Makes the span's bits in its word `k` zero, and returns as `Load` did before.
+    Clear(usize),
+    /// Turns the span's bits in its word `k` over, and returns as `Load` did before.
+    Invert(usize),
+    /// Returns a bit.
+    Read(usize),
+    /// Writes a bit, and returns it as it was.
+    Replace(usize, bool),
+    /// Exchanges two bits.
+    Swap(usize, usize),
+    /// Copies bits inside the span, as they were before; the two runs may overlap.
+    Copy {
+        /// The first bit that is copied.
+        from: usize,
+        /// Where it is copied to.
+        to: usize,
+        /// How many bits are copied.
+        count: usize,
+    },
+    /// Makes a stretch of bits the same.
+    Fill {
+        /// The first bit that is written.
+        from: usize,
+        /// The place behind the last.
+        to: usize,
+        /// What each of them becomes.
+        value: bool,
+    },
+}
+
+/// A command to the span of a number, from 0 on.
+///
+/// # Examples
+///
+/// ```
+/// use worghulen::{Command, Lsb0, Request, Spans};
+///
+/// let mut words = [0xfa_u8];
+/// let requests = [Request { span: 1, command: Command::Clear(0) }];
+/// Spans::<Lsb0>::new(&[0..3, 3..8])?.run(&mut words, &requests)?;
+/// assert_eq!(words, [0x02]);
+/// # Ok::<(), worghulen::Refusal>(())
+/// ```
+#[derive(Clone, Copy, PartialEq, Eq, Hash, Debug)]
+pub struct Request {
+    /// The number of the span in the list of spans.
+    pub span: usize,
+    /// What is asked of it.
+    pub command: Command,
+}
+
+/// The reply to a request.
+///
+/// # Examples
+///
+/// ```
+/// use worghulen::{Command, Lsb0, Reply, Request, Spans};
+///
+/// let mut words = [0x12_u8, 0x34];
+/// let command = Command::Load(1);
+/// let requests = [Request { span: 0, command }, Request { span: 1, command }];
+/// let replies = Spans::<Lsb0>::new(&[4..12])?.run(&mut words, &requests)?;
+/// assert_eq!(replies, [Reply::Word(0x04), Reply::NoSpan]);
+/// # Ok::<(), worghulen::Refusal>(())
+/// ```
+#[derive(Clone, Copy, PartialEq, Eq, Hash, Debug)]
+pub enum Reply {
+    /// A word, to `Load`, `Store`, `Set`, `Clear` and `Invert`.
+    Word(u64),
+    /// A bit, to `Read` and `Replace`.
+    Bit(bool),
+    /// To `Swap`, `Copy` and `Fill`.
+    Done,
+    /// The command is refused and changes nothing: `k` is at least the number of words that the
+    /// span meets, a bit's place is at least the span's length, `from + count` or `to + count` of a
+    /// `Copy` passes the length, or a `Fill` has its `from` past its `to`, or its `to` past the
+    /// length.
+    PastEnd,
+    /// There is no span of that number, and nothing is changed.
+    NoSpan,
+}
+
+/// Ranges of places, at most 64, through which a memory gets commands.
+///
+/// # Examples
+///
+/// ```
+/// use worghulen::{Command, Lsb0, Reply, Request, Spans};
+///
+/// let mut words = [0_u8];
+/// let requests = [
+///     Request { span: 1, command: Command::Set(0) },
+///     Request { span: 0, command: Command::Replace(1, true) },
+///     Request { span: 1, command: Command::Read(4) },
+/// ];
+/// let replies = Spans::<Lsb0>::new(&[0..3, 3..8])?.run(&mut words, &requests)?;
+/// assert_eq!(replies, [Reply::Word(0), Reply::Bit(false), Reply::Bit(true)]);
+/// assert_eq!(words, [0b1111_1010]);
+/// # Ok::<(), worghulen::Refusal>(())
+/// ```
+#[derive(Clone, PartialEq, Eq, Hash, Debug)]
+pub struct Spans<O> {
+    spans: Vec<sys::Span>,
+    order: PhantomData<O>,
+}
+
+impl<O: Order> Spans<O> {
+    /// The spans of these ranges, whose numbers are their indices here.
+    ///
+    /// # Errors
+    ///
+    /// [`Refusal::TooManySpans`] where there are more than 64, and for the first range that is
+    /// refused [`Refusal::Reversed`] where it starts past its end and [`Refusal::TooLong`] where
+    /// it has too many bits.
+    ///
+    /// # Examples
+    ///
+    /// ```
+    /// use worghulen::{Lsb0, Refusal, Spans};
+    ///
+    /// assert!(Spans::<Lsb0>::new(&[0..3, 3..8]).is_ok());
+    /// assert_eq!(Spans::<Lsb0>::new(&vec![0..0; 65]), Err(Refusal::TooManySpans));
+    /// ```
+    pub fn new(ranges: &[Range<usize>]) -> Result<Self, Refusal> {
+        if ranges.len() > MAX_SPANS {
+            return Err(Refusal::TooManySpans);
+        }
+        let spans = ranges.iter().map(span).collect::<Result<_, _>>()?;
+        Ok(Self {
+            spans,
+            order: PhantomData,
+        })
+    }
+
+    /// Tests that each span lies within the words, and that no two have a bit in common: what
+    /// [`run`](Self::run) wants of them.
+    ///
+    /// # Errors
+    ///
+    /// [`Refusal::Outside`] where a span ends past the last bit, otherwise [`Refusal::Overlap`].
+    ///
+    /// # Examples
+    ///
+    /// ```
+    /// use worghulen::{Lsb0, Refusal, Spans};
+    ///
+    /// let words = [0_u8];
+    /// assert_eq!(Spans::<Lsb0>::new(&[0..3, 3..8])?.can_run(&words), Ok(()));
+    /// assert_eq!(Spans::<Lsb0>::new(&[0..3, 3..9])?.can_run(&words), Err(Refusal::Outside));
+    /// assert_eq!(Spans::<Lsb0>::new(&[0..3, 2..8])?.can_run(&words), Err(Refusal::Overlap));
+    /// # Ok::<(), Refusal>(())
+    /// ```
+    pub fn can_run<T: Register>(&self, words: &[T]) -> Result<(), Refusal> {
+        T::can_run(O::CODE, &self.spans, words.len())
+    }
+
+    /// Gives the spans the commands of the requests, in their order; reply n is to request n.
+    ///
+    /// Each span's replies are those that its own list of bits gives under its own commands alone.
+    /// In the end each span has the list that its commands leave, and every other bit of the words
+    /// is as before.
+    ///
+    /// # Errors
+    ///
+    /// As [`can_run`](Self::can_run).
+    ///
+    /// # Examples
+    ///
+    /// ```
+    /// use worghulen::{Command, Lsb0, Reply, Request, Spans};
+    ///
+    /// let mut words = [0x5a_u8];
+    /// let command = Command::Invert(0);
+    /// let requests = [Request { span: 0, command }, Request { span: 1, command }];
+    /// let replies = Spans::<Lsb0>::new(&[0..3, 3..8])?.run(&mut words, &requests)?;
+    /// assert_eq!(replies, [Reply::Word(0x02), Reply::Word(0x58)]);
+    /// assert_eq!(words, [0xa5]);
+    /// # Ok::<(), worghulen::Refusal>(())
+    /// ```
+    pub fn run<T: Register>(
+        &self,
+        words: &mut [T],
+        requests: &[Request],
+    ) -> Result<Vec<Reply>, Refusal> {
+        let requests: Vec<_> = requests.iter().map(asked).collect();
+        let mut replies = vec![sys::Reply::default(); requests.len()];
+        T::run(O::CODE, &self.spans, words, &requests, &mut replies)?;
+        replies.iter().map(answered).collect()
+    }
+}
+
+/// A range as the library has it.
+fn span(range: &Range<usize>) -> Result<sys::Span, Refusal> {
+    let count = length(range.start, range.end)?;
+    Ok(sys::Span {
+        start: range.start,
+        count,
+    })
+}
+
+/// A request as the library has it.
+fn asked(request: &Request) -> sys::Request {
+    let (command, [a, b, count], number) = match request.command {
+        Command::Load(k) => (0, [k, 0, 0], 0),
+        Command::Store(k, number) => (1, [k, 0, 0], number),
+        Command::Set(k) => (2, [k, 0, 0], 0),
+        Command::Clear(k) => (3, [k, 0, 0], 0),
+        Command::Invert(k) => (4, [k, 0, 0], 0),
+        Command::Read(i) => (5, [i, 0, 0], 0),
+        Command::Replace(i, bit) => (6, [i, 0, 0], bit.into()),
+        Command::Swap(i, j) => (7, [i, j, 0], 0),
+        Command::Copy { from, to, count } => (8, [from, to, count], 0),
+        Command::Fill { from, to, value } => (9, [from, to, 0], value.into()),
+    };
+    sys::Request {
+        span: request.span,
+        a,
+        b,
+        count,
+        number,
+        command,
+    }
+}
+
+/// A reply of the library.
+fn answered(reply: &sys::Reply) -> Result<Reply, Refusal> {
+    Ok(match reply.kind {
+        0 => Reply::Word(reply.number),
+        1 => Reply::Bit(reply.number != 0),
+        2 => Reply::Done,
+        3 => Reply::PastEnd,
+        4 => Reply::NoSpan,
+        unknown => return Err(Refusal::Unknown(unknown)),
+    })
+}

@@ -1,0 +1,199 @@
+//! Runs of commands against the model: each reply, or the refusal, and every bit of the memory
+//! after them.
+
+mod common;
+
+use common::{for_all_memories, Random, CASES};
+use worghulen::{Lsb0, Msb0, Refusal, Spans};
+
+for_all_memories!(a_run_serves_each_request, 16);
+for_all_memories!(can_run_tests_the_spans, 17);
+
+mod cases {
+    use crate::common::{bits_of, checked, word_and_digit, Layout, Random, Word, MAX_BITS};
+    use std::ops::Range;
+    use worghulen::{Command, Refusal, Reply, Request, Spans};
+
+    /// Mostly ranges that lie among `len` bits and have none in common, in any order.
+    fn ranges(random: &mut Random, len: usize) -> Vec<Range<usize>> {
+        let mut cuts: Vec<_> = (0..random.below(9))
+            .map(|_| random.below(len + 1))
+            .collect();
+        cuts.sort_unstable();
+        let mut ranges: Vec<_> = cuts.windows(2).map(|two| two[0]..two[1]).collect();
+        for last in (1..ranges.len()).rev() {
+            ranges.swap(last, random.below(last + 1));
+        }
+        if random.one_in(8) {
+            ranges.push(random.range(len));
+        }
+        if random.one_in(64) {
+            ranges.resize(60 + random.below(8), 0..0);
+        }
+        ranges
+    }
+
+    /// Why spans of these ranges are refused, if they are.
+    fn refusal(ranges: &[Range<usize>], len: usize) -> Result<(), Refusal> {
+        if ranges.len() > 64 {
+            return Err(Refusal::TooManySpans);
+        }
+        for range in ranges {
+            // (what a range of its own is refused for comes before what the memory is asked for)
+            checked(range, usize::MAX)?;
+        }
+        for range in ranges {
+            checked(range, len)?;
+        }
+        let meets = |one: &Range<usize>, other: &Range<usize>| {
+            one.start.max(other.start) < one.end.min(other.end)
+        };
+        let is_apart = |i: usize| !ranges[..i].iter().any(|before| meets(before, &ranges[i]));
+        if (0..ranges.len()).all(is_apart) {
+            Ok(())
+        } else {
+            Err(Refusal::Overlap)
+        }
+    }
+
+    /// A command, mostly one that a span of so many bits does not refuse.
+    fn command<T: Word>(random: &mut Random, len: usize) -> Command {
+        let (k, words) = (random.place(len / T::BITS), random.place(len / T::BITS + 1));
+        let (i, j) = (random.place(len), random.place(len));
+        match random.below(10) {
+            0 => Command::Load(k),
+            1 => Command::Store(words, random.number()),
+            2 => Command::Set(k),
+            3 => Command::Clear(words),
+            4 => Command::Invert(k),
+            5 => Command::Read(i),
+            6 => Command::Replace(i, random.bit()),
+            7 => Command::Swap(i, j),
+            8 => {
+                let room = len.saturating_sub(i.max(j));
+                let count = random.place(room);
+                Command::Copy {
+                    from: i,
+                    to: j,
+                    count,
+                }
+            }
+            _ => {
+                let (from, to) = if random.one_in(8) {
+                    (i, j)
+                } else {
+                    (i.min(j), i.max(j))
+                };
+                let value = random.bit();
+                Command::Fill { from, to, value }
+            }
+        }
+    }
+
+    /// Edits the span's bits in its word `k` by their digits, and replies with them.
+    fn edit<T: Word, O: Layout>(
+        bits: &mut [bool],
+        start: usize,
+        k: usize,
+        new: impl Fn(usize, bool) -> bool,
+    ) -> Reply {
+        let (mut number, mut met) = (0, false);
+        for (i, bit) in bits.iter_mut().enumerate() {
+            let (word, digit) = word_and_digit::<T, O>(start + i);
+            if word - start / T::BITS == k {
+                met = true;
+                number |= u64::from(*bit) << digit;
+                *bit = new(digit, *bit);
+            }
+        }
+        if met {
+            Reply::Word(number)
+        } else {
+            Reply::PastEnd
+        }
+    }
+
+    /// Writes a bit, and replies with it as it was.
+    fn replace(bits: &mut [bool], i: usize, new: impl Fn(bool) -> bool) -> Reply {
+        let Some(bit) = bits.get_mut(i) else {
+            return Reply::PastEnd;
+        };
+        let old = *bit;
+        *bit = new(old);
+        Reply::Bit(old)
+    }
+
+    /// The reply to a command that names stretches of bits, or two bits.
+    fn stretch(bits: &mut [bool], command: Command) -> Option<Reply> {
+        match command {
+            Command::Swap(i, j) => {
+                let both = (*bits.get(i)?, *bits.get(j)?);
+                (bits[j], bits[i]) = both;
+            }
+            Command::Copy { from, to, count } => {
+                let source = bits.get(from..from.checked_add(count)?)?.to_vec();
+                let target = bits.get_mut(to..to.checked_add(count)?)?;
+                target.copy_from_slice(&source);
+            }
+            Command::Fill { from, to, value } => bits.get_mut(from..to)?.fill(value),
+            _ => return None,
+        }
+        Some(Reply::Done)
+    }
+
+    /// Gives a span its command.
+    fn serve<T: Word, O: Layout>(bits: &mut [bool], start: usize, command: Command) -> Reply {
+        match command {
+            Command::Load(k) => edit::<T, O>(bits, start, k, |_, bit| bit),
+            Command::Store(k, number) => {
+                edit::<T, O>(bits, start, k, |digit, _| number >> digit & 1 == 1)
+            }
+            Command::Set(k) => edit::<T, O>(bits, start, k, |_, _| true),
+            Command::Clear(k) => edit::<T, O>(bits, start, k, |_, _| false),
+            Command::Invert(k) => edit::<T, O>(bits, start, k, |_, bit| !bit),
+            Command::Read(i) => replace(bits, i, |bit| bit),
+            Command::Replace(i, new) => replace(bits, i, |_| new),
+            _ => stretch(bits, command).unwrap_or(Reply::PastEnd),
+        }
+    }
+
+    pub fn a_run_serves_each_request<T: Word, O: Layout>(random: &mut Random) {
+        let mut words = random.words::<T>();
+        let mut model = bits_of::<T, O>(&words);
+        let ranges = ranges(random, model.len());
+        let request = |random: &mut Random| {
+            let span = random.below(ranges.len() + 1);
+            let len = ranges
+                .get(span)
+                .map_or(9, |range| range.len().min(MAX_BITS));
+            let command = command::<T>(random, len);
+            Request { span, command }
+        };
+        let requests: Vec<_> = (0..random.below(12)).map(|_| request(random)).collect();
+        let serve = |Request { span, command }: &Request| match ranges.get(*span) {
+            Some(range) => serve::<T, O>(&mut model[range.clone()], range.start, *command),
+            None => Reply::NoSpan,
+        };
+        let expected = refusal(&ranges, words.len() * T::BITS)
+            .map(|()| requests.iter().map(serve).collect::<Vec<_>>());
+        let answer = Spans::<O>::new(&ranges).and_then(|spans| spans.run(&mut words, &requests));
+        assert_eq!(answer, expected, "{ranges:?} {requests:?}");
+        assert_eq!(bits_of::<T, O>(&words), model, "{ranges:?} {requests:?}");
+    }
+
+    pub fn can_run_tests_the_spans<T: Word, O: Layout>(random: &mut Random) {
+        let words = random.words::<T>();
+        let len = words.len() * T::BITS;
+        let ranges = ranges(random, len);
+        let answer = Spans::<O>::new(&ranges).and_then(|spans| spans.can_run(&words));
+        assert_eq!(answer, refusal(&ranges, len), "{ranges:?}");
+    }
+}
+
+#[test]
+fn a_run_has_at_most_64_spans() {
+    let ranges: Vec<_> = (0..65).map(|i| i..i + 1).collect();
+    let spans = Spans::<Lsb0>::new(&ranges[..64]).unwrap();
+    assert_eq!(spans.run(&mut [0_u64], &[]), Ok(vec![]));
+    assert_eq!(Spans::<Lsb0>::new(&ranges), Err(Refusal::TooManySpans));
+}
