@@ -72,6 +72,15 @@ static uint8_t show_word(void) {
     return BITVEC_OK;
 }
 
+/* Eight bits of one memory, copied to others of another. */
+static uint8_t show_copy(void) {
+    uint8_t source[2] = {0x0f, 0xf0}, target[3] = {0};
+    uint8_t status = bitvec_c_copy_u8(BITVEC_MSB0, source, 2, 4, target, 3, 10, 8);
+    if (status == BITVEC_OK)
+        printf("%02x %02x %02x copied\n", target[0], target[1], target[2]);
+    return status;
+}
+
 /* What lies past the end is refused, and changes nothing. */
 static uint8_t show_refusal(void) {
     uint16_t words[2] = {0, 0};
@@ -84,6 +93,8 @@ int main(void) {
     uint8_t status = show_bytes();
     if (status == BITVEC_OK)
         status = show_word();
+    if (status == BITVEC_OK)
+        status = show_copy();
     if (status == BITVEC_OK)
         status = show_refusal();
     return status;
