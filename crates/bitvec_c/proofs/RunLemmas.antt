@@ -60,12 +60,21 @@ pub step_as : (bits : ℕ) (at : ℕ → ℕ) (s t : Span) (old new : List ℕ) 
 step_as bits at s t old new c d r q spans commands replies is =
     subst (λ (u : Span). IsStep bits at u old d q new) spans (subst (λ (e : Command ℕ). IsStep bits at s old e q new) commands (subst (λ (p : Reply ℕ). IsStep bits at s old c p new) (sym replies) is))
 
+-- a run of one request, by plain numbers
+pub one_plain : (bits : ℕ) (at : ℕ → ℕ) (spans : List PlainSpan) (old new : List ℕ) (request : PlainRequest) (reply : PlainReply)
+    → IsRun bits at (plain_span bits) spans old (plain_request bits request ∷ []) (reply_of reply ∷ []) new → IsPlainReply reply
+    → IsPlainRun bits at spans old (request ∷ []) (reply ∷ []) new
+one_plain bits at spans old new request reply run plain = record {
+  run = run;
+  plain = λ i d below. let first : i ≡ 0 = omega arith in rw first plain;
+}
+
 -- one request more is run
 pub plain_more : (bits : ℕ) (at : ℕ → ℕ) (spans : List PlainSpan) (old mid new : List ℕ) (requests : List PlainRequest) (replies : List PlainReply) (n : ℕ) (none : PlainRequest) (reply : PlainReply)
     → n < length requests → n < length replies → IsPlainRun bits at spans old (take n requests) (take n replies) mid
-    → IsRun bits at (plain_span bits) spans mid (plain_request bits (get_or requests n none) ∷ []) (reply_of reply ∷ []) new → IsPlainReply reply
+    → IsPlainRun bits at spans mid (get_or requests n none ∷ []) (reply ∷ []) new
     → IsPlainRun bits at spans old (take (n + 1) requests) (take (n + 1) (slice_set replies n reply)) new
-plain_more bits at spans old mid new requests replies n none reply h k so_far last plain = record {
-  run = rw (take_more requests n none h, take_more_set replies n reply k, map_push, map_push) (run-more bits at (plain_span bits) spans old mid new _ _ _ _ so_far.run last);
-  plain = rw (take_more_set replies n reply k) (All-append IsPlainReply (take n replies) (reply ∷ []) so_far.plain (λ i d below. let first : i ≡ 0 = omega arith in rw first plain));
+plain_more bits at spans old mid new requests replies n none reply h k so_far last = record {
+  run = rw (take_more requests n none h, take_more_set replies n reply k, map_push, map_push) (run-more bits at (plain_span bits) spans old mid new _ _ _ _ so_far.run last.run);
+  plain = rw (take_more_set replies n reply k) (All-append IsPlainReply (take n replies) (reply ∷ []) so_far.plain last.plain);
 }

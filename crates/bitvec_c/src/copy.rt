@@ -13,39 +13,39 @@ use bitvec::order::{BitOrder, Lsb0, Msb0};
 // Copies a range of bits to one of another memory, and changes no other bit.
 fn copy_in<R: BitRegister, O: BitOrder<R>>(
     source: &[R],
-    source_start: usize,
+    from: usize,
     target: &mut [R],
-    target_start: usize,
+    to: usize,
     count: usize,
 )
-    requires source_inside { source_start + count ≤ length source.now * R.BITS }
-    requires target_inside { target_start + count ≤ length target.old * R.BITS }
-    ensures { CopiesBits R.BITS O.at_of (map R.number source.now) source_start
-        (map R.number target.old) target_start count (map R.number target.new) }
+    requires source_inside { from + count ≤ length source.now * R.BITS }
+    requires target_inside { to + count ≤ length target.old * R.BITS }
+    ensures { CopiesBits R.BITS O.at_of (map R.number source.now) from
+        (map R.number target.old) to count (map R.number target.new) }
 {
-    let from = pointer::<R, O>(source_start);
-    let to = pointer::<R, O>(target_start);
-    from.copy_to(source, to, target, count);
+    let first = pointer::<R, O>(from);
+    let target_first = pointer::<R, O>(to);
+    first.copy_to(source, target_first, target, count);
 }
 
 // The same under the order of a code.
 fn copy_range<R: BitRegister>(
     order: u8,
     source: &[R],
-    source_start: usize,
+    from: usize,
     target: &mut [R],
-    target_start: usize,
+    to: usize,
     count: usize,
 )
-    requires source_inside { source_start + count ≤ length source.now * R.BITS }
-    requires target_inside { target_start + count ≤ length target.old * R.BITS }
-    ensures { CopiesBits R.BITS (order_at R.BITS order) (map R.number source.now) source_start
-        (map R.number target.old) target_start count (map R.number target.new) }
+    requires source_inside { from + count ≤ length source.now * R.BITS }
+    requires target_inside { to + count ≤ length target.old * R.BITS }
+    ensures { CopiesBits R.BITS (order_at R.BITS order) (map R.number source.now) from
+        (map R.number target.old) to count (map R.number target.new) }
 {
     if order == LSB0 {
-        copy_in::<R, Lsb0>(source, source_start, target, target_start, count);
+        copy_in::<R, Lsb0>(source, from, target, to, count);
     } else {
-        copy_in::<R, Msb0>(source, source_start, target, target_start, count);
+        copy_in::<R, Msb0>(source, from, target, to, count);
     }
 }
 
@@ -53,68 +53,50 @@ fn copy_range<R: BitRegister>(
 fn copy<R: BitRegister>(
     order: u8,
     source: &[R],
-    source_start: usize,
+    from: usize,
     target: &mut [R],
-    target_start: usize,
+    to: usize,
     count: usize,
 ) -> u8
-    ensures status { result ≡ ranges_status R.BITS order (length source.now) source_start
-        (length target.old) target_start count }
+    ensures status { result ≡ ranges_status R.BITS order (length source.now) from
+        (length target.old) to count }
     ensures copied { result ≡ ok
-        → CopiesBits R.BITS (order_at R.BITS order) (map R.number source.now) source_start
-        (map R.number target.old) target_start count (map R.number target.new) }
+        → CopiesBits R.BITS (order_at R.BITS order) (map R.number source.now) from
+        (map R.number target.old) to count (map R.number target.new) }
     ensures refused { result ≢ ok → target.new ≡ target.old }
 {
     let words = target.len();
-    let status = test_ranges::<R>(
-        order,
-        source.len(),
-        source_start,
-        words,
-        target_start,
-        count,
-    );
+    let status = test_ranges::<R>(order, source.len(), from, words, to, count);
     if status == OK {
-        copy_range(order, source, source_start, target, target_start, count);
+        copy_range(order, source, from, target, to, count);
     }
     status
 }
 
 // Copies a range of bits to another of the same memory, and changes no other bit. What is copied is
 // what was there before the call.
-fn move_in<R: BitRegister, O: BitOrder<R>>(
-    memory: &mut [R],
-    source_start: usize,
-    target_start: usize,
-    count: usize,
-)
-    requires source_inside { source_start + count ≤ length memory.old * R.BITS }
-    requires target_inside { target_start + count ≤ length memory.old * R.BITS }
-    ensures { let old = map R.number memory.old in CopiesBits R.BITS O.at_of old source_start
-        old target_start count (map R.number memory.new) }
+fn move_in<R: BitRegister, O: BitOrder<R>>(memory: &mut [R], from: usize, to: usize, count: usize)
+    requires source_inside { from + count ≤ length memory.old * R.BITS }
+    requires target_inside { to + count ≤ length memory.old * R.BITS }
+    ensures { let old = map R.number memory.old in CopiesBits R.BITS O.at_of old from
+        old to count (map R.number memory.new) }
 {
-    let from = pointer::<R, O>(source_start);
-    let to = pointer::<R, O>(target_start);
-    from.copy_within(memory, to, count);
+    let first = pointer::<R, O>(from);
+    let target_first = pointer::<R, O>(to);
+    first.copy_within(memory, target_first, count);
 }
 
 // The same under the order of a code.
-fn move_range<R: BitRegister>(
-    order: u8,
-    memory: &mut [R],
-    source_start: usize,
-    target_start: usize,
-    count: usize,
-)
-    requires source_inside { source_start + count ≤ length memory.old * R.BITS }
-    requires target_inside { target_start + count ≤ length memory.old * R.BITS }
+fn move_range<R: BitRegister>(order: u8, memory: &mut [R], from: usize, to: usize, count: usize)
+    requires source_inside { from + count ≤ length memory.old * R.BITS }
+    requires target_inside { to + count ≤ length memory.old * R.BITS }
     ensures { let old = map R.number memory.old in CopiesBits R.BITS (order_at R.BITS order)
-        old source_start old target_start count (map R.number memory.new) }
+        old from old to count (map R.number memory.new) }
 {
     if order == LSB0 {
-        move_in::<R, Lsb0>(memory, source_start, target_start, count);
+        move_in::<R, Lsb0>(memory, from, to, count);
     } else {
-        move_in::<R, Msb0>(memory, source_start, target_start, count);
+        move_in::<R, Msb0>(memory, from, to, count);
     }
 }
 
@@ -122,21 +104,21 @@ fn move_range<R: BitRegister>(
 fn copy_within<R: BitRegister>(
     order: u8,
     memory: &mut [R],
-    source_start: usize,
-    target_start: usize,
+    from: usize,
+    to: usize,
     count: usize,
 ) -> u8
-    ensures status { result ≡ ranges_status R.BITS order (length memory.old) source_start
-        (length memory.old) target_start count }
+    ensures status { result ≡ ranges_status R.BITS order (length memory.old) from
+        (length memory.old) to count }
     ensures copied { result ≡ ok → let old = map R.number memory.old
-        in CopiesBits R.BITS (order_at R.BITS order) old source_start old target_start count
+        in CopiesBits R.BITS (order_at R.BITS order) old from old to count
         (map R.number memory.new) }
     ensures refused { result ≢ ok → memory.new ≡ memory.old }
 {
     let words = memory.len();
-    let status = test_ranges::<R>(order, words, source_start, words, target_start, count);
+    let status = test_ranges::<R>(order, words, from, words, to, count);
     if status == OK {
-        move_range(order, memory, source_start, target_start, count);
+        move_range(order, memory, from, to, count);
     }
     status
 }

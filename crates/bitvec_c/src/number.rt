@@ -1,9 +1,8 @@
 //! Numbers in ranges of bits.
 
 ghost use Rattle.std.specs.Prelude.{◌≡◌, ◌≢◌, ◌+◌, ◌*◌, ◌≤◌, length, map};
-ghost use Rattle.bitvec_c.specs.Number.{loaded_number, stored_bits};
+ghost use Rattle.bitvec_c.specs.Number.{loaded_number, StoresNumber};
 ghost use Rattle.bitvec_c.specs.Order.{order_at, rises};
-ghost use Rattle.bitvec_c.specs.Range.{RangeBecomes};
 ghost use Rattle.bitvec_c.specs.Status.{ok, number_status};
 
 use crate::range::{bits, bits_mut};
@@ -77,8 +76,7 @@ fn store_in<R: BitRegister, O: Sequential<R>>(
 )
     requires small { count ≤ 64 }
     requires inside { start + count ≤ length memory.old * R.BITS }
-    ensures { RangeBecomes R.BITS O.at_of start count
-        (stored_bits big R.BITS O.RISES start count number)
+    ensures { StoresNumber big R.BITS O.RISES O.at_of start count number
         (map R.number memory.old) (map R.number memory.new) }
 {
     let mut range = bits_mut::<R, O>(memory, start, count);
@@ -100,8 +98,7 @@ fn put_number<R: BitRegister>(
 )
     requires small { count ≤ 64 }
     requires inside { start + count ≤ length memory.old * R.BITS }
-    ensures { RangeBecomes R.BITS (order_at R.BITS order) start count
-        (stored_bits big R.BITS (rises order) start count number)
+    ensures { StoresNumber big R.BITS (rises order) (order_at R.BITS order) start count number
         (map R.number memory.old) (map R.number memory.new) }
 {
     if order == LSB0 {
@@ -122,9 +119,9 @@ fn store<R: BitRegister>(
     number: u64,
 ) -> u8
     ensures status { result ≡ number_status R.BITS order (length memory.old) start count }
-    ensures stored { result ≡ ok → RangeBecomes R.BITS (order_at R.BITS order) start count
-        (stored_bits big R.BITS (rises order) start count number)
-        (map R.number memory.old) (map R.number memory.new) }
+    ensures stored { result ≡ ok → StoresNumber big R.BITS (rises order)
+        (order_at R.BITS order) start count number (map R.number memory.old)
+        (map R.number memory.new) }
     ensures refused { result ≢ ok → memory.new ≡ memory.old }
 {
     let status = test_number::<R>(order, memory.len(), start, count);
@@ -242,9 +239,8 @@ pub extern "C" fn bitvec_c_store_u8(
     number: u64,
 ) -> u8
     ensures status { result ≡ number_status 8 order (length memory.old) start count }
-    ensures stored { result ≡ ok → RangeBecomes 8 (order_at 8 order) start count
-        (stored_bits big_endian 8 (rises order) start count number)
-        memory.old memory.new }
+    ensures stored { result ≡ ok → StoresNumber big_endian 8 (rises order) (order_at 8 order)
+        start count number memory.old memory.new }
     ensures refused { result ≢ ok → memory.new ≡ memory.old }
 {
     store(order, big_endian, memory, start, count, number)
@@ -266,9 +262,8 @@ pub extern "C" fn bitvec_c_store_u16(
     number: u64,
 ) -> u8
     ensures status { result ≡ number_status 16 order (length memory.old) start count }
-    ensures stored { result ≡ ok → RangeBecomes 16 (order_at 16 order) start count
-        (stored_bits big_endian 16 (rises order) start count number)
-        memory.old memory.new }
+    ensures stored { result ≡ ok → StoresNumber big_endian 16 (rises order) (order_at 16 order)
+        start count number memory.old memory.new }
     ensures refused { result ≢ ok → memory.new ≡ memory.old }
 {
     store(order, big_endian, memory, start, count, number)
@@ -290,9 +285,8 @@ pub extern "C" fn bitvec_c_store_u32(
     number: u64,
 ) -> u8
     ensures status { result ≡ number_status 32 order (length memory.old) start count }
-    ensures stored { result ≡ ok → RangeBecomes 32 (order_at 32 order) start count
-        (stored_bits big_endian 32 (rises order) start count number)
-        memory.old memory.new }
+    ensures stored { result ≡ ok → StoresNumber big_endian 32 (rises order) (order_at 32 order)
+        start count number memory.old memory.new }
     ensures refused { result ≢ ok → memory.new ≡ memory.old }
 {
     store(order, big_endian, memory, start, count, number)
@@ -314,9 +308,8 @@ pub extern "C" fn bitvec_c_store_u64(
     number: u64,
 ) -> u8
     ensures status { result ≡ number_status 64 order (length memory.old) start count }
-    ensures stored { result ≡ ok → RangeBecomes 64 (order_at 64 order) start count
-        (stored_bits big_endian 64 (rises order) start count number)
-        memory.old memory.new }
+    ensures stored { result ≡ ok → StoresNumber big_endian 64 (rises order) (order_at 64 order)
+        start count number memory.old memory.new }
     ensures refused { result ≢ ok → memory.new ≡ memory.old }
 {
     store(order, big_endian, memory, start, count, number)

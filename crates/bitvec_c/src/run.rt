@@ -3,11 +3,11 @@
 ghost use Rattle.std.specs.Prelude.{◌≡◌, ◌≢◌, ℕ, ◌+◌, ◌*◌, ◌≤◌, ◌↔◌, IsTrue, [], ◌∷◌, length, map};
 ghost use Rattle.bitvec.specs.BitSpan.{span_of};
 ghost use Rattle.bitvec.specs.Commands.{command_number, reply_number};
-ghost use Rattle.bitvec.specs.Run.{CanRun, IsStep, IsRun};
+ghost use Rattle.bitvec.specs.Run.{CanRun, IsStep};
 ghost use Rattle.bitvec.specs.Span.{Fits};
 ghost use Rattle.bitvec_c.specs.Order.{order_at};
 ghost use Rattle.bitvec_c.specs.Plain.{plain_span, AllShort, AllInside, AreCommands};
-ghost use Rattle.bitvec_c.specs.Plain.{plain_request, reply_of, IsPlainReply, IsPlainRun};
+ghost use Rattle.bitvec_c.specs.Plain.{IsPlainRun};
 ghost use Rattle.bitvec_c.specs.RunStatus.{IsSpansStatus, IsRunStatus};
 ghost use Rattle.bitvec_c.specs.Status.{ok};
 
@@ -119,9 +119,8 @@ fn serve<R: BitRegister, O: BitOrder<R>>(
     requires short { AllShort spans.now }
     requires can_run { CanRun R.BITS (plain_span R.BITS) spans.now (length memory.old) }
     requires command { request.now.command ≤ 9 }
-    ensures run { IsRun R.BITS O.at_of (plain_span R.BITS) spans.now (map R.number memory.old)
-        (plain_request R.BITS request.now ∷ []) (reply_of result ∷ []) (map R.number memory.new) }
-    ensures plain { IsPlainReply result }
+    ensures { IsPlainRun R.BITS O.at_of spans.now (map R.number memory.old) (request.now ∷ [])
+        (result ∷ []) (map R.number memory.new) }
 {
     if request.span < spans.len() {
         let range = spans[request.span];

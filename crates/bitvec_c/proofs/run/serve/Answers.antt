@@ -8,11 +8,11 @@ use Rattle.bitvec.specs.declared.run.command.Reply.{Reply}
 use Rattle.bitvec.proofs.RequestLemmas.{run-one, run-no_span}
 use Rattle.bitvec_c.specs.Plain.{plain_span, plain_command, plain_request, reply_of}
 use Rattle.bitvec_c.specs.declared.plain.PlainSpan.{PlainSpan}
-use Rattle.bitvec_c.proofs.RunLemmas.{step_as}
+use Rattle.bitvec_c.proofs.RunLemmas.{step_as, one_plain}
 use Rattle.bitvec_c.proofs.run.serve.Goals as goal
 
-pub returns-then-request-spans-clause-run : goal.returns-then-request-spans-clause-run
-returns-then-request-spans-clause-run g c =
+pub returns-then-request-spans : goal.returns-then-request-spans
+returns-then-request-spans g c =
     let width = g.R.BitRegister.BITS in
     let number = g.R.BitRegister.number in
     let spans = c.args.spans.now in
@@ -24,12 +24,16 @@ returns-then-request-spans-clause-run g c =
     let can = subst (λ (n : ℕ). CanRun width (plain_span width) spans n) (sym (length-map c.args.memory.now number)) c.requires.can_run in
     let stepped = step_as width g.O.BitAt.at_of (span_of c.span-own.result) (plain_span width named) old new (command_number number c.command_of-command.result) (plain_command width request)
     (reply_number number c.step.result) (reply_of c.plain_reply.result) c.span-own.ensures.span c.command_of-command.ensures c.plain_reply.ensures.reply c.step.ensures in
-    run-one width g.O.BitAt.at_of (plain_span width) spans named old new (plain_request width request) (reply_of c.plain_reply.result) can (slice_get-get_or spans request.span none (omega arith)) stepped
+    one_plain width g.O.BitAt.at_of spans old new request c.plain_reply.result
+    (run-one width g.O.BitAt.at_of (plain_span width) spans named old new (plain_request width request) (reply_of c.plain_reply.result) can (slice_get-get_or spans request.span none (omega arith)) stepped)
+    c.plain_reply.ensures.plain
 
-pub returns-else-request-spans-clause-run : goal.returns-else-request-spans-clause-run
-returns-else-request-spans-clause-run g c =
+pub returns-else-request-spans : goal.returns-else-request-spans
+returns-else-request-spans g c =
     let width = g.R.BitRegister.BITS in
     let memory = map g.R.BitRegister.number c.args.memory.now in
     let request = plain_request width c.args.request.now in
-    subst (λ (r : Reply ℕ). IsRun width g.O.BitAt.at_of (plain_span width) c.args.spans.now memory (request ∷ []) (r ∷ []) memory) (sym c.plain_reply-else-request-spans.ensures.reply)
-    (run-no_span width g.O.BitAt.at_of (plain_span width) c.args.spans.now memory request (omega arith))
+    one_plain width g.O.BitAt.at_of c.args.spans.now memory memory c.args.request.now c.plain_reply-else-request-spans.result
+    (subst (λ (r : Reply ℕ). IsRun width g.O.BitAt.at_of (plain_span width) c.args.spans.now memory (request ∷ []) (r ∷ []) memory) (sym c.plain_reply-else-request-spans.ensures.reply)
+    (run-no_span width g.O.BitAt.at_of (plain_span width) c.args.spans.now memory request (omega arith)))
+    c.plain_reply-else-request-spans.ensures.plain
