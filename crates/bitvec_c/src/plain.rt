@@ -10,6 +10,9 @@ use crate::status::MAX_BITS;
 use bitvec::mem::BitRegister;
 use bitvec::run::{Command, Reply};
 
+// The greatest code of a command.
+const LAST_COMMAND: u8 = 9;
+
 /// A range of bits: the place of its first, and how many it has.
 #[derive(Clone, Copy)]
 #[repr(C)]
@@ -20,7 +23,12 @@ pub struct PlainSpan {
     pub count: usize,
 }
 
-/// A command to the span of a number. What each command reads of the other numbers, its code says.
+/// A command to the span of a number.
+///
+/// The codes are those of the library's commands, in their order: 0 loads the span's bits in its
+/// word `a`, 1 stores the number there, 2 sets, 3 clears and 4 inverts them; 5 reads bit `a`, 6
+/// replaces it by the number's lowest digit; 7 swaps bits `a` and `b`; 8 copies `count` bits from
+/// `a` to `b`; 9 makes the bits from `a` to before `b` the number's lowest digit.
 #[derive(Clone, Copy)]
 #[repr(C)]
 pub struct PlainRequest {
@@ -44,7 +52,8 @@ pub struct PlainRequest {
 pub struct PlainReply {
     /// The word or the bit, and else 0.
     pub number: u64,
-    /// Which of the five kinds the reply is.
+    /// What the reply is: 0 a word, 1 a bit, 2 that the command is done, 3 that it names a word or a
+    /// bit past the end of its span, 4 that there is no such span.
     pub kind: u8,
 }
 
@@ -100,7 +109,9 @@ pub(crate) fn are_short(spans: &[PlainSpan]) -> bool
 pub(crate) fn are_commands(requests: &[PlainRequest]) -> bool
     ensures { IsTrue result ↔ AreCommands requests.now }
 {
-    requests.iter().all(|request| request.command <= 9)
+    requests
+        .iter()
+        .all(|request| request.command <= LAST_COMMAND)
 }
 
 // The word that a number is with no digits past the word's width.
