@@ -1,6 +1,6 @@
 //! Questions of the words and parts of words that a span meets in a memory.
 
-use bitvec::index::BitIdx;
+use crate::places::pointer_at;
 use bitvec::mem::BitRegister;
 use bitvec::order::BitOrder;
 use bitvec::ptr::span::BitSpan;
@@ -135,7 +135,5 @@ impl<'a, A: Allocator> Call for DomainCall<'a, '_, A> {
 fn span_at<R: BitRegister, O>(start: &str, len: &str) -> Option<BitSpan<R, O>> {
     let start = place(start)?;
     let len = place(len)?;
-    let width = u64::from(R::BITS);
-    let head = BitIdx::new_unchecked((start % width) as u8);
-    BitSpan::new((start / width) as isize, head, len as usize).ok()
+    BitSpan::from_bitptr(pointer_at(start), len as usize).ok()
 }

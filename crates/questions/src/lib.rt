@@ -8,5 +8,6 @@ mod domains;
 mod index;
 mod line;
 mod memories;
+mod places;
 mod pointers;
 pub mod report;

@@ -2,9 +2,24 @@
 
 use std::alloc::{AllocError, Allocator};
 
+/// What a line asks of.
+#[derive(Clone, Copy, Drop)]
+pub enum Topic {
+    /// Indices, ends and masks.
+    Index,
+    /// Pointers, ranges and the refusals of spans.
+    Pointers,
+    /// Bits of memories.
+    Memories,
+    /// The words that a span meets.
+    Domains,
+}
+
 /// A line: what is asked, and the answer.
 #[derive(Drop)]
 pub struct Line<'t, A: Allocator> {
+    /// What it asks of.
+    pub topic: Topic,
     /// The words of the question, after its kind.
     pub question: Vec<&'t str, A>,
     /// The answer's text.
@@ -21,46 +36,53 @@ enum Form {
     Between(&'static str),
 }
 
-// The form of the lines of a kind, or `None` where there is no such kind.
-fn form_of(kind: &str) -> Option<Form> {
-    let form = match kind {
-        "next" | "prev" => Form::Words {
-            asked: 2,
-            before: 2,
-        },
-        "offset" | "span" | "end_span" | "elements" => Form::Words {
-            asked: 3,
-            before: 3,
-        },
-        "mask" => Form::Words {
-            asked: 4,
-            before: 4,
-        },
-        "index_text" => Form::Words {
-            asked: 2,
-            before: 1,
-        },
-        "domain" | "back" | "mixed" | "bit_domain" | "text" => Form::Between(" : "),
-        "span_new" | "step" | "offset_from" | "range" => Form::Between(" -> "),
-        "read" | "write" | "replace" | "swap" | "swap2" | "copy" | "copy2" => {
-            Form::Between(" -> ")
+// What the lines of a kind ask of, and their form; `None` where there is no such kind.
+fn topic_and_form_of(kind: &str) -> Option<(Topic, Form)> {
+    let found = match kind {
+        "next" | "prev" => (Topic::Index, words_of_both(2)),
+        "offset" | "span" | "end_span" | "elements" => (Topic::Index, words_of_both(3)),
+        "mask" => (Topic::Index, words_of_both(4)),
+        "index_text" => (
+            Topic::Index,
+            Form::Words {
+                asked: 2,
+                before: 1,
+            },
+        ),
+        "domain" | "back" | "mixed" | "bit_domain" | "text" => {
+            (Topic::Domains, Form::Between(" : "))
         }
-        "domain_mut" | "partial" => Form::Between(" -> "),
+        "span_new" | "step" | "offset_from" | "range" => (Topic::Pointers, Form::Between(" -> ")),
+        "read" | "write" | "replace" | "swap" | "swap2" | "copy" | "copy2" => {
+            (Topic::Memories, Form::Between(" -> "))
+        }
+        "domain_mut" | "partial" => (Topic::Domains, Form::Between(" -> ")),
         _ => return None,
     };
-    Some(form)
+    Some(found)
+}
+
+// The form of a line whose answer begins behind its question's words, so many.
+fn words_of_both(asked: usize) -> Form {
+    Form::Words {
+        asked,
+        before: asked,
+    }
 }
 
 impl<'t, 'a, A: Allocator> Line<'t, &'a A> {
     /// The line of a kind with this text after it; `None` where there is no such kind, or where the
     /// text has no answer.
     pub fn of(alloc: &'a A, kind: &str, text: &'t str) -> Result<Option<Self>, AllocError> {
-        let (question, answer) = match form_of(kind) {
-            Some(Form::Between(mark)) => match text.split_once(mark) {
+        let Some((topic, form)) = topic_and_form_of(kind) else {
+            return Ok(None);
+        };
+        let (question, answer) = match form {
+            Form::Between(mark) => match text.split_once(mark) {
                 Some((question, answer)) => (words(alloc, question)?, answer),
                 None => return Ok(None),
             },
-            Some(Form::Words { asked, before }) => {
+            Form::Words { asked, before } => {
                 let mut question = words(alloc, text)?;
                 question.truncate(asked);
                 match after_words(text, before) {
@@ -68,9 +90,12 @@ impl<'t, 'a, A: Allocator> Line<'t, &'a A> {
                     None => return Ok(None),
                 }
             }
-            None => return Ok(None),
         };
-        Ok(Some(Line { question, answer }))
+        Ok(Some(Line {
+            topic,
+            question,
+            answer,
+        }))
     }
 }
 

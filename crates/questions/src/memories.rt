@@ -5,7 +5,7 @@ ghost use Rattle.std.specs.Prelude.{IfSome};
 ghost use Rattle.bitvec.specs.BitPtr.{ptr_of};
 ghost use Rattle.bitvec.specs.Steps.{IsIn, RangeIsIn};
 
-use bitvec::index::BitIdx;
+use crate::places::pointer_at;
 use bitvec::mem::BitRegister;
 use bitvec::order::BitOrder;
 use bitvec::ptr::single::BitPtr;
@@ -145,13 +145,6 @@ fn done<R: BitRegister, O: BitOrder<R>>(access: Access, memory: &mut [R]) -> Opt
             Some(Outcome::Memory)
         }
     }
-}
-
-// The pointer to a place.
-fn pointer_at<R: BitRegister, O>(at: u64) -> BitPtr<R, O> {
-    let width = u64::from(R::BITS);
-    let bit = BitIdx::new_unchecked((at % width) as u8);
-    BitPtr::new((at / width) as isize, bit)
 }
 
 // The pointer to a place of a memory of so many words, or `None` where the place is past it.

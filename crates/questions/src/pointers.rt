@@ -1,5 +1,6 @@
 //! Pointers to bits, their ranges, and the refusals of spans.
 
+use crate::places::pointer_at;
 use bitvec::index::BitIdx;
 use bitvec::mem::BitRegister;
 use bitvec::order::BitOrder;
@@ -128,12 +129,38 @@ fn counted_step<R: BitRegister, O: BitOrder<R>>(
 ) -> Option<BitPtr<R, O>> {
     let start = start?;
     let count = count.parse::<usize>().ok()?;
-    match (name, isize::try_from(count)) {
-        ("wrapping_add", _) => Some(start.wrapping_add(count)),
-        ("wrapping_sub", _) => Some(start.wrapping_sub(count)),
-        ("add", Ok(by)) if start.can_offset(by) => Some(start.add(count)),
-        ("sub", Ok(by)) if start.can_offset(-by) => Some(start.sub(count)),
+    match name {
+        "wrapping_add" => Some(start.wrapping_add(count)),
+        "wrapping_sub" => Some(start.wrapping_sub(count)),
+        "add" => added(start, count),
+        "sub" => subtracted(start, count),
         _ => None,
+    }
+}
+
+// The pointer so many bits on, where there is one.
+fn added<R: BitRegister, O: BitOrder<R>>(
+    start: BitPtr<R, O>,
+    count: usize,
+) -> Option<BitPtr<R, O>> {
+    let by = isize::try_from(count).ok()?;
+    if start.can_offset(by) {
+        Some(start.add(count))
+    } else {
+        None
+    }
+}
+
+// The pointer so many bits back, where there is one.
+fn subtracted<R: BitRegister, O: BitOrder<R>>(
+    start: BitPtr<R, O>,
+    count: usize,
+) -> Option<BitPtr<R, O>> {
+    let by = isize::try_from(count).ok()?;
+    if start.can_offset(-by) {
+        Some(start.sub(count))
+    } else {
+        None
     }
 }
 
@@ -215,10 +242,7 @@ fn range_of<R: BitRegister, O: BitOrder<R>>(start: &str, count: &str) -> Option<
 
 // The pointer to the bit at a place.
 fn bit_at<R: BitRegister, O: BitOrder<R>>(place: &str) -> Option<BitPtr<R, O>> {
-    let place = place.parse::<u64>().ok()?;
-    let width = u64::from(R::BITS);
-    let bit = BitIdx::new((place % width) as u8).ok()?;
-    Some(BitPtr::new((place / width) as isize, bit))
+    Some(pointer_at(place.parse::<u64>().ok()?))
 }
 
 // The place of a pointer's bit.

@@ -1,6 +1,6 @@
 //! What the lines of a file come to.
 
-use crate::line::Line;
+use crate::line::{Line, Topic};
 use crate::{domains, index, memories, pointers};
 use std::alloc::{AllocError, Allocator};
 use std::fmt::Write as _;
@@ -87,7 +87,7 @@ fn write_difference<'a, A: Allocator>(
         writeln!(text, "unknown: {kind} {rest}")?;
         return Ok(false);
     };
-    match reply(alloc, kind, &line.question)? {
+    match reply(alloc, line.topic, kind, &line.question)? {
         Some(ours) if ours.as_str() == line.answer => Ok(true),
         Some(ours) => {
             writeln!(text, "differs: {kind} {rest}")?;
@@ -105,20 +105,14 @@ fn write_difference<'a, A: Allocator>(
 // The library's answer to a question, or `None` where it is none.
 fn reply<'a, A: Allocator>(
     alloc: &'a A,
+    topic: Topic,
     kind: &str,
     words: &[&str],
 ) -> Result<Option<String<&'a A>>, AllocError> {
-    match kind {
-        "mask" | "next" | "prev" | "offset" | "index_text" | "span" | "end_span" | "elements" => {
-            index::answer(alloc, kind, words)
-        }
-        "span_new" | "step" | "offset_from" | "range" => pointers::answer(alloc, kind, words),
-        "read" | "write" | "replace" | "swap" | "swap2" | "copy" | "copy2" => {
-            memories::answer(alloc, kind, words)
-        }
-        "domain" | "back" | "mixed" | "bit_domain" | "domain_mut" | "text" | "partial" => {
-            domains::answer(alloc, kind, words)
-        }
-        _ => Ok(None),
+    match topic {
+        Topic::Index => index::answer(alloc, kind, words),
+        Topic::Pointers => pointers::answer(alloc, kind, words),
+        Topic::Memories => memories::answer(alloc, kind, words),
+        Topic::Domains => domains::answer(alloc, kind, words),
     }
 }

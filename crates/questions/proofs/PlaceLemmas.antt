@@ -1,0 +1,61 @@
+-- The word and the index of a place, and the place as numbers of 128 bits make it up.
+use Rattle.std.proofs.Common.{◌≡◌, ℕ, ℤ, pos, negsuc, suc, ◌*◌, ◌<◌, ◌≤◌, ◌/◌, ◌%◌, ◌*ℤ◌, ◌+ℤ◌, Fits, w8, arith, to_z, of_z}
+use Rattle.std.specs.Prelude.{FitsSigned}
+use Rattle.std.specs.Int.{w64, w128}
+use Rattle.std.proofs.lemmas.Nat.{div-add-mod', mod_below}
+use Rattle.std.proofs.lemmas.Int.{ints, to_z-of_z}
+use Rattle.std.proofs.Math.Nat.{mul-le-mul}
+use borrow.Author.Differences.{product_is}
+
+-- the index in a word is below the width
+pub index_below : (at width bits : ℕ) → width ≡ bits → 8 ≤ bits → at % width < bits
+index_below at width bits is low = let below = mod_below at width (omega (arith, is, low)) in omega (arith, is, below)
+
+-- it fits a byte
+pub index_fits : (at width bits : ℕ) → width ≡ bits → 8 ≤ bits → bits ≤ 128 → Fits w8 (at % width)
+index_fits at width bits is low high = let below = index_below at width bits is low in record { fits = omega (arith, below, high) }
+
+-- the word's index fits 64 bits with a sign
+pub word_of_place_fits : (at width : ℕ) → at < 18446744073709551616 → 8 ≤ width → FitsSigned w64 (pos (at / width))
+word_of_place_fits at width h low =
+    let parts = div-add-mod' at width in
+    let same : at / width ≤ at / width = omega arith in
+    let product : (at / width) * 8 ≤ (at / width) * width = mul-le-mul same low in
+    let small : at / width < 9223372036854775808 = omega (arith, parts, product, h) in
+    omega (arith, ints, small)
+
+-- a word's index is a number of 128 bits
+pub word_fits : (word : ℤ) → FitsSigned w64 word → FitsSigned w128 (to_z w64 (of_z w64 word))
+word_fits word f = omega (arith, ints)
+
+-- the word's first place and an index fit
+sum : (word : ℤ) (bits bit : ℕ) → FitsSigned w64 word → bits ≤ 128 → bit < 256 → FitsSigned w128 ((word *ℤ pos bits) +ℤ pos bit)
+sum (pos w) bits bit f h k =
+    let small : w ≤ 9223372036854775807 = omega (arith, ints) in
+    let product : w * bits ≤ 9223372036854775807 * 128 = mul-le-mul small h in
+    omega (arith, ints)
+sum (negsuc w) bits bit f h k =
+    let small : suc w ≤ 9223372036854775808 = omega (arith, ints) in
+    let product : suc w * bits ≤ 9223372036854775808 * 128 = mul-le-mul small h in
+    let whole = product_is (negsuc w) (pos bits) in
+    omega (arith, ints, whole)
+
+module _ (word a : ℤ) (bits : ℕ) (f : FitsSigned w64 word) (is : a ≡ pos bits) (h : bits ≤ 128) where
+  -- the word's first place fits
+  plain : FitsSigned w128 (word *ℤ pos bits)
+  plain = let far = sum word bits 0 f h (omega arith) in omega (arith, ints, far)
+
+  pub product_fits : FitsSigned w128 (to_z w128 (of_z w128 (to_z w64 (of_z w64 word))) *ℤ to_z w128 (of_z w128 a))
+  product_fits =
+      let e : to_z w128 (of_z w128 (to_z w64 (of_z w64 word))) ≡ word = omega (arith, ints) in
+      let d : to_z w128 (of_z w128 a) ≡ pos bits = omega (arith, ints) in
+      rw (e, d) plain
+
+  pub sum_fits : (b : ℤ) (bit : ℕ) → b ≡ pos bit → bit < 256
+      → FitsSigned w128 (to_z w128 (of_z w128 (to_z w128 (of_z w128 (to_z w64 (of_z w64 word))) *ℤ to_z w128 (of_z w128 a))) +ℤ to_z w128 (of_z w128 b))
+  sum_fits b bit q k =
+      let e : to_z w128 (of_z w128 (to_z w64 (of_z w64 word))) ≡ word = omega (arith, ints) in
+      let d : to_z w128 (of_z w128 a) ≡ pos bits = omega (arith, ints) in
+      let l : to_z w128 (of_z w128 b) ≡ pos bit = omega (arith, ints) in
+      let same = to_z-of_z w128 (word *ℤ pos bits) plain in
+      rw (e, d, l, same) (sum word bits bit f h k)

@@ -1,0 +1,12 @@
+//! Places of bits, counted from a memory's first on.
+
+use bitvec::index::BitIdx;
+use bitvec::mem::BitRegister;
+use bitvec::ptr::single::BitPtr;
+
+/// The pointer to the bit at a place.
+pub fn pointer_at<R: BitRegister, O>(at: u64) -> BitPtr<R, O> {
+    let width = u64::from(R::BITS);
+    let bit = BitIdx::new_unchecked((at % width) as u8);
+    BitPtr::new((at / width) as isize, bit)
+}
