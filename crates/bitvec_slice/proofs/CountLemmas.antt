@@ -1,5 +1,5 @@
 -- How many bits of a span are one, by its words.
-use Rattle.std.proofs.Common.{◌≡◌, ◌≢◌, ℕ, zero, suc, ◌+◌, ◌-◌, ◌*◌, ◌/◌, ◌<◌, ◌≤◌, ◌&&◌, Bool, true, false, not, nat_le, List, refl, sym, ap, ◌∙◌, inl, inr, arith}
+use Rattle.std.proofs.Common.{◌≡◌, ◌≢◌, ℕ, zero, suc, ◌+◌, ◌-◌, ◌*◌, ◌/◌, ◌<◌, ◌≤◌, ◌&&◌, Bool, true, false, not, nat_le, List, length, refl, sym, ap, ◌∙◌, inl, inr, arith}
 use Rattle.std.proofs.lemmas.Bool.{cases_eq, cases_Bool, false_from_ne_true, le-leb, lt-leb}
 use Rattle.std.proofs.lemmas.Nat.{div-add-mod', mod_below}
 use Rattle.std.proofs.Math.Nat.{mul-le-mul_right}
@@ -144,3 +144,16 @@ count_both f zero = refl
 count_both f (suc n) =
     let rest = count_both f n in
     elim (cases_Bool (f n)) [ inl is_on ↦ rw is_on (omega (arith, rest)) | inr is_off ↦ rw is_off (omega (arith, rest)) ]
+
+-- the ones of the words up to word k of those met are not many more than the bits of a span
+pub counted_small : (bits head len k total : ℕ) (xs : List Bool) → 0 < bits → k < words_met bits head len → total ≡ count_below (place_test head xs) ((k + 1) * bits) → total ≤ head + len + bits
+counted_small bits head len k total xs some met counted = omega (arith, counted, count_most (place_test head xs) ((k + 1) * bits), met_small bits head len k some met)
+
+-- those of all words met are the span's
+pub counted_all : (bits head len met total : ℕ) (xs : List Bool) → 0 < bits → ((j : ℕ) → len ≤ j → element xs j ≡ false) → length xs ≡ len → met ≡ words_met bits head len → total ≡ count_below (place_test head xs) (met * bits)
+    → total ≡ count_below (element xs) (length xs)
+counted_all bits head len met total xs some past long is counted =
+    counted
+    ∙ ap (λ k. count_below (place_test head xs) (k * bits)) is
+    ∙ count_met bits head len xs some past
+    ∙ ap (count_below (element xs)) (sym long)

@@ -2,6 +2,7 @@
 
 ghost use Rattle.std.specs.Prelude.{◌≡◌, ℕ, ◌+◌, ◌*◌, ◌^◌, ◌<◌, ◌≤◌, ◌↔◌, IsTrue, true, false};
 ghost use Rattle.std.specs.Prelude.{not, length, map, nat_abs, MatchOption};
+ghost use Rattle.bitvec.specs.Digit.{digit, count_below};
 ghost use Rattle.bitvec.specs.Place.{words_met};
 ghost use Rattle.bitvec.specs.Span.{element};
 
@@ -11,22 +12,39 @@ use bitvec::mem::BitRegister;
 use bitvec::order::BitOrder;
 
 impl<'a, R: BitRegister, O: BitOrder<R>> BitSlice<'a, R, O> {
-    ghost use Rattle.bitvec_slice.specs.BitSlice.{slice_memory, slice_span, slice_len, bits_of};
+    ghost use Rattle.bitvec_slice.specs.BitSlice.{slice_memory, slice_span, slice_len, slice_word};
+    ghost use Rattle.bitvec_slice.specs.BitSlice.{bits_of};
     ghost use Rattle.bitvec_slice.specs.Bits.{ones_in, zeros_in, AllAre, IsFirst, IsLast};
     ghost use Rattle.bitvec_slice.specs.Bits.{BeginsWith, EndsWith, AreFree};
     ghost use Rattle.bitvec_slice.specs.Bits.{AllBetween, IsFirstBetween, IsLastBetween};
     ghost use Rattle.bitvec_slice.specs.Words.{HaveDigits};
 
+    // How many bits of the slice in word `k`, counted from its first word, are one.
+    fn ones_in_word(&self, k: usize) -> usize
+        requires { k < words_met R.BITS (slice_span self.now).head (slice_span self.now).len }
+        ensures { result ≡ count_below (digit (slice_word self.now k)) R.BITS }
+    {
+        self.span.part(self.memory, k).load_value().count_ones() as usize
+    }
+
     /// How many bits are one.
     pub fn count_ones(&self) -> usize
         ensures { result ≡ ones_in (bits_of self.now) }
     {
-        let mut total = 0;
-        for k in 0..self.span.elements() {
-            let word = self.span.part(self.memory, k).load_value();
-            total += word.count_ones() as usize;
+        let met = self.span.elements();
+        if met == 0 {
+            return 0;
         }
-        total
+        let mut total = self.ones_in_word(0);
+        if met == 1 {
+            return total;
+        }
+        // Only the first word and the last want a mask.
+        let inner = self.inner_words();
+        for i in 0..inner.len() {
+            total += inner[i].count_ones() as usize;
+        }
+        total + self.ones_in_word(met - 1)
     }
 
     /// How many bits are zero.

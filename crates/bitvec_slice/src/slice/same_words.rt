@@ -13,8 +13,8 @@ use bitvec::index::BitIdx;
 use bitvec::mem::BitRegister;
 use bitvec::order::BitOrder;
 
-// How many words are compared before it is asked whether any differs, so that the compiler compares
-// several at once.
+// How many words are compared before it is asked whether any differs: so many that the compiler
+// writes out the loop, with several words in each step.
 const BLOCK_WORDS: usize = 64;
 
 // Whether two registers have one width, and two orders over them one position for each index.
@@ -101,7 +101,7 @@ impl<'a, R: BitRegister, O: BitOrder<R>> BitSlice<'a, R, O> {
     }
 
     // The words behind the slice's first word and before its last, whose bits are all the slice's.
-    fn inner_words(&self) -> &'a [R]
+    pub(super) fn inner_words(&self) -> &'a [R]
         requires { 2 ≤ words_met R.BITS (slice_span self.now).head (slice_span self.now).len }
         ensures count { length result.now + 2
             ≡ words_met R.BITS (slice_span self.now).head (slice_span self.now).len }
