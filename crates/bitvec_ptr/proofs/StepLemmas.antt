@@ -96,6 +96,30 @@ wide_place bits bit word a b h k f p q =
     let fits : FitsSigned w128 (place_at bits word bit) = omega (arith, ints, far) in
     rw (e, d, l, same) (to_z-of_z w128 (place_at bits word bit) fits)
 
+-- none of the numbers that make it up passes a type of 128 bits
+pub wide_word_fits : (word : ℤ) → FitsSigned w64 word → FitsSigned w128 (to_z w64 (of_z w64 word))
+wide_word_fits word f = omega (arith, ints)
+
+pub wide_product_fits : (bits : ℕ) (word a : ℤ) → bits ≤ 128 → FitsSigned w64 word → a ≡ pos bits
+    → FitsSigned w128 (to_z w128 (of_z w128 (to_z w64 (of_z w64 word))) *ℤ to_z w128 (of_z w128 a))
+wide_product_fits bits word a h f p =
+    let e : to_z w128 (of_z w128 (to_z w64 (of_z w64 word))) ≡ word = omega (arith, ints) in
+    let d : to_z w128 (of_z w128 a) ≡ pos bits = omega (arith, ints) in
+    let product : FitsSigned w128 (word *ℤ pos bits) = fits_signed_mul w128 word (pos bits) 9223372036854775808 128 (omega (arith, ints)) h (lit< tt) in
+    rw (e, d) product
+
+pub wide_sum_fits : (bits bit : ℕ) (word a b : ℤ) → bits ≤ 128 → bit ≤ bits - 1 → FitsSigned w64 word → a ≡ pos bits → b ≡ pos bit
+    → FitsSigned w128 (to_z w128 (of_z w128 (to_z w128 (of_z w128 (to_z w64 (of_z w64 word))) *ℤ to_z w128 (of_z w128 a))) +ℤ to_z w128 (of_z w128 b))
+wide_sum_fits bits bit word a b h k f p q =
+    let e : to_z w128 (of_z w128 (to_z w64 (of_z w64 word))) ≡ word = omega (arith, ints) in
+    let d : to_z w128 (of_z w128 a) ≡ pos bits = omega (arith, ints) in
+    let l : to_z w128 (of_z w128 b) ≡ pos bit = omega (arith, ints) in
+    let product : FitsSigned w128 (word *ℤ pos bits) = fits_signed_mul w128 word (pos bits) 9223372036854775808 128 (omega (arith, ints)) h (lit< tt) in
+    let same = to_z-of_z w128 (word *ℤ pos bits) product in
+    let far = place_far bits bit word h k f in
+    let fits : FitsSigned w128 (place_at bits word bit) = omega (arith, ints, far) in
+    rw (e, d, l, same) fits
+
 -- a quotient by a width of a number of 64 bits
 pub quotient_small : (a b : ℕ) → 8 ≤ b → a < 18446744073709551616 → a / b < 9223372036854775808
 quotient_small a b h k =
