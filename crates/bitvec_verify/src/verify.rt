@@ -281,6 +281,3 @@ where
     verify_for_type::<u64, O>().map_err(VerifyFault::U64)?;
     verify_for_type::<u128, O>().map_err(VerifyFault::U128)
 }
-
-#[cfg(test)]
-mod tests;
