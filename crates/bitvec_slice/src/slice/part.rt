@@ -7,6 +7,7 @@ ghost use Rattle.bitvec.specs.BitSpan.{span_of};
 ghost use Rattle.bitvec.specs.Memory.{memory_bits};
 ghost use Rattle.bitvec.specs.Place.{region_max_bits};
 ghost use Rattle.bitvec.specs.Span.{Fits, element};
+ghost use Rattle.bitvec_slice.specs.SpanStretch.{stretch_of};
 ghost use Rattle.bitvec_slice.specs.Whole.{whole_span};
 
 use crate::slice::{BitSlice, BitSliceMut};
@@ -77,6 +78,17 @@ impl<'a, R: BitRegister, O: BitOrder<R>> BitSlice<'a, R, O> {
         ensures back_len { slice_len result.1 ≡ slice_len self.now - mid }
         ensures front { bits_of result.0 ≡ take mid (bits_of self.now) }
         ensures back { bits_of result.1 ≡ drop mid (bits_of self.now) }
+
+        // Both lie in the same memory, one behind the other.
+        ensures front_memory { slice_memory result.0 ≡ slice_memory self.now }
+        ensures back_memory { slice_memory result.1 ≡ slice_memory self.now }
+        ensures front_span { slice_span result.0 ≡ record {
+          word = (slice_span self.now).word;
+          head = (slice_span self.now).head;
+          len = mid;
+        } }
+        ensures back_span { slice_span result.1
+            ≡ stretch_of R.BITS (slice_span self.now) mid (slice_len self.now) }
     {
         let memory = self.memory;
         let (before, behind) = self.span.split_at(mid);
@@ -98,6 +110,9 @@ impl<'a, R: BitRegister, O: BitOrder<R>> BitSlice<'a, R, O> {
         ensures accepted { IsSome result ↔ ((from ≤ to) × (to ≤ length (bits_of self.now))) }
         ensures bits { IfSome result (λ part. bits_of part
             ≡ slice_range (bits_of self.now) from to) }
+        ensures memory { IfSome result (λ part. slice_memory part ≡ slice_memory self.now) }
+        ensures span { IfSome result (λ part. slice_span part
+            ≡ stretch_of R.BITS (slice_span self.now) from to) }
     {
         if from > to || to > self.len() {
             return None;
