@@ -21,6 +21,12 @@ word_below bits words place some h =
       | inr most ↦ absurd (let row : words * bits ≤ place / bits * bits = mul-le-mul_right bits most in omega (arith, row, h, div-add-mod' place bits))
     ]
 
+-- and a place that lies in one of them is before their end
+pub place_before : (bits words place : ℕ) → 0 < bits → place / bits < words → place + 1 ≤ words * bits
+place_before bits words place some h =
+    let row : (place / bits + 1) * bits ≤ words * bits = mul-le-mul_right bits (omega arith) in
+    omega (arith, row, div-add-mod' place bits)
+
 -- a place that is not behind so many words lies in one of them, or right behind the last
 pub word_most : (bits words place : ℕ) → 0 < bits → place ≤ words * bits → place / bits ≤ words
 word_most bits words place some h =

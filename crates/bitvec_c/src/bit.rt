@@ -7,7 +7,7 @@ ghost use Rattle.bitvec_c.specs.Range.{WritesBit};
 ghost use Rattle.bitvec_c.specs.Status.{ok, range_status};
 
 use crate::range::pointer;
-use crate::status::{LSB0, OK, test_range};
+use crate::status::{LSB0, MSB0, NO_ORDER, OK, OUTSIDE, is_place, test_range};
 use bitvec::mem::BitRegister;
 use bitvec::order::{BitOrder, Lsb0, Msb0};
 
@@ -38,11 +38,15 @@ fn get<R: BitRegister>(order: u8, memory: &[R], place: usize, bit: &mut bool) ->
         ≡ bit_of R.BITS (order_at R.BITS order) (map R.number memory.now) place }
     ensures refused { result ≢ ok → bit.new ≡ bit.old }
 {
-    let status = test_range::<R>(order, memory.len(), place, 1);
-    if status == OK {
-        *bit = read(order, memory, place);
+    // Tested one by one, with no status between: a bit is read in few instructions.
+    if order > MSB0 {
+        return NO_ORDER;
     }
-    status
+    if !is_place::<R>(memory.len(), place) {
+        return OUTSIDE;
+    }
+    *bit = read(order, memory, place);
+    OK
 }
 
 // Writes the bit at a place under the order of a code, and changes no other bit.

@@ -73,6 +73,14 @@ pub(crate) fn test_range<R: BitRegister>(order: u8, words: usize, start: usize, 
     }
 }
 
+/// Whether a place lies in one of so many words.
+pub(crate) fn is_place<R: BitRegister>(words: usize, place: usize) -> bool
+    ensures { IsTrue result ↔ (place + 1 ≤ words * R.BITS) }
+{
+    // A quotient by a width is a shift, and passes no type as a product would.
+    place / usize::from(R::BITS) < words
+}
+
 /// The status of an order and of two ranges of as many bits, each in a memory of its own.
 pub(crate) fn test_ranges<R: BitRegister>(
     order: u8,
