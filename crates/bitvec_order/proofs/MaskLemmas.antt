@@ -1,10 +1,13 @@
 -- The plain mask, one index at a time.
-use Rattle.std.proofs.Common.{◌≡◌, ℕ, zero, suc, ◌+◌, ◌<◌, ◌≤◌, ◌^◌, Bool, false, ◌||◌, if◌then◌else◌, nat_le, bit_or, refl, sym, ap, ◌∙◌, arith}
+use Rattle.std.proofs.Common.{◌≡◌, ℕ, zero, suc, ◌+◌, ◌<◌, ◌≤◌, ◌^◌, Bool, false, ◌||◌, List, [], ◌∷◌, ◌++◌, if◌then◌else◌, nat_le, bit_or, refl, sym, ap, ◌∙◌, arith}
 use Rattle.std.proofs.lemmas.Nat.{or_lt}
 use Rattle.std.proofs.lemmas.Bool.{le-leb, lt-leb}
+use Rattle.std.proofs.lemmas.List.Folds.{list_any-append}
+use Rattle.std.proofs.Math.Bool.{or-false}
 use Rattle.bitvec_mem.specs.Digit.{digit}
 use Rattle.bitvec_mem.specs.SameDigits.{same_from_digits}
 use Rattle.bitvec_mem.proofs.DigitLemmas.{digit-or}
+use Rattle.bitvec_order.specs.Masks.{HasDigits, is_in_some}
 use Rattle.bitvec_order.specs.Order.{number_of, plain_mask_of}
 
 -- a number is the union of two by its digits
@@ -25,3 +28,12 @@ unfolding number_of
 plain_mask_of-next at from i h =
     let next : i + 1 ≡ suc i = omega arith in
     ap (plain_mask_of at from) next ∙ ap (λ b. bit_or (plain_mask_of at from i) (if b then 2 ^ at i else 0)) (le-leb from i h)
+
+-- the union of a list of numbers with one more
+pub union_push : (width m n x : ℕ) (xs : List ℕ) → HasDigits width m (is_in_some xs) → n < 2 ^ width → ((p : ℕ) → p < width → digit n p ≡ (digit m p || digit x p)) → HasDigits width n (is_in_some (xs ++ (x ∷ [])))
+union_push width m n x xs before small digits = record {
+  below = small;
+  digits = λ p h.
+      digits p h ∙ ap (λ b. b || digit x p) (before.digits p h)
+      ∙ sym (list_any-append (λ k. digit k p) xs (x ∷ []) ∙ ap (λ b. is_in_some xs p || b) (or-false (digit x p)));
+}

@@ -42,6 +42,11 @@ powers_first a b h = ap (map (λ p. 2 ^ p)) (range_first a b h)
 pub powers_last : (a b : ℕ) → a < b → map (λ p. 2 ^ p) (range_with_len a (b - a)) ≡ map (λ p. 2 ^ p) (range_with_len a (b - 1 - a)) ++ (2 ^ (b - 1) ∷ [])
 powers_last a b h = ap (map (λ p. 2 ^ p)) (range_last a b h) ∙ map-append (λ p. 2 ^ p) (range_with_len a (b - 1 - a)) ((b - 1) ∷ [])
 
+-- powers of two of a list with one number more
+pub powers_push : (xs ys : List ℕ) (p n : ℕ) → xs ≡ ys ++ (p ∷ []) → n ≡ 2 ^ p → map (λ p. 2 ^ p) xs ≡ map (λ p. 2 ^ p) ys ++ (n ∷ [])
+powers_push xs ys p n e f =
+    ap (map (λ p. 2 ^ p)) e ∙ map-append (λ p. 2 ^ p) ys (p ∷ []) ∙ ap (λ x. map (λ p. 2 ^ p) ys ++ (x ∷ [])) (sym f)
+
 -- the last of a list is one number
 pub last_same : (xs ys : List ℕ) (x y : ℕ) → xs ++ (x ∷ []) ≡ ys ++ (y ∷ []) → x ≡ y
 last_same [] [] x y e = cc

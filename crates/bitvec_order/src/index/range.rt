@@ -41,7 +41,6 @@ impl<R: BitRegister> Model for IdxRange<R> {
 
 impl<R: BitRegister> BitIdx<R> {
     /// The indices from this one to before `upto`, which is not below it.
-    #[tactic(auto, using(crate::proofs::Ranges::run_lengths))]
     pub fn range(self, upto: BitEnd<R>) -> IdxRange<R>
         requires { self ≤ upto }
         ensures items { result ≡ numbers_between self upto }
