@@ -4,7 +4,7 @@ use Rattle.bitvec_order.proofs.index.BitIdx.next.Goals as goal
 
 pub returns-then-self-MASK-clause-moved : goal.returns-then-self-MASK-clause-moved
 returns-then-self-MASK-clause-moved g c =
-    rest_is (c.args.self + 1) g.R.BitRegister.BITS 1 c.MIN.result (omega arith) (omega (arith, g.met.R.BitRegister.mask_is_greatest_index))
+    rest_is (c.args.self + 1) g.R.BitRegister.BITS 1 _ (omega arith) (omega (arith, g.met.R.BitRegister.mask_is_greatest_index))
 
 pub returns-else-self-MASK-clause-moved : goal.returns-else-self-MASK-clause-moved
 returns-else-self-MASK-clause-moved g c =
