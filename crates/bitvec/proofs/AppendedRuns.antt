@@ -40,6 +40,14 @@ AnswersNoSpan-append spans [] ps (r ∷ rs) ts h k = absurd h
 AnswersNoSpan-append spans (q ∷ qs) ps [] ts h k = absurd h
 AnswersNoSpan-append spans (q ∷ qs) ps (r ∷ rs) ts h k = (h.0, AnswersNoSpan-append spans qs ps rs ts h.1 k)
 
+-- with no request nothing changes
+pub run-none : {S : Type 0} (bits : ℕ) (at : ℕ → ℕ) (view : S → Span) (spans : List S) (words : List ℕ) → IsRun bits at view spans words [] [] words
+run-none bits at view spans words = record {
+  own = λ s span is. refl;
+  no_span = tt;
+  placed = record { lists = λ s span is. refl; others = λ place out. refl; as_many_words = refl };
+}
+
 -- one run and another make a longer one
 pub run-more : {S : Type 0} (bits : ℕ) (at : ℕ → ℕ) (view : S → Span) (spans : List S) (old mid new : List ℕ) (qs ps : List (Request ℕ)) (rs ts : List (Reply ℕ))
     → IsRun bits at view spans old qs rs mid → IsRun bits at view spans mid ps ts new → IsRun bits at view spans old (qs ++ ps) (rs ++ ts) new
