@@ -137,7 +137,6 @@ impl<R: BitRegister> Model for EndRange<R> {
 
 impl<R: BitRegister> BitEnd<R> {
     /// The ends from `from` to the width, both included.
-    #[tactic(auto, using(crate::proofs::Ranges::run_lengths))]
     pub fn range_from(from: BitIdx<R>) -> EndRange<R>
         ensures items { result ≡ numbers_between from (R.BITS + 1) }
         ensures count { from + length result ≡ R.BITS + 1 }
