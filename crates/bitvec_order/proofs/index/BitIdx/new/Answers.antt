@@ -2,6 +2,9 @@ use Rattle.std.proofs.Common.{refl, arith}
 use Rattle.std.proofs.lemmas.Bool.{false≢true}
 use Rattle.bitvec_order.proofs.index.BitIdx.new.Goals as goal
 
+pub invariant_of-result : goal.invariant_of-result
+invariant_of-result g c = omega arith
+
 pub returns-then-idx-BITS-clause-accepted : goal.returns-then-idx-BITS-clause-accepted
 returns-then-idx-BITS-clause-accepted g c = (λ _. omega arith, λ _. refl)
 
