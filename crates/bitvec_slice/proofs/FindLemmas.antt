@@ -1,5 +1,6 @@
 -- What a word of a span shows of the span's bits. `bits` is the width of a word.
-use Rattle.std.proofs.Common.{◌≡◌, ℕ, ◌+◌, ◌-◌, ◌*◌, ◌/◌, ◌^◌, ◌<◌, ◌≤◌, ◌&&◌, ◌==◌, Bool, true, false, not, nat_le, nat_lt, List, length, refl, sym, ap, subst, ◌∙◌, inl, inr, arith}
+use Rattle.std.proofs.Common.{◌≡◌, ℕ, ◌+◌, ◌-◌, ◌*◌, ◌/◌, ◌^◌, ◌<◌, ◌≤◌, ◌&&◌, ◌==◌, Bool, true, false, true≢false, not, nat_le, nat_lt, List, [], ◌∷◌, length, slice_get, Option, Some, None, MatchOption, is_some, refl, sym, ap, subst, ◌∙◌, inl, inr, arith}
+use Rattle.std.specs.Bool.{beq}
 use Rattle.std.specs.Prelude.{◌↔◌, IsTrue}
 use Rattle.std.proofs.lemmas.Bool.{cases_eq, cases_lt, eqb-true, eq-eqb, ne_eqb, le-leb, lt-leb, lt-ltb, le-ltb}
 use Rattle.std.proofs.lemmas.List.{get_or_past}
@@ -14,7 +15,7 @@ use Rattle.bitvec.proofs.DigitLemmas.{digit-zero}
 use Rattle.bitvec.proofs.IndexLemmas.{digit-mask_at, digit-number_of_at, same_from_indices}
 use Rattle.bitvec.proofs.PartLemmas.{some_len, inside-from_part, part-from_inside}
 use Rattle.bitvec.proofs.PlaceLemmas.{words_met-some, tail_of-some}
-use Rattle.bitvec_slice.specs.Bits.{AllBetween, IsFirstBetween, IsLastBetween, AreFree}
+use Rattle.bitvec_slice.specs.Bits.{AllAre, AllBetween, IsFirst, IsFirstBetween, IsLastBetween, AreFree}
 
 -- word k of a list under a head is n exactly where none of the list's elements in it is the other than `bit`
 pub record IsLacking (bits : ℕ) (at : ℕ → ℕ) (head len k : ℕ) (bit : Bool) (n : ℕ) : Type 0 where
@@ -156,3 +157,46 @@ not_free_before xs count start one none last k h free =
 pub not_free : (xs : List Bool) (count start : ℕ) → ((k : ℕ) → k < start → ¬ AreFree xs k count) → length xs < start + count → (i : ℕ) → ¬ AreFree xs i count
 not_free xs count start none short i free =
     elim (cases_lt i start) [ inl before ↦ none i before free | inr from ↦ (let room = free.0 in absurd (omega arith)) ]
+
+-- one more element that is not `bit` lies behind those that are not
+pub none_upto : (xs : List Bool) (bit : Bool) (from i : ℕ) → AllBetween (not bit) xs from i → element xs i ≡ not bit → AllBetween (not bit) xs from (i + 1)
+none_upto xs bit from i none here j h k = elim (cases_eq j i) [ inl same ↦ ap (element xs) same ∙ here | inr other ↦ none j h (omega arith) ]
+
+-- one more lies before them
+pub none_from : (xs : List Bool) (bit : Bool) (i upto : ℕ) → AllBetween (not bit) xs (i + 1) upto → element xs i ≡ not bit → AllBetween (not bit) xs i upto
+none_from xs bit i upto none here j h k = elim (cases_eq j i) [ inl same ↦ ap (element xs) same ∙ here | inr other ↦ none j (omega arith) k ]
+
+same_as : (b a : Bool) → beq a b ≡ true → a ≡ b
+same_as true true e = refl
+same_as true false e = e
+same_as false true e = sym e
+same_as false false e = refl
+
+other_than : (b a : Bool) → beq a b ≡ false → a ≡ not b
+other_than true true e = e
+other_than true false e = refl
+other_than false true e = refl
+other_than false false e = sym e
+
+-- an element that was read, and was compared
+pub is_bit : (bit got here : Bool) → got ≡ here → beq got bit ≡ true → here ≡ bit
+is_bit bit got here e same = sym e ∙ same_as bit got same
+
+pub is_other : (bit got here : Bool) → got ≡ here → beq got bit ≡ false → here ≡ not bit
+is_other bit got here e differs = sym e ∙ other_than bit got differs
+
+-- whether there is a first element that is `bit` shows whether all are the other
+pub first_shows : (xs : List Bool) (bit : Bool) (o : Option ℕ) → MatchOption o (AllAre (not bit) xs) (IsFirst bit xs) → (is_some o ≡ false) ↔ AllAre (not bit) xs
+first_shows xs bit None all = ((λ e. all), (λ all. refl))
+first_shows xs true (Some i) first = ((λ e. absurd (true≢false e)), (λ all. absurd (true≢false (sym first.1 ∙ all i first.0))))
+first_shows xs false (Some i) first = ((λ e. absurd (true≢false e)), (λ all. absurd (true≢false (sym (all i first.0) ∙ first.1))))
+
+-- whether there is none shows the same
+pub none_shows : (xs : List Bool) (bit : Bool) (o : Option ℕ) (none : Bool) → is_some o ≡ not none → MatchOption o (AllAre (not bit) xs) (IsFirst bit xs) → IsTrue none ↔ AllAre (not bit) xs
+none_shows xs bit o true e first = ((λ yes. (first_shows xs bit o first).0 e), (λ all. refl))
+none_shows xs bit o false e first = ((λ yes. absurd (true≢false (sym yes))), (λ all. sym ((first_shows xs bit o first).1 all) ∙ e))
+
+-- the first element, where there is one
+pub first_element : (xs : List Bool) → MatchOption (slice_get xs 0) (length xs ≡ 0) (λ bit. (0 < length xs) × (bit ≡ element xs 0))
+first_element [] = refl
+first_element (x ∷ xs) = (omega arith, refl)

@@ -1,5 +1,5 @@
 -- Two lists under one head, compared word by word. `bits` is the width of a word.
-use Rattle.std.proofs.Common.{◌≡◌, ℕ, zero, suc, ◌+◌, ◌-◌, ◌*◌, ◌/◌, ◌%◌, ◌^◌, ◌<◌, ◌≤◌, ◌↔◌, ◌==◌, ◌||◌, ◌&&◌, Bool, true, false, nat_le, nat_lt, bit_or, if◌then◌else◌, List, length, get_or, map, take, drop, refl, sym, ap, subst, ◌∙◌, inl, inr, arith, get_or-drop}
+use Rattle.std.proofs.Common.{◌≡◌, ℕ, zero, suc, ◌+◌, ◌-◌, ◌*◌, ◌/◌, ◌%◌, ◌^◌, ◌<◌, ◌≤◌, ◌↔◌, ◌==◌, ◌||◌, ◌&&◌, Bool, true, false, nat_le, nat_lt, bit_or, if◌then◌else◌, List, [], ◌∷◌, length, get_or, map, take, drop, refl, sym, ap, subst, ◌∙◌, inl, inr, arith, get_or-drop}
 use Rattle.std.specs.Prelude.{IsTrue, nat_abs, slice_index}
 use Rattle.std.proofs.lemmas.Bool.{cases_eq, eqb-true, eq-eqb, ne_eqb, le-leb, lt-ltb}
 use Rattle.std.proofs.lemmas.List.{get_or-take, take-map, drop-map}
@@ -156,3 +156,9 @@ module _ (bits width head index : ℕ) (at other_at : ℕ → ℕ) (xs ys : List
               subst (λ m. digit (word_of bits at head xs m) p ≡ digit (word_of width other_at index ys m) p) e (inner (k - 1) p (omega (arith, h, is, later, between)) small))
         ]
       ])
+
+-- two lists of one length are the same where the first meets no word
+pub same_without_words : (bits head : ℕ) (xs ys : List Bool) → length xs ≡ length ys → words_met bits head (length xs) ≡ 0 → xs ≡ ys
+same_without_words bits head [] [] many none = refl
+same_without_words bits head [] (y ∷ ys) many none = absurd (omega (arith, many))
+same_without_words bits head (x ∷ xs) ys many none = absurd (let some = words_met-some bits head (length (x ∷ xs)) (omega arith) in omega (arith, some, none))

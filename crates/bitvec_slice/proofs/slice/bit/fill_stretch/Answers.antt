@@ -22,3 +22,9 @@ returns-clause-others g c =
     let small : span.head < width = omega (arith, c.args.span.in_word, g.met.R.BitRegister.width_at_least_8) in
     stretch_others width g.O.BitAt.at_of span (span_of c.stretch.result) c.args.from c.args.to (map number old) (map number c.fill.new.memory) small (fits_numbers width span number old c.requires.fits)
     c.requires.ordered c.requires.inside c.stretch.ensures.span c.fill.ensures.others
+
+pub fill-requires : goal.fill-requires
+fill-requires g c = c.stretch.ensures.fit _ c.requires.fits
+
+pub returns-clause-words : goal.returns-clause-words
+returns-clause-words g c = c.fill.ensures.words

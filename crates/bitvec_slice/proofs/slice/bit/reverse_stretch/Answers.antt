@@ -22,3 +22,6 @@ returns-clause-others g c =
     let small : span.head < width = omega (arith, c.args.span.in_word, g.met.R.BitRegister.width_at_least_8) in
     stretch_others width g.O.BitAt.at_of span (span_of c.stretch.result) c.args.from c.args.to (map number old) (map number c.reverse_bits.new.memory) small (fits_numbers width span number old c.requires.fits)
     c.requires.ordered c.requires.inside c.stretch.ensures.span c.reverse_bits.ensures.others
+
+pub reverse_bits-requires : goal.reverse_bits-requires
+reverse_bits-requires g c = record { fits = c.stretch.ensures.fit _ c.requires.fits }

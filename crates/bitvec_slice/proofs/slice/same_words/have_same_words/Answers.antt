@@ -3,7 +3,7 @@ use Rattle.bitvec.specs.Digit.{digit}
 use Rattle.bitvec.specs.Place.{words_met}
 use Rattle.bitvec.proofs.PartLemmas.{length-list_of}
 use Rattle.bitvec_slice.specs.BitSlice.{slice_memory, slice_span, slice_word, bits_of}
-use Rattle.bitvec_slice.proofs.SameWordsLemmas.{met_same, words_from_list, list_from_parts}
+use Rattle.bitvec_slice.proofs.SameWordsLemmas.{met_same, same_without_words, words_from_list, list_from_parts}
 use Rattle.bitvec_slice.proofs.slice.same_words.have_same_words.Goals as goal
 
 pub returns-then-word_number : goal.returns-then-word_number
@@ -95,3 +95,19 @@ returns g c =
           ∙ ap (λ n. digit n p) (words e (w + 1))
           ∙ sym (c.inner_words-2.ensures.digits w p (omega (arith, high, count)) (omega (arith, small, c.requires.width)))),
     )
+
+pub returns-then-met-eq0 : goal.returns-then-met-eq0
+returns-then-met-eq0 g c =
+    let slice = c.args.slice.now in
+    let long = length-list_of g.R.BitRegister.BITS g.O.BitAt.at_of (slice_span slice) (map g.R.BitRegister.number (slice_memory slice)) in
+    let none = ap (words_met g.R.BitRegister.BITS (slice_span slice).head) long ∙ sym c.elements-met.ensures.value ∙ c.if-met-eq0.true in
+    ((λ yes. same_without_words g.R.BitRegister.BITS (slice_span slice).head (bits_of slice) (bits_of c.args.other.now) c.requires.many none), λ e. refl)
+
+pub word_number-requires-2 : goal.word_number-requires-2
+word_number-requires-2 g c =
+    let slice = c.args.slice.now in
+    let other = c.args.other.now in
+    let long = length-list_of g.R.BitRegister.BITS g.O.BitAt.at_of (slice_span slice) (map g.R.BitRegister.number (slice_memory slice)) in
+    let other_long = length-list_of g.R2.BitRegister.BITS g.O2.BitAt.at_of (slice_span other) (map g.R2.BitRegister.number (slice_memory other)) in
+    let same = met_same g.R.BitRegister.BITS g.R2.BitRegister.BITS (slice_span slice).head (slice_span other).head (slice_span slice).len (slice_span other).len c.requires.width c.requires.head (omega (arith, long, other_long, c.requires.many)) in
+    omega (arith, same, c.elements-met.ensures.value, c.if-met-eq0.false)
