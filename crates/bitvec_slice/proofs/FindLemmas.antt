@@ -185,6 +185,11 @@ is_bit bit got here e same = sym e ∙ same_as bit got same
 pub is_other : (bit got here : Bool) → got ≡ here → beq got bit ≡ false → here ≡ not bit
 is_other bit got here e differs = sym e ∙ other_than bit got differs
 
+-- the first of the elements before the list's end is the first of all
+pub first_of_all : (xs : List Bool) (bit : Bool) (end : ℕ) (o : Option ℕ) → end ≡ length xs → MatchOption o (AllBetween (not bit) xs 0 end) (IsFirstBetween bit xs 0 end) → MatchOption o (AllAre (not bit) xs) (IsFirst bit xs)
+first_of_all xs bit end None e none = λ j h. none j (omega arith) (omega arith)
+first_of_all xs bit end (Some i) e first = let below = first.1 in (omega arith, first.2, (λ j h. first.3 j (omega arith) h))
+
 -- whether there is a first element that is `bit` shows whether all are the other
 pub first_shows : (xs : List Bool) (bit : Bool) (o : Option ℕ) → MatchOption o (AllAre (not bit) xs) (IsFirst bit xs) → (is_some o ≡ false) ↔ AllAre (not bit) xs
 first_shows xs bit None all = ((λ e. all), (λ all. refl))

@@ -1,7 +1,7 @@
 -- Two lists under one head, compared word by word. `bits` is the width of a word.
 use Rattle.std.proofs.Common.{◌≡◌, ℕ, zero, suc, ◌+◌, ◌-◌, ◌*◌, ◌/◌, ◌%◌, ◌^◌, ◌<◌, ◌≤◌, ◌↔◌, ◌==◌, ◌||◌, ◌&&◌, Bool, true, false, nat_le, nat_lt, bit_or, if◌then◌else◌, List, [], ◌∷◌, length, get_or, map, take, drop, refl, sym, ap, subst, ◌∙◌, inl, inr, arith, get_or-drop}
 use Rattle.std.specs.Prelude.{IsTrue, nat_abs, slice_index}
-use Rattle.std.proofs.lemmas.Bool.{cases_eq, eqb-true, eq-eqb, ne_eqb, le-leb, lt-ltb}
+use Rattle.std.proofs.lemmas.Bool.{cases_eq, cases_lt, eqb-true, eq-eqb, ne_eqb, le-leb, lt-ltb}
 use Rattle.std.proofs.lemmas.List.{get_or-take, take-map, drop-map}
 use Rattle.std.proofs.lemmas.Nat.{div-add-mod', le-div, mod_below, pow_pos}
 use Rattle.bitvec.specs.Digit.{digit, exclusive_or}
@@ -162,3 +162,11 @@ pub same_without_words : (bits head : ℕ) (xs ys : List Bool) → length xs ≡
 same_without_words bits head [] [] many none = refl
 same_without_words bits head [] (y ∷ ys) many none = absurd (omega (arith, many))
 same_without_words bits head (x ∷ xs) ys many none = absurd (let some = words_met-some bits head (length (x ∷ xs)) (omega arith) in omega (arith, some, none))
+
+-- where the words before word `mid` are the same, all are where the others are
+pub same_behind : (bits : ℕ) (words other : List ℕ) (mid count len : ℕ) (test : Bool) → HaveSameDigits bits words other 0 mid → mid + count ≡ len
+    → IsTrue test ↔ HaveSameDigits bits words other mid (mid + count) → IsTrue test ↔ HaveSameDigits bits words other 0 len
+same_behind bits words other mid count len test before all rest = (
+  (λ yes w p low high small. elim (cases_lt w mid) [ inl less ↦ before w p low less small | inr most ↦ rest.0 yes w p most (omega arith) small ]),
+  (λ same. rest.1 (λ w p low high small. same w p (omega arith) (omega arith) small)),
+)
