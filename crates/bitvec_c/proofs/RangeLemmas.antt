@@ -1,17 +1,17 @@
 -- Ranges by places, and the words that they meet.
-use Rattle.std.proofs.Common.{w64, to_z, ◌≡◌, ℕ, ◌+◌, ◌-◌, ◌*◌, ◌/◌, ◌%◌, ◌<◌, ◌≤◌, sym, ap, subst, ◌∙◌, inl, inr, arith}
+use Rattle.std.proofs.Common.{w64, to_z, ◌≡◌, ℕ, ◌+◌, ◌-◌, ◌*◌, ◌/◌, ◌%◌, ◌<◌, ◌≤◌, Bool, List, length, replicate, sym, ap, subst, ◌∙◌, inl, inr, arith}
 use Rattle.std.specs.Prelude.{pos, ◌+ℤ◌, ◌≤ℤ◌}
 use Rattle.std.specs.Int.{int_div_euclid}
 use Rattle.std.proofs.lemmas.Bool.{cases_eq, cases_lt}
 use Rattle.std.proofs.lemmas.Int.{ints}
 use Rattle.std.proofs.lemmas.Nat.{div-add-mod', mod_below}
 use Rattle.std.proofs.Math.Nat.{mul-le-mul_right}
-use Rattle.bitvec.specs.Place.{Ptr, place_at, words_met, region_max_bits}
-use Rattle.bitvec.specs.Span.{Span, Fits}
-use Rattle.bitvec.specs.Steps.{RangeIsIn}
+use Rattle.bitvec.specs.Place.{Ptr, index_of, place_at, words_met, region_max_bits}
+use Rattle.bitvec.specs.Span.{Span, Fits, KeepsOthers, list_of}
+use Rattle.bitvec.specs.Steps.{IsIn, RangeIsIn}
 use Rattle.bitvec.proofs.MemoryLemmas.{place_parts}
 use Rattle.bitvec.proofs.PlaceLemmas.{words_met-none, words_met-some, floor_place}
-use Rattle.bitvec_c.specs.Range.{place_ptr, range_span}
+use Rattle.bitvec_c.specs.Range.{place_ptr, range_span, RangeBecomes}
 
 -- a place before the end of so many words lies in one of them
 pub word_below : (bits words place : ℕ) → 0 < bits → place < words * bits → place / bits < words
@@ -67,6 +67,15 @@ pointer_is bits width place bit p e wide h is_bit is =
     let word = word_is bits width place e wide h in
     is ∙ ap (λ z. record { word = z; bit = bit }) word ∙ ap (λ n. record { word = pos (place / bits); bit = n }) (is_bit ∙ ap (λ n. place % n) e)
 
+-- where a place is, by the pointer to it, and that it lies in the memory
+pub pointer_index : (bits place : ℕ) (p : Ptr) → p ≡ place_ptr bits place → index_of bits p ≡ place
+pointer_index bits place p is = subst (λ (q : Ptr). index_of bits q ≡ place) (sym is) (omega (arith, div-add-mod' place bits))
+
+pub pointer_in : (bits words place : ℕ) (p : Ptr) → 0 < bits → p ≡ place_ptr bits place → place < words * bits → IsIn p words
+pointer_in bits words place p some is h =
+    let below = word_below bits words place some h in
+    subst (λ (q : Ptr). IsIn q words) (sym is) (omega (arith, ints), omega (arith, ints, below))
+
 -- a range that ends within a memory, from the pointer to its first bit
 pub range_in : (bits words start count : ℕ) (p : Ptr) → 0 < bits → p ≡ place_ptr bits start → start + count ≤ words * bits → RangeIsIn bits p words count
 range_in bits words start count p some is h =
@@ -96,3 +105,9 @@ end_low bits width start count head e wide h short is_head =
     let index : head < bits = omega (arith, is_head, e, mod_below start width (omega arith)) in
     let more = word_most bits 2305843009213693953 (head + count) some (omega (arith, index, short, wide)) in
     rw (word, floor_place bits (pos (start / bits)) head count some) (omega (arith, ints, first, more))
+
+-- a range whose span was made the same
+pub range_filled : (bits : ℕ) (at : ℕ → ℕ) (start count : ℕ) (bit : Bool) (s : Span) (old new : List ℕ) → s ≡ range_span bits start count
+    → list_of bits at s new ≡ replicate s.len bit → KeepsOthers bits at s old new → length new ≡ length old → RangeBecomes bits at start count (replicate count bit) old new
+range_filled bits at start count bit s old new is list others words =
+    (subst (λ (t : Span). list_of bits at t new ≡ replicate t.len bit) is list, subst (λ (t : Span). KeepsOthers bits at t old new) is others, words)

@@ -1,5 +1,5 @@
 -- Runs of one request through one span, and of requests by plain numbers.
-use Rattle.std.proofs.Common.{◌≡◌, ℕ, ◌+◌, ◌<◌, List, [], ◌∷◌, length, get_or, take, refl, sym, ap, subst, ◌∙◌, arith}
+use Rattle.std.proofs.Common.{◌≡◌, ℕ, ◌+◌, ◌<◌, ◌≤◌, List, [], ◌∷◌, length, get_or, take, take_all, refl, sym, ap, subst, ◌∙◌, arith}
 use Rattle.std.proofs.lemmas.Int.{ints}
 use Rattle.std.specs.Prelude.{pos, slice_set}
 use Rattle.std.proofs.lemmas.List.{take_more, take_more_set, map_push}
@@ -78,3 +78,9 @@ plain_more bits at spans old mid new requests replies n none reply h k so_far la
   run = rw (take_more requests n none h, take_more_set replies n reply k, map_push, map_push) (run-more bits at (plain_span bits) spans old mid new _ _ _ _ so_far.run last.run);
   plain = rw (take_more_set replies n reply k) (All-append IsPlainReply (take n replies) (reply ∷ []) so_far.plain last.plain);
 }
+
+-- all requests are run
+pub plain_all : (bits : ℕ) (at : ℕ → ℕ) (spans : List PlainSpan) (old new : List ℕ) (requests : List PlainRequest) (replies : List PlainReply) (n : ℕ)
+    → length requests ≤ n → length replies ≤ n → IsPlainRun bits at spans old (take n requests) (take n replies) new → IsPlainRun bits at spans old requests replies new
+plain_all bits at spans old new requests replies n h k is =
+    subst (λ rs. IsPlainRun bits at spans old requests rs new) (take_all n replies k) (subst (λ qs. IsPlainRun bits at spans old qs (take n replies) new) (take_all n requests h) is)

@@ -1,6 +1,8 @@
-use Rattle.std.proofs.Common.{map, arith}
+use Rattle.std.proofs.Common.{◌≡◌, ℕ, length, map, subst, arith}
+use Rattle.bitvec.specs.Run.{CanRun}
+use Rattle.bitvec_c.specs.Plain.{plain_span}
 use Rattle.bitvec_c.specs.declared.plain.PlainRequest.{PlainRequest}
-use Rattle.bitvec_c.proofs.RunLemmas.{plain_more}
+use Rattle.bitvec_c.proofs.RunLemmas.{plain_more, plain_all}
 use Rattle.bitvec_c.proofs.run.run_in.Goals as goal
 
 pub loop-n-preserved : goal.loop-n-preserved
@@ -9,3 +11,20 @@ loop-n-preserved g c =
     let none : PlainRequest = record { span = 0; a = 0; b = 0; count = 0; number = 0; command = 0 } in
     plain_more g.R.BitRegister.BITS g.O.BitAt.at_of c.args.spans.now (map number c.args.memory.now) (map number c.loop-n.memory) (map number c.serve.new.memory) c.args.requests.now c.loop-n.replies c.loop-n.n none c.serve.result
     (omega arith) (omega arith) c.loop-n.invariant c.serve.ensures
+
+pub serve-requires-clause-can_run : goal.serve-requires-clause-can_run
+serve-requires-clause-can_run g c =
+    let width = g.R.BitRegister.BITS in
+    let long : length c.args.memory.now ≡ length c.loop-n.memory = omega (arith, c.loop-n.auto.memory) in
+    subst (λ (n : ℕ). CanRun width (plain_span width) c.args.spans.now n) long c.requires.can_run
+
+pub serve-requires-clause-command : goal.serve-requires-clause-command
+serve-requires-clause-command g c =
+    let none : PlainRequest = record { span = 0; a = 0; b = 0; count = 0; number = 0; command = 0 } in
+    c.requires.commands c.loop-n.n none (omega arith)
+
+pub returns : goal.returns
+returns g c =
+    let number = g.R.BitRegister.number in
+    plain_all g.R.BitRegister.BITS g.O.BitAt.at_of c.args.spans.now (map number c.args.memory.now) (map number c.loop-n.memory) c.args.requests.now c.loop-n.replies c.loop-n.n
+    (omega (arith, c.loop-n-test.false)) (omega (arith, c.loop-n-test.false, c.requires.replies, c.loop-n.auto.replies)) c.loop-n.invariant

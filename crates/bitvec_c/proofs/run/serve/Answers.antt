@@ -1,15 +1,26 @@
-use Rattle.std.proofs.Common.{ℕ, [], ◌∷◌, get_or, map, sym, subst, arith}
+use Rattle.std.proofs.Common.{ℕ, [], ◌∷◌, get_or, length, map, sym, subst, arith}
 use Rattle.std.proofs.lemmas.List.{length-map}
 use Rattle.std.proofs.lemmas.Option.{slice_get-get_or}
 use Rattle.bitvec.specs.BitSpan.{span_of}
 use Rattle.bitvec.specs.Commands.{command_number, reply_number}
 use Rattle.bitvec.specs.Run.{CanRun, IsRun}
+use Rattle.bitvec.specs.Span.{Span, Fits}
 use Rattle.bitvec.specs.declared.run.command.Reply.{Reply}
 use Rattle.bitvec.proofs.RequestLemmas.{run-one, run-no_span}
 use Rattle.bitvec_c.specs.Plain.{plain_span, plain_command, plain_request, reply_of}
 use Rattle.bitvec_c.specs.declared.plain.PlainSpan.{PlainSpan}
 use Rattle.bitvec_c.proofs.RunLemmas.{step_as, one_plain}
 use Rattle.bitvec_c.proofs.run.serve.Goals as goal
+
+pub span-own-requires : goal.span-own-requires
+span-own-requires g c =
+    let none : PlainSpan = record { start = 0; count = 0 } in
+    c.requires.short c.args.request.now.span none (omega arith)
+
+pub step-requires-clause-fits : goal.step-requires-clause-fits
+step-requires-clause-fits g c =
+    let none : PlainSpan = record { start = 0; count = 0 } in
+    subst (λ (s : Span). Fits g.R.BitRegister.BITS s (length c.args.memory.now)) (sym c.span-own.ensures.span) (c.requires.can_run.0 c.args.request.now.span none (omega arith))
 
 pub returns-then-request-spans : goal.returns-then-request-spans
 returns-then-request-spans g c =
