@@ -1,5 +1,10 @@
-use Rattle.bitvec_c.proofs.OrderLemmas.{last_order}
+use Rattle.bitvec_c.proofs.OrderLemmas.{first_order, last_order}
 use Rattle.bitvec_c.proofs.fill.fill_range.Goals as goal
+
+pub returns-then-order-eq-LSB0 : goal.returns-then-order-eq-LSB0
+returns-then-order-eq-LSB0 g c =
+    let is = first_order g.R.BitRegister.BITS c.args.order c.if-order-eq-LSB0.true in
+    rw is c.fill_in.ensures
 
 pub returns-else-order-eq-LSB0 : goal.returns-else-order-eq-LSB0
 returns-else-order-eq-LSB0 g c =
