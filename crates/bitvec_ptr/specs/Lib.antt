@@ -1,5 +1,6 @@
 pub mod BitPtr
 pub mod BitPtrRange
+pub mod Copies
 pub mod Memory
 pub mod Place
 pub mod PtrRange

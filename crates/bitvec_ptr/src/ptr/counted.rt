@@ -6,6 +6,7 @@
 ghost use Rattle.std.specs.Prelude.{◌≡◌, ℕ, ◌+◌, ◌-◌, ◌*◌, ◌<◌, ◌≤◌, ◌⊎◌, true, false, length, map};
 ghost use Rattle.std.specs.Prelude.{slice_index};
 ghost use Rattle.bitvec_mem.specs.Digit.{digit};
+ghost use Rattle.bitvec_ptr.specs.Copies.{HasCopied};
 ghost use Rattle.bitvec_ptr.specs.Memory.{bit_of, memory_bits, list_with_copy};
 ghost use Rattle.bitvec_ptr.specs.Place.{words_met};
 ghost use Rattle.bitvec_ptr.specs.Shifts.{Allows};
@@ -549,21 +550,9 @@ fn copy_one_way<R: BitRegister, O: BitOrder<R>, R2: BitRegister, O2: BitOrder<R2
     requires rising { (writer_of writer.old).rising ≡ true → (writer_of writer.old).mark ≡ to.word }
     requires falling { (writer_of writer.old).rising ≡ false → (writer_of writer.old).mark
         ≡ to.word + words_met R2.BITS to.bit count }
-    ensures reference { (writer_memory writer.new).ghost_name
-        ≡ (writer_memory writer.old).ghost_name }
-    ensures direction { (writer_of writer.new).rising ≡ (writer_of writer.old).rising }
-    ensures len { length (writer_of writer.new).words ≡ length (writer_of writer.old).words }
-    ensures writes { (writer_of writer.new).writes
-        ≡ (writer_of writer.old).writes + words_met R2.BITS to.bit count }
-    ensures rising_mark { (writer_of writer.old).rising ≡ true → (writer_of writer.new).mark
-        ≡ to.word + words_met R2.BITS to.bit count }
-    ensures falling_mark { (writer_of writer.old).rising ≡ false → (writer_of writer.new).mark
-        ≡ to.word }
-    ensures bits { memory_bits R2.BITS O2.at_of (map R2.number (writer_of writer.new).words)
-        ≡ list_with_copy (memory_bits R.BITS O.at_of (map R.number source.now))
-        (from.word * R.BITS + from.bit)
-        (memory_bits R2.BITS O2.at_of (map R2.number (writer_of writer.old).words))
-        (to.word * R2.BITS + to.bit) count }
+    ensures { HasCopied R.BITS O.at_of R.number source.now
+        (from.word * R.BITS + from.bit) R2.BITS O2.at_of R2.number writer.old writer.new
+        (to.word * R2.BITS + to.bit) count to.word (words_met R2.BITS to.bit count) }
 {
     if writer.is_rising() {
         copy_up::<R, O, R2, O2>(way, source, from, writer, to, count);
@@ -590,21 +579,9 @@ pub(super) fn copy_across<R: BitRegister, O: BitOrder<R>, R2: BitRegister, O2: B
     requires rising { (writer_of writer.old).rising ≡ true → (writer_of writer.old).mark ≡ to.word }
     requires falling { (writer_of writer.old).rising ≡ false → (writer_of writer.old).mark
         ≡ to.word + words_met R2.BITS to.bit count }
-    ensures reference { (writer_memory writer.new).ghost_name
-        ≡ (writer_memory writer.old).ghost_name }
-    ensures direction { (writer_of writer.new).rising ≡ (writer_of writer.old).rising }
-    ensures len { length (writer_of writer.new).words ≡ length (writer_of writer.old).words }
-    ensures writes { (writer_of writer.new).writes
-        ≡ (writer_of writer.old).writes + words_met R2.BITS to.bit count }
-    ensures rising_mark { (writer_of writer.old).rising ≡ true → (writer_of writer.new).mark
-        ≡ to.word + words_met R2.BITS to.bit count }
-    ensures falling_mark { (writer_of writer.old).rising ≡ false → (writer_of writer.new).mark
-        ≡ to.word }
-    ensures bits { memory_bits R2.BITS O2.at_of (map R2.number (writer_of writer.new).words)
-        ≡ list_with_copy (memory_bits R.BITS O.at_of (map R.number source.now))
-        (from.word * R.BITS + from.bit)
-        (memory_bits R2.BITS O2.at_of (map R2.number (writer_of writer.old).words))
-        (to.word * R2.BITS + to.bit) count }
+    ensures { HasCopied R.BITS O.at_of R.number source.now
+        (from.word * R.BITS + from.bit) R2.BITS O2.at_of R2.number writer.old writer.new
+        (to.word * R2.BITS + to.bit) count to.word (words_met R2.BITS to.bit count) }
 {
     match way_of::<R, O, R2, O2>(from.bit, to.bit) {
         Way::Whole => {
@@ -645,19 +622,9 @@ fn move_one_way<R: BitRegister, O: BitOrder<R>>(
     requires rising { (writer_of writer.old).rising ≡ true → (writer_of writer.old).mark ≡ to.word }
     requires falling { (writer_of writer.old).rising ≡ false → (writer_of writer.old).mark
         ≡ to.word + words_met R.BITS to.bit count }
-    ensures reference { (writer_memory writer.new).ghost_name
-        ≡ (writer_memory writer.old).ghost_name }
-    ensures direction { (writer_of writer.new).rising ≡ (writer_of writer.old).rising }
-    ensures len { length (writer_of writer.new).words ≡ length (writer_of writer.old).words }
-    ensures writes { (writer_of writer.new).writes
-        ≡ (writer_of writer.old).writes + words_met R.BITS to.bit count }
-    ensures rising_mark { (writer_of writer.old).rising ≡ true → (writer_of writer.new).mark
-        ≡ to.word + words_met R.BITS to.bit count }
-    ensures falling_mark { (writer_of writer.old).rising ≡ false → (writer_of writer.new).mark
-        ≡ to.word }
-    ensures bits { let old = memory_bits R.BITS O.at_of (map R.number (writer_of writer.old).words)
-        in memory_bits R.BITS O.at_of (map R.number (writer_of writer.new).words)
-        ≡ list_with_copy old (from.word * R.BITS + from.bit) old (to.word * R.BITS + to.bit) count }
+    ensures { HasCopied R.BITS O.at_of R.number (writer_of writer.old).words
+        (from.word * R.BITS + from.bit) R.BITS O.at_of R.number writer.old writer.new
+        (to.word * R.BITS + to.bit) count to.word (words_met R.BITS to.bit count) }
 {
     if writer.is_rising() {
         move_down::<R, O>(way, from, writer, to, count);
@@ -687,19 +654,9 @@ pub(super) fn move_across<R: BitRegister, O: BitOrder<R>>(
     requires rising { (writer_of writer.old).rising ≡ true → (writer_of writer.old).mark ≡ to.word }
     requires falling { (writer_of writer.old).rising ≡ false → (writer_of writer.old).mark
         ≡ to.word + words_met R.BITS to.bit count }
-    ensures reference { (writer_memory writer.new).ghost_name
-        ≡ (writer_memory writer.old).ghost_name }
-    ensures direction { (writer_of writer.new).rising ≡ (writer_of writer.old).rising }
-    ensures len { length (writer_of writer.new).words ≡ length (writer_of writer.old).words }
-    ensures writes { (writer_of writer.new).writes
-        ≡ (writer_of writer.old).writes + words_met R.BITS to.bit count }
-    ensures rising_mark { (writer_of writer.old).rising ≡ true → (writer_of writer.new).mark
-        ≡ to.word + words_met R.BITS to.bit count }
-    ensures falling_mark { (writer_of writer.old).rising ≡ false → (writer_of writer.new).mark
-        ≡ to.word }
-    ensures bits { let old = memory_bits R.BITS O.at_of (map R.number (writer_of writer.old).words)
-        in memory_bits R.BITS O.at_of (map R.number (writer_of writer.new).words)
-        ≡ list_with_copy old (from.word * R.BITS + from.bit) old (to.word * R.BITS + to.bit) count }
+    ensures { HasCopied R.BITS O.at_of R.number (writer_of writer.old).words
+        (from.word * R.BITS + from.bit) R.BITS O.at_of R.number writer.old writer.new
+        (to.word * R.BITS + to.bit) count to.word (words_met R.BITS to.bit count) }
 {
     match way_of::<R, O, R, O>(from.bit, to.bit) {
         Way::Whole => {
