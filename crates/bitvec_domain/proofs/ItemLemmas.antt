@@ -1,8 +1,9 @@
 -- The items of a span's parts are the words of its list.
-use Rattle.std.proofs.Common.{◌≡◌, ◌⊎◌, ℕ, suc, ◌+◌, ◌-◌, ◌*◌, ◌/◌, zero-le, ◌<◌, ◌≤◌, ◌^◌, ◌==◌, Bool, true, false, ◌&&◌, nat_le, nat_lt, if◌then◌else◌, List, [], ◌∷◌, ◌++◌, length, map, take, drop, Some, None, refl, sym, ap, ◌∙◌, inl, inr, arith, append-nil, append_assoc}
-use Rattle.std.specs.Prelude.{nat_abs, slice_index, slice_range}
+use Rattle.std.proofs.Common.{◌≡◌, ◌⊎◌, ℕ, suc, ◌+◌, ◌-◌, ◌*◌, ◌/◌, zero-le, ◌<◌, ◌≤◌, ◌^◌, ◌==◌, Bool, true, false, ◌&&◌, nat_le, nat_lt, if◌then◌else◌, List, [], ◌∷◌, ◌++◌, length, map, take, drop, Option, Some, None, refl, sym, ap, ◌∙◌, inl, inr, arith, append-nil, append_assoc}
+use Rattle.std.specs.Prelude.{nat_abs, slice_index, slice_range, is_some}
+use mir.Val.{bool_byte}
 use Rattle.std.specs.List.{range_with_len}
-use Rattle.std.proofs.lemmas.List.{map-append, same_lists, length-map, get_or-map, get_or-take, get_or-drop}
+use Rattle.std.proofs.lemmas.List.{map-append, length-append, same_lists, length-map, get_or-map, get_or-take, get_or-drop}
 use Rattle.std.proofs.lemmas.List.FromFn.{length-map-range_with_len, get_or-map-range_with_len, map-range_with_len_more}
 use Rattle.std.proofs.Common.{length-drop, length-take-le}
 use Rattle.std.proofs.lemmas.Nat.{div-add-mod', le-div}
@@ -15,7 +16,8 @@ use Rattle.bitvec_ptr.specs.Place.{words_met, tail_of}
 use Rattle.bitvec_ptr.proofs.PlaceLemmas.{words_met-none, words_met-some, tail_of-some}
 use Rattle.bitvec_ptr.proofs.MemoryLemmas.{tabulate_same}
 use Rattle.bitvec_domain.specs.Span.{Span, Fits, list_of, word_of, words_of, region_max_bits}
-use Rattle.bitvec_domain.specs.Parts.{Part, Parts, enclave, region, whole_part, value_of, part_head, part_tail, part_of, parts_of, items, HasShortBody}
+use Rattle.bitvec_domain.specs.Parts.{Part, Parts, enclave, region, whole_part, value_of, part_head, part_tail, part_of, parts_of, items, part_items, HasShortBody}
+use Rattle.bitvec_domain.proofs.WordsLemmas.{quotient_most}
 use Rattle.bitvec_domain.proofs.PartLemmas.{part_same, value_of-part_of, length-list_of}
 
 -- a whole word is its own value
@@ -203,3 +205,25 @@ items_last bits at number before body word value =
     ap (λ xs. before ++ xs) (append-nil _ ∙ ap (map f) (map-append number body (word ∷ [])) ∙ map-append f (map number body) (number word ∷ []) ∙ ap (λ v. map f (map number body) ++ (v ∷ [])) value)
     ∙ sym (append_assoc before (map f (map number body)) (number word ∷ []))
     ∙ ap (λ xs. (before ++ xs) ++ (number word ∷ [])) (sym (append-nil _))
+
+-- how many items there are
+length-part_items : (bits : ℕ) (at : ℕ → ℕ) (part : Option Part) (b : Bool) → is_some part ≡ b → bool_byte b ≡ length (part_items bits at part)
+length-part_items bits at (Some part) b e = ap bool_byte (sym e)
+length-part_items bits at None b e = ap bool_byte (sym e)
+
+pub length-items_region : {X : Type 0} (bits : ℕ) (at : ℕ → ℕ) (number : X → ℕ) (head : Option Part) (body : List X) (tail : Option Part) (a b : Bool) → is_some head ≡ a → is_some tail ≡ b → bool_byte a + length body + bool_byte b ≡ length (items bits at (region head (map number body) tail))
+length-items_region bits at number head body tail a b first last =
+    let values = map (λ w. value_of bits at (whole_part bits w)) (map number body) in
+    let long : length values ≡ length body = length-map (map number body) _ ∙ length-map body number in
+    omega (arith, long, length-part_items bits at head a first, length-part_items bits at tail b last, length-append (part_items bits at head) (values ++ part_items bits at tail), length-append values (part_items bits at tail))
+
+-- and that so many can be counted, where the body is short
+byte_most : (b : Bool) → bool_byte b ≤ 1
+byte_most true = omega arith
+byte_most false = omega arith
+
+pub region_fits : {X : Type 0} (bits : ℕ) (number : X → ℕ) (head : Option Part) (body : List X) (tail : Option Part) (parts : Parts) (a b : Bool) → 8 ≤ bits → parts ≡ region head (map number body) tail → HasShortBody bits parts → bool_byte a + length body + bool_byte b < 2 ^ 64
+region_fits bits number head body tail parts a b wide is short =
+    let within : length (map number body) ≤ region_max_bits / bits = rw is at short in
+    let most = quotient_most region_max_bits bits (omega arith) in
+    omega (arith, within, most, length-map body number, byte_most a, byte_most b)

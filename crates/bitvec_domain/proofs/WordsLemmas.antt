@@ -1,11 +1,11 @@
 -- Bits in words of their own.
-use Rattle.std.proofs.Common.{◌≡◌, ℕ, ◌+◌, ◌-◌, ◌*◌, ◌/◌, ◌<◌, ◌≤◌, Bool, List, length, map, take, drop, Some, ap, ◌∙◌, sym, inl, inr, arith, length-drop, length-take-le}
+use Rattle.std.proofs.Common.{◌≡◌, ℕ, ◌+◌, ◌-◌, ◌*◌, ◌/◌, ◌%◌, ◌<◌, ◌≤◌, Bool, List, length, map, take, drop, Some, ap, ◌∙◌, sym, inl, inr, arith, length-drop, length-take-le}
 use Rattle.std.specs.Prelude.{slice_get, slice_range}
 use Rattle.std.proofs.lemmas.List.{length-map}
 use Rattle.std.proofs.lemmas.Bool.{cases_eq}
 use Rattle.std.proofs.lemmas.Nat.{div-add-mod', mod_below}
 use Rattle.std.proofs.lemmas.Option.{slice_get-get_or}
-use Rattle.std.proofs.Math.Nat.{mul-le-mul_right, lt_of_mul-lt-mul_right, div-eq_of_lt-le}
+use Rattle.std.proofs.Math.Nat.{mul-le-mul_left, mul-le-mul_right, lt_of_mul-lt-mul_right, div-eq_of_lt-le}
 use Rattle.bitvec_ptr.specs.Memory.{tabulate, bit_of, memory_bits}
 use Rattle.bitvec_ptr.specs.Place.{words_met}
 use Rattle.bitvec_ptr.proofs.MemoryLemmas.{length-tabulate, get_or-tabulate}
@@ -64,3 +64,13 @@ length_stretch number memory first count h =
     let same : first + count - first ≡ count = omega arith in
     ap (λ n. length (take n (drop first (map number memory)))) same
     ∙ length-take-le count (drop first (map number memory)) (omega (arith, length-drop first (map number memory), length-map memory number))
+
+-- a quotient is no more than the number
+pub quotient_most : (n k : ℕ) → 0 < k → n / k ≤ n
+quotient_most n k some =
+    let scaled : (n / k) * 1 ≤ (n / k) * k = mul-le-mul_left (n / k) some in
+    omega (arith, div-add-mod' n k, scaled)
+
+-- the number of a place, from its word and its index in there
+pub place_from : (n k width rest : ℕ) → k ≡ width → rest ≡ n % k → n / k * width + rest ≡ n
+place_from n k width rest same e = omega (arith, div-add-mod' n k, ap (λ w. n / k * w) same, e)

@@ -417,7 +417,10 @@ impl<'a, R: BitRegister, O: BitOrder<R>> Iterator for Domain<'a, R, O> {
                 }
                 None => {
                     *self = Domain::default();
-                    tail.map(|part| part.load_value())
+                    match tail {
+                        Some(part) => Some(part.load_value()),
+                        None => None,
+                    }
                 }
             },
         }
@@ -469,7 +472,10 @@ impl<'a, R: BitRegister, O: BitOrder<R>> DoubleEndedIterator for Domain<'a, R, O
                 }
                 None => {
                     *self = Domain::default();
-                    head.map(|part| part.load_value())
+                    match head {
+                        Some(part) => Some(part.load_value()),
+                        None => None,
+                    }
                 }
             },
         }

@@ -2,6 +2,9 @@ use Rattle.std.proofs.Common.{arith}
 use Rattle.bitvec_domain.proofs.WordsLemmas.{one_met}
 use Rattle.bitvec_domain.proofs.domain.PartialElement.into_bitslice.Goals as goal
 
+pub invariant_of-result-clause-short : goal.invariant_of-result-clause-short
+invariant_of-result-clause-short g c = omega (arith, c.args.self.tail_in, g.met.R.BitRegister.width_at_most_128)
+
 pub invariant_of-result-clause-fits : goal.invariant_of-result-clause-fits
 invariant_of-result-clause-fits g c =
     let part = c.args.self in
