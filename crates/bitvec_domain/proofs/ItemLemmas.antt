@@ -222,8 +222,11 @@ byte_most : (b : Bool) → bool_byte b ≤ 1
 byte_most true = omega arith
 byte_most false = omega arith
 
+pub region_short : {X : Type 0} (bits : ℕ) (number : X → ℕ) (head : Option Part) (body : List X) (tail : Option Part) (parts : Parts) → parts ≡ region head (map number body) tail → HasShortBody bits parts → length body ≤ region_max_bits / bits
+region_short bits number head body tail parts is short = rw (← length-map body number) (rw is at short)
+
 pub region_fits : {X : Type 0} (bits : ℕ) (number : X → ℕ) (head : Option Part) (body : List X) (tail : Option Part) (parts : Parts) (a b : Bool) → 8 ≤ bits → parts ≡ region head (map number body) tail → HasShortBody bits parts → bool_byte a + length body + bool_byte b < 2 ^ 64
 region_fits bits number head body tail parts a b wide is short =
-    let within : length (map number body) ≤ region_max_bits / bits = rw is at short in
+    let within = region_short bits number head body tail parts is short in
     let most = quotient_most region_max_bits bits (omega arith) in
-    omega (arith, within, most, length-map body number, byte_most a, byte_most b)
+    omega (arith, within, most, byte_most a, byte_most b)
