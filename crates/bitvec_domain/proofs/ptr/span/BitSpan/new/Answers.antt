@@ -5,6 +5,15 @@ use mir.Val.{to_z, of_z}
 use Rattle.bitvec_ptr.proofs.PlaceLemmas.{floor_place}
 use Rattle.bitvec_domain.proofs.ptr.span.BitSpan.new.Goals as goal
 
+pub returns-then-bits-gt-MAX_BITS-clause-accepted : goal.returns-then-bits-gt-MAX_BITS-clause-accepted
+returns-then-bits-gt-MAX_BITS-clause-accepted g c = (λ e. absurd cc, λ p. absurd (omega (arith, p.0)))
+
+pub returns-then-bits-gt-MAX_BITS-clause-too_long : goal.returns-then-bits-gt-MAX_BITS-clause-too_long
+returns-then-bits-gt-MAX_BITS-clause-too_long g c = (λ _. omega arith, λ _. refl)
+
+pub returns-then-bits-gt-MAX_BITS-clause-too_high : goal.returns-then-bits-gt-MAX_BITS-clause-too_high
+returns-then-bits-gt-MAX_BITS-clause-too_high g c = (λ e. absurd cc, λ p. absurd (omega (arith, p.0)))
+
 pub returns-then-word-met-clause-accepted : goal.returns-then-word-met-clause-accepted
 returns-then-word-met-clause-accepted g c =
     let width = g.R.BitRegister.BITS in
