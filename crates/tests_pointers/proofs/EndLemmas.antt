@@ -2,9 +2,9 @@
 use Rattle.std.proofs.Common.{◌≡◌, refl, sym, subst, lit<, lt_irrefl}
 use Rattle.std.specs.Prelude.{pos, negsuc, FitsSigned}
 use Rattle.std.specs.Int.{w64}
-use Rattle.bitvec.specs.Place.{Ptr}
-use Rattle.bitvec.specs.PtrRange.{CanRange, count_of}
-use Rattle.bitvec.specs.Steps.{distance}
+use Rattle.bitvec_ptr.specs.Place.{Ptr}
+use Rattle.bitvec_ptr.specs.PtrRange.{CanRange, count_of}
+use Rattle.bitvec_ptr.specs.Steps.{distance}
 
 abbrev origin : Ptr
 origin = record { word = pos 0; bit = 0 }

@@ -1,3 +1,2 @@
-pub mod ElementLemmas
 pub mod EndLemmas
 pub mod PointerLaws

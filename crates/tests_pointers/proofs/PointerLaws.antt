@@ -6,8 +6,8 @@ use Rattle.std.proofs.lemmas.Int.{ints, int_wrap_fits, int_wrap-add_left, int_wr
 use Rattle.std.proofs.lemmas.Nat.{div-add-mod', mod_below}
 use Rattle.std.proofs.Math.Nat.{div-eq_of_lt-le}
 use borrow.Author.Differences.{product_is}
-use Rattle.bitvec.specs.Place.{Ptr}
-use Rattle.bitvec.specs.Steps.{wrapped_ptr}
+use Rattle.bitvec_ptr.specs.Place.{Ptr}
+use Rattle.bitvec_ptr.specs.Steps.{wrapped_ptr}
 use Rattle.bitvec_ptr.proofs.PlaceLemmas.{floor_place}
 use Rattle.bitvec_ptr.proofs.StepLemmas.{euclid_parts}
 

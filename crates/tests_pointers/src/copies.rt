@@ -1,13 +1,13 @@
 //! Copies by their words: what is put, how often, and where the mark ends.
 
 ghost use Rattle.std.specs.Prelude.{◌≡◌, ◌<◌, pos};
-ghost use Rattle.bitvec.specs.BitPtr.{ptr_of};
+ghost use Rattle.bitvec_ptr.specs.BitPtr.{ptr_of};
 
-use bitvec::index::BitIdx;
-use bitvec::mem::BitRegister;
-use bitvec::order::{BitOrder, Lsb0, Msb0};
-use bitvec::ptr::single::BitPtr;
-use bitvec::ptr::writer::WordWriter;
+use bitvec_mem::mem::BitRegister;
+use bitvec_order::index::BitIdx;
+use bitvec_order::order::{BitOrder, Lsb0, Msb0};
+use bitvec_ptr::ptr::single::BitPtr;
+use bitvec_ptr::ptr::writer::WordWriter;
 use std::test::Fail;
 
 // The pointer at a place from 0 on.

@@ -1,4 +1,6 @@
-//! Pointers, ranges, spans and counted copies, by the names that a user writes.
+//! Pointers, their ranges, counted copies and what the traits of these types are.
+//!
+//! They are named by the crates that they stand in, so that the tests wait for these alone.
 #![tactic(auto)]
 
 #[cfg(test)]
@@ -12,15 +14,4 @@ mod pointer_laws;
 #[cfg(test)]
 mod pointers;
 #[cfg(test)]
-mod spans;
-
-use bitvec::index::BitIdx;
-use bitvec::mem::BitRegister;
-use bitvec::ptr::span::BitSpan;
-
-/// The span of `len` bits from a place on, or `None` where there is none.
-pub fn span_at<R: BitRegister, O>(start: u32, len: usize) -> Option<BitSpan<R, O>> {
-    let width = u32::from(R::BITS);
-    let head = BitIdx::new_unchecked((start % width) as u8);
-    BitSpan::new((start / width) as isize, head, len).ok()
-}
+mod traits;

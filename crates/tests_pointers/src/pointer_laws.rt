@@ -1,20 +1,16 @@
-//! Laws of pointers and of the words of a span, read off the contracts of the calls that each
-//! names.
+//! Laws of pointers, read off the contracts of the calls that each names.
 
-ghost use Rattle.std.specs.Prelude.{◌≡◌, ℤ, pos, neg_ℤ, ◌+◌, ◌+ℤ◌, ◌≤ℤ◌, ◌<ℤ◌, ◌↔◌, IsTrue};
+ghost use Rattle.std.specs.Prelude.{◌≡◌, pos, neg_ℤ, ◌+◌, ◌+ℤ◌, ◌≤ℤ◌, ◌<ℤ◌, ◌↔◌, IsTrue};
 ghost use Rattle.std.specs.Ordering.{MatchOrdering};
 ghost use Rattle.std.specs.Int.{w64, int_wrap};
-ghost use Rattle.bitvec.specs.BitPtr.{ptr_of};
-ghost use Rattle.bitvec.specs.Place.{Ptr, place_of};
-ghost use Rattle.bitvec.specs.Steps.{CanOffset, distance, wrapped_ptr};
-ghost use Rattle.bitvec.specs.BitSpan.{span_of};
-ghost use Rattle.tests_pointers.specs.Elements.{HasBitIn};
+ghost use Rattle.bitvec_ptr.specs.BitPtr.{ptr_of};
+ghost use Rattle.bitvec_ptr.specs.Place.{Ptr, place_of};
+ghost use Rattle.bitvec_ptr.specs.Steps.{CanOffset, distance, wrapped_ptr};
 
-use bitvec::index::BitIdx;
-use bitvec::mem::BitRegister;
-use bitvec::order::Lsb0;
-use bitvec::ptr::single::BitPtr;
-use bitvec::ptr::span::BitSpan;
+use bitvec_mem::mem::BitRegister;
+use bitvec_order::index::BitIdx;
+use bitvec_order::order::Lsb0;
+use bitvec_ptr::ptr::single::BitPtr;
 use std::cmp::Ordering;
 
 /// How far a pointer has come by a step is the step's count.
@@ -65,30 +61,6 @@ fn pointers_are_equal_at_one_place<R: BitRegister, O>(
     ensures { IsTrue result ↔ (place_of R.BITS (ptr_of here) ≡ place_of R.BITS (ptr_of there)) }
 {
     here == there
-}
-
-/// A span has a bit in a word exactly where the word is one of its `elements`, counted from its
-/// first word on.
-fn elements_are_the_words_with_a_bit<R: BitRegister, O>(span: BitSpan<R, O>, word: isize) -> bool
-    ensures { IsTrue result ↔ HasBitIn R.BITS (span_of span) word }
-{
-    let first = span.address();
-    first <= word && word.abs_diff(first) < span.elements()
-}
-
-// Whether the span of so many bits from place 4 on has a bit in the words from -1 to 3.
-fn words_with_a_bit(bits: usize) -> Option<[bool; 5]> {
-    let span: BitSpan<u8, Lsb0> = BitSpan::new(0, BitIdx::new(4).ok()?, bits).ok()?;
-    Some([-1, 0, 1, 2, 3].map(|word| elements_are_the_words_with_a_bit(span, word)))
-}
-
-#[test]
-fn words_of_a_span(rt: HostRuntime) {
-    assert_eq!(rt;
-        words_with_a_bit(16),
-        Some([false, true, true, true, false])
-    );
-    assert_eq!(rt; words_with_a_bit(0), Some([false; 5]));
 }
 
 #[test]

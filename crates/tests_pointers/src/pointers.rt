@@ -1,10 +1,10 @@
 //! Pointers and their ranges in worked examples.
 
-use bitvec::index::{BitIdx, Limits};
-use bitvec::mem::BitRegister;
-use bitvec::order::{BitOrder, Lsb0, Msb0};
-use bitvec::ptr::range::{BitPtrRange, EmptyRange};
-use bitvec::ptr::single::{BitPtr, Dangling};
+use bitvec_mem::mem::BitRegister;
+use bitvec_order::index::{BitIdx, Limits};
+use bitvec_order::order::{BitOrder, Lsb0, Msb0};
+use bitvec_ptr::ptr::range::{BitPtrRange, EmptyRange};
+use bitvec_ptr::ptr::single::{BitPtr, Dangling};
 use std::ops::{Bound, Range};
 use std::test::Fail;
 

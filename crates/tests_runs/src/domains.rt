@@ -1,5 +1,6 @@
 //! Domains of worked examples, from both ends, as texts, as bits and for writing.
 
+use crate::spans::span_at;
 use bitvec::domain::{BitDomain, BitDomainMut, BitWords, Domain, DomainMut, PartialElement};
 use bitvec::index::BitIdx;
 use bitvec::mem::BitRegister;
@@ -8,7 +9,6 @@ use bitvec::ptr::span::BitSpan;
 use std::alloc::{AllocError, Global};
 use std::fmt;
 use std::test::Fail;
-use tests_pointers::span_at;
 
 // The first item of the eight bits from place 4 on.
 fn middle(memory: &[u8]) -> Option<u8> {
@@ -65,8 +65,13 @@ fn takes_items_from_both_ends(rt: HostRuntime) -> Result<(), Fail> {
     let mut domain = domain_at::<u8, Lsb0>(&memory, 4, 8).ok_or("does not fit")?;
     assert_eq!(rt; domain.next(), Some(0x10));
     assert_eq!(rt; domain.next_back(), Some(0x04));
-    assert_eq!(rt; domain.next(), None);
-    assert_eq!(rt; domain.next_back(), None);
+    assert_eq!(rt; (domain.next(), domain.next_back()), (None, None));
+    Ok(())
+}
+
+#[test]
+fn takes_items_from_the_back(rt: HostRuntime) -> Result<(), Fail> {
+    let memory = [0x12u8, 0x34, 0x56];
     let mut domain = domain_at::<u8, Lsb0>(&memory, 4, 16).ok_or("does not fit")?;
     assert_eq!(rt; domain.next_back(), Some(0x06));
     assert_eq!(rt; domain.next_back(), Some(0x34));
@@ -96,6 +101,12 @@ fn counts_what_is_left(rt: HostRuntime) -> Result<(), Fail> {
         let span: BitSpan<u8, Lsb0> = span_at(start, len).ok_or("refused")?;
         assert_eq!(rt; count_inner(span, &memory), Some(want), "at {start}+{len}");
     }
+    Ok(())
+}
+
+#[test]
+fn gives_none_for_good(rt: HostRuntime) -> Result<(), Fail> {
+    let memory = [0x12u8, 0x34, 0x56];
     let mut domain = domain_at::<u8, Lsb0>(&memory, 4, 16).ok_or("does not fit")?;
     assert_eq!(rt; domain.next(), Some(0x10));
     assert_eq!(rt; domain.next_back(), Some(0x06));
@@ -342,8 +353,7 @@ fn stores_in_the_governed_bits_alone(rt: HostRuntime) {
 fn edits_one_word(rt: HostRuntime) -> Result<(), Fail> {
     let mut memory = [0xffu8];
     let span: BitSpan<u8, Lsb0> = span_at(2, 4).ok_or("refused")?;
-    assert!(rt; span.fits(memory.len()));
-    assert!(rt; span.elements() == 1);
+    assert!(rt; span.fits(memory.len()) && span.elements() == 1);
     let mut part = span.part_mut(&mut memory, 0);
     assert_eq!(rt; part.store_value(0), 0x3c);
     assert_eq!(rt; part.load_value(), 0);
@@ -351,6 +361,15 @@ fn edits_one_word(rt: HostRuntime) -> Result<(), Fail> {
     assert_eq!(rt; part.invert(), 0x3c);
     assert_eq!(rt; part.set(), 0);
     assert_eq!(rt; part.clear(), 0x3c);
+    Ok(())
+}
+
+#[test]
+fn hands_on_the_bits_of_one_word(rt: HostRuntime) -> Result<(), Fail> {
+    let mut memory = [0xc3u8];
+    let span: BitSpan<u8, Lsb0> = span_at(2, 4).ok_or("refused")?;
+    assert!(rt; span.fits(memory.len()) && span.elements() == 1);
+    let part = span.part_mut(&mut memory, 0);
     assert_eq!(rt; part.mask().into_inner(), 0x3c);
     let (head, tail) = part.bounds();
     assert_eq!(rt; (head.into_inner(), tail.into_inner()), (2, 6));
@@ -421,6 +440,11 @@ fn replaces_bits_of_three_words(rt: HostRuntime) {
     assert_eq!(rt; memory, [0x10, 0x80, 0x08]);
     assert!(rt; replaces::<u8, Lsb0>(&mut memory, 2, 4).is_none());
     assert!(rt; replaces::<u8, Lsb0>(&mut memory, 4, 21).is_none());
+}
+
+#[test]
+fn replaces_a_bit_of_one_run(rt: HostRuntime) {
+    let mut memory = [0x10u8, 0x80, 0x08];
     assert_eq!(rt; replaces_first::<u8, Lsb0>(&mut memory, 10, 4), Some(false));
     assert_eq!(rt; memory, [0x10, 0x84, 0x08]);
     assert!(rt; replaces_first::<u8, Lsb0>(&mut memory, 4, 16).is_none());

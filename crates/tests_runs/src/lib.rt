@@ -1,11 +1,21 @@
-//! Domains, runs of commands and their laws, by the names that a user writes.
+//! Spans, domains, runs of commands and their laws, by the names that a user writes.
 #![tactic(auto)]
 
 #[cfg(test)]
 mod domains;
 #[cfg(test)]
+mod ends;
+#[cfg(test)]
 mod examples;
 #[cfg(test)]
 mod laws;
 #[cfg(test)]
+mod prelude;
+#[cfg(test)]
 mod run;
+#[cfg(test)]
+mod span_laws;
+#[cfg(test)]
+mod spans;
+#[cfg(test)]
+mod traits;

@@ -1,9 +1,9 @@
 -- Masks of ranges of indices that do not meet.
 use Rattle.std.proofs.Common.{◌≡◌, ℕ, ◌<◌, ◌≤◌, Option, ◌&&◌, sym, ◌∙◌, subst, inl, inr, arith}
 use Rattle.std.proofs.lemmas.Bool.{cases_Bool, and_parts}
-use Rattle.bitvec.specs.Digit.{digit}
-use Rattle.bitvec.specs.Order.{mask_start, mask_end, IsOneToOne, MasksPositions}
-use Rattle.bitvec.specs.Masks.{HasDisjointMasks}
+use Rattle.bitvec_mem.specs.Digit.{digit}
+use Rattle.bitvec_order.specs.Order.{mask_start, mask_end, IsOneToOne, MasksPositions}
+use Rattle.bitvec_order.specs.Masks.{HasDisjointMasks}
 
 -- a position of both masks would be that of one index, since different indices have different positions
 pub disjoint_masks : (width : ℕ) (at : ℕ → ℕ) (mask : Option ℕ → Option ℕ → ℕ) → IsOneToOne width at → MasksPositions width at mask → HasDisjointMasks width mask

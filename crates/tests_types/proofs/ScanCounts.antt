@@ -2,7 +2,7 @@
 use Rattle.std.proofs.Common.{◌≡◌, ℕ, zero, suc, ◌+◌, ◌-◌, ◌*◌, Some, None, [], ◌∷◌, map, length, refl, arith, length-append}
 use Rattle.std.specs.List.{range_with_len, flat_map}
 use Rattle.std.proofs.lemmas.List.FromFn.{length-map-range_with_len}
-use Rattle.bitvec.specs.Scan.{selector, repetition, masked, index_tests, start_tests, pair_tests, absent_tests}
+use Rattle.bitvec_verify.specs.Scan.{selector, repetition, masked, index_tests, start_tests, pair_tests, absent_tests}
 
 -- two tests for each of n numbers
 two_each : (a n : ℕ) → length (flat_map (λ i. selector i ∷ repetition i ∷ []) (range_with_len a n)) ≡ 2 * n

@@ -1,14 +1,15 @@
 //! The examples in the documents of registers, indices, orders, masks and the verifier.
 
 ghost use Rattle.std.specs.Prelude.{◌^◌, bit_xor};
-ghost use Rattle.bitvec.specs.Order.{mask_start, mask_end, plain_mask_of};
+ghost use Rattle.bitvec_order.specs.Order.{mask_start, mask_end, plain_mask_of};
 
-use bitvec::index::{BitEnd, BitIdx, BitMask, BitPos, BitSel, Limits, MaskLimits};
-use bitvec::mem::{BitElement, BitRegister};
-use bitvec::order::{
-    BitAt, ByNumbers, ByPosition, Lsb0, Msb0, Numbers, OrderCandidate, OrderFault, Positions,
-    VerifyFault, plain_mask_between, plain_selector, verify, verify_for_type,
+use bitvec_mem::mem::{BitElement, BitRegister};
+use bitvec_order::index::{BitEnd, BitIdx, BitMask, BitPos, BitSel, Limits, MaskLimits};
+use bitvec_order::order::{BitAt, Lsb0, Msb0, OrderCandidate};
+use bitvec_order::positions::{
+    ByNumbers, ByPosition, Numbers, Positions, plain_mask_between, plain_selector,
 };
+use bitvec_verify::verify::{OrderFault, VerifyFault, verify, verify_for_type};
 use std::test::Fail;
 
 struct Swapped;

@@ -2,8 +2,8 @@
 
 ghost use Rattle.std.specs.Prelude.{◌≡◌, ◌+◌};
 
-use bitvec::index::{BitEnd, BitIdx, BitMask, BitPos, BitSel, Limits, MaskLimits};
-use bitvec::mem::BitRegister;
+use bitvec_mem::mem::BitRegister;
+use bitvec_order::index::{BitEnd, BitIdx, BitMask, BitPos, BitSel, Limits, MaskLimits};
 use std::alloc::AllocError;
 use std::error::Error;
 use std::fmt;

@@ -1,5 +1,6 @@
-//! Registers, indices, orders, their verifier and what the traits of each type are, by the names that
-//! a user writes.
+//! Registers, indices, orders, their verifier and what the traits of each of these types are.
+//!
+//! They are named by the crates that they stand in, so that the tests wait for these alone.
 #![tactic(auto)]
 
 #[cfg(test)]
@@ -14,8 +15,6 @@ mod numeral;
 mod order;
 #[cfg(test)]
 mod order_laws;
-#[cfg(test)]
-mod prelude;
 #[cfg(test)]
 mod traits;
 #[cfg(test)]

@@ -1,6 +1,6 @@
 //! Registers, and the counts of words.
 
-use bitvec::mem::{BitElement, BitRegister, bits_of, elts};
+use bitvec_mem::mem::{BitElement, BitRegister, bits_of, elts};
 use std::process::Abort;
 use std::test::Fail;
 

@@ -1,13 +1,12 @@
 //! Masks and sums of selectors that the Rust crate's own code returns, and an order of a user's.
 
 ghost use Rattle.std.specs.Prelude.{◌≡◌, ℕ, ◌<◌, ◌≤◌, bit_xor};
-ghost use Rattle.bitvec.specs.Order.{mask_start, mask_end};
+ghost use Rattle.bitvec_order.specs.Order.{mask_start, mask_end};
 
-use bitvec::index::{BitEnd, BitIdx, BitMask, BitPos, BitSel};
-use bitvec::mem::BitRegister;
-use bitvec::order::{
-    BitOrder, ByPosition, LocalBits, Lsb0, Msb0, OrderCandidate, Positions, plain_select,
-};
+use bitvec_mem::mem::BitRegister;
+use bitvec_order::index::{BitEnd, BitIdx, BitMask, BitPos, BitSel};
+use bitvec_order::order::{BitOrder, LocalBits, Lsb0, Msb0, OrderCandidate, plain_select};
+use bitvec_order::positions::{ByPosition, Positions};
 use std::fmt::Debug;
 use std::hash::Hash;
 use std::iter::Sum;

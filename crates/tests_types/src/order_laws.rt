@@ -2,11 +2,11 @@
 //! is the law.
 
 ghost use Rattle.std.specs.Prelude.{◌≡◌, ℕ, ◌+◌, ◌*◌, length};
-ghost use Rattle.bitvec.specs.Masks.{HasDisjointMasks};
-ghost use Rattle.bitvec.specs.Scan.{index_tests, pair_tests, absent_tests};
+ghost use Rattle.bitvec_order.specs.Masks.{HasDisjointMasks};
+ghost use Rattle.bitvec_verify.specs.Scan.{index_tests, pair_tests, absent_tests};
 
-use bitvec::mem::BitRegister;
-use bitvec::order::{BitOrder, Lsb0, Msb0};
+use bitvec_mem::mem::BitRegister;
+use bitvec_order::order::{BitOrder, Lsb0, Msb0};
 
 /// Where two ranges of indices do not meet, their masks have no position in common, in any order.
 fn masks_are_disjoint<R: BitRegister, O: BitOrder<R>>()

@@ -1,28 +1,21 @@
-//! What equality, order, hash, copy and default of each type are, and what each name stands for.
+//! What equality, order, hash, copy and default of each type are, and what its name alone stands
+//! for.
 //!
 //! Each function does what its name says, and its contract is the promise: so a body of an impl
 //! that breaks it is refused, though no contract of the layer names it. That equal values have
 //! equal hashes is a law of `Hash` itself, which each impl shows.
 
-ghost use Rattle.std.specs.Prelude.{◌≡◌, ◌↔◌, ◌-◌, pos, IsTrue, Ok, codes};
-ghost use Rattle.std.specs.Ordering.{nat_cmp, int_cmp};
-ghost use Rattle.std.specs.declared.cmp.Ordering.TheVariants.{Less, Equal};
-ghost use Rattle.bitvec.specs.BitPtr.{ptr_of};
-ghost use Rattle.bitvec.specs.BitPtrRange.{range_of};
-ghost use Rattle.bitvec.specs.BitSpan.{span_of};
+ghost use Rattle.std.specs.Prelude.{◌≡◌, ◌↔◌, IsTrue, Ok, codes};
+ghost use Rattle.std.specs.Ordering.{nat_cmp};
+ghost use Rattle.std.specs.declared.cmp.Ordering.TheVariants.{Equal};
 
-use bitvec::domain::{BitDomain, BitDomainMut, Domain, DomainMut};
-use bitvec::index::{BitEnd, BitIdx, BitIdxError, BitMask, BitPos, BitSel};
-use bitvec::mem::{BitElement, BitRegister};
-use bitvec::order::{BitAt, LocalBits, Lsb0, Msb0, OrderFault, VerifyFault};
-use bitvec::ptr::range::BitPtrRange;
-use bitvec::ptr::single::BitPtr;
-use bitvec::ptr::span::{BitSpan, BitSpanError};
-use bitvec::run::{Command, Reply, Request};
+use bitvec_mem::mem::{BitElement, BitRegister};
+use bitvec_order::index::{BitEnd, BitIdx, BitIdxError, BitMask, BitPos, BitSel};
+use bitvec_order::order::{Lsb0, Msb0};
+use bitvec_verify::verify::{OrderFault, VerifyFault};
 use std::alloc::AllocError;
 use std::cmp::Ordering;
 use std::hash::{Hash, Hasher};
-use std::marker::PhantomData;
 
 // A memory of one word is compared, hashed, copied and made by default as the word is.
 
@@ -309,164 +302,6 @@ fn copied_fault_of_a_register(fault: &VerifyFault) -> Result<VerifyFault, AllocE
     fault.clone()
 }
 
-// A pointer is its word and its bit, a range its two ends, a span its word, its head and its
-// length.
-
-fn equal_pointers<R: BitRegister, O>(here: BitPtr<R, O>, there: BitPtr<R, O>) -> bool
-    ensures { IsTrue result ↔ (ptr_of here ≡ ptr_of there) }
-{
-    here == there
-}
-
-fn hash_of_a_pointer<R: BitRegister, O, H: Hasher>(
-    pointer: BitPtr<R, O>,
-    here: &mut H,
-    there: &mut H,
-)
-    requires { here.old ≡ there.old }
-    ensures { here.new ≡ there.new }
-{
-    pointer.hash(here);
-    pointer.address().hash(there);
-    pointer.bit().hash(there);
-}
-
-fn copied_pointer<R: BitRegister, O>(pointer: &BitPtr<R, O>) -> Result<BitPtr<R, O>, AllocError>
-    ensures { result ≡ Ok pointer.now }
-{
-    pointer.clone()
-}
-
-fn equal_ranges<R: BitRegister, O>(here: &BitPtrRange<R, O>, there: &BitPtrRange<R, O>) -> bool
-    ensures { IsTrue result ↔ (range_of here.now ≡ range_of there.now) }
-{
-    *here == *there
-}
-
-fn hash_of_a_range<R: BitRegister, O, H: Hasher>(
-    range: &BitPtrRange<R, O>,
-    here: &mut H,
-    there: &mut H,
-)
-    requires { here.old ≡ there.old }
-    ensures { here.new ≡ there.new }
-{
-    range.hash(here);
-    range.start().hash(there);
-    range.end().hash(there);
-}
-
-fn copied_range<R: BitRegister, O>(
-    range: &BitPtrRange<R, O>,
-) -> Result<BitPtrRange<R, O>, AllocError>
-    ensures { result ≡ Ok range.now }
-{
-    range.clone()
-}
-
-fn default_range<R: BitRegister, O>() -> BitPtrRange<R, O>
-    ensures { range_of result ≡ record {
-      start = record { word = pos 0; bit = 0 };
-      end = record { word = pos 0; bit = 0 };
-    } }
-{
-    BitPtrRange::default()
-}
-
-fn equal_spans<R: BitRegister, O>(here: BitSpan<R, O>, there: BitSpan<R, O>) -> bool
-    ensures { IsTrue result ↔ (span_of here ≡ span_of there) }
-{
-    here == there
-}
-
-fn copied_span<R: BitRegister, O>(span: &BitSpan<R, O>) -> Result<BitSpan<R, O>, AllocError>
-    ensures { result ≡ Ok span.now }
-{
-    span.clone()
-}
-
-fn default_span<R: BitRegister, O>() -> BitSpan<R, O>
-    ensures { span_of result ≡ record { word = pos 0; head = 0; len = 0 } }
-{
-    BitSpan::default()
-}
-
-// A refused span: `TooLong` comes before `TooHigh`, and the same case goes by its number.
-
-fn equal_refusals<R>(here: BitSpanError<R>, there: BitSpanError<R>) -> bool
-    ensures { IsTrue result ↔ (here ≡ there) }
-{
-    here == there
-}
-
-fn too_long_before_too_high<R>(bits: usize, word: isize) -> Ordering
-    ensures { result ≡ Less }
-{
-    let long: BitSpanError<R> = BitSpanError::TooLong(bits);
-    long.cmp(&BitSpanError::TooHigh(word, PhantomData))
-}
-
-fn order_of_too_long<R>(here: usize, there: usize) -> Ordering
-    ensures { result ≡ nat_cmp here there }
-{
-    let long: BitSpanError<R> = BitSpanError::TooLong(here);
-    long.cmp(&BitSpanError::TooLong(there))
-}
-
-fn order_of_too_high<R>(here: isize, there: isize) -> Ordering
-    ensures { result ≡ int_cmp here there }
-{
-    let high: BitSpanError<R> = BitSpanError::TooHigh(here, PhantomData);
-    high.cmp(&BitSpanError::TooHigh(there, PhantomData))
-}
-
-fn hash_of_too_long<R, H: Hasher>(bits: usize, here: &mut H, there: &mut H)
-    requires { here.old ≡ there.old }
-    ensures { here.new ≡ there.new }
-{
-    let long: BitSpanError<R> = BitSpanError::TooLong(bits);
-    long.hash(here);
-    0isize.hash(there);
-    bits.hash(there);
-}
-
-fn hash_of_too_high<R, H: Hasher>(word: isize, here: &mut H, there: &mut H)
-    requires { here.old ≡ there.old }
-    ensures { here.new ≡ there.new }
-{
-    let high: BitSpanError<R> = BitSpanError::TooHigh(word, PhantomData);
-    high.hash(here);
-    1isize.hash(there);
-    word.hash(there);
-}
-
-fn copied_refusal<R>(refusal: &BitSpanError<R>) -> Result<BitSpanError<R>, AllocError>
-    ensures { result ≡ Ok refusal.now }
-{
-    refusal.clone()
-}
-
-// Commands, requests and replies are their parts, where `==` of the register says which words are
-// the same.
-
-fn equal_commands<R: Eq>(here: &Command<R>, there: &Command<R>) -> bool
-    ensures { ((a b : R) → IsTrue (R.eq a b) ↔ (a ≡ b)) → (IsTrue result ↔ (here.now ≡ there.now)) }
-{
-    *here == *there
-}
-
-fn equal_requests<R: Eq>(here: &Request<R>, there: &Request<R>) -> bool
-    ensures { ((a b : R) → IsTrue (R.eq a b) ↔ (a ≡ b)) → (IsTrue result ↔ (here.now ≡ there.now)) }
-{
-    *here == *there
-}
-
-fn equal_replies<R: Eq>(here: &Reply<R>, there: &Reply<R>) -> bool
-    ensures { ((a b : R) → IsTrue (R.eq a b) ↔ (a ≡ b)) → (IsTrue result ↔ (here.now ≡ there.now)) }
-{
-    *here == *there
-}
-
 // Each of the two orders has one value.
 
 fn equal_lsb0(here: Lsb0, there: Lsb0) -> bool
@@ -505,26 +340,6 @@ fn hash_of_msb0<H: Hasher>(order: Msb0, state: &mut H)
     order.hash(state);
 }
 
-// Which order each name stands for: by the position of an index.
-
-fn position_in_lsb0<R: BitRegister>(index: BitIdx<R>) -> BitPos<R>
-    ensures { result ≡ index }
-{
-    <Lsb0 as BitAt<R>>::at(index)
-}
-
-fn position_in_msb0<R: BitRegister>(index: BitIdx<R>) -> BitPos<R>
-    ensures { result ≡ R.MASK - index }
-{
-    <Msb0 as BitAt<R>>::at(index)
-}
-
-fn position_in_local_bits<R: BitRegister>(index: BitIdx<R>) -> BitPos<R>
-    ensures { result ≡ index }
-{
-    <LocalBits as BitAt<R>>::at(index)
-}
-
 // The name of each register.
 
 fn name_of_u8() -> &'static str
@@ -557,7 +372,7 @@ fn name_of_usize() -> &'static str
     <usize as BitRegister>::NAME
 }
 
-// Without parameters each type is that of `usize`, and of `Lsb0` where it has an order.
+// Without parameters each type is that of `usize`.
 
 fn plain_element(element: BitElement) -> BitElement<usize>
     ensures { result ≡ element }
@@ -599,40 +414,4 @@ fn plain_mask(mask: BitMask) -> BitMask<usize>
     ensures { result ≡ mask }
 {
     mask
-}
-
-fn plain_pointer(pointer: BitPtr) -> BitPtr<usize, Lsb0>
-    ensures { result ≡ pointer }
-{
-    pointer
-}
-
-fn plain_range(range: BitPtrRange) -> BitPtrRange<usize, Lsb0>
-    ensures { result ≡ range }
-{
-    range
-}
-
-fn plain_span(span: BitSpan) -> BitSpan<usize, Lsb0>
-    ensures { result ≡ span }
-{
-    span
-}
-
-fn plain_domain<'a>(of: PhantomData<Domain<'a>>) -> PhantomData<Domain<'a, usize, Lsb0>> {
-    of
-}
-
-fn plain_domain_mut<'a>(of: PhantomData<DomainMut<'a>>) -> PhantomData<DomainMut<'a, usize, Lsb0>> {
-    of
-}
-
-fn plain_bit_domain<'a>(of: PhantomData<BitDomain<'a>>) -> PhantomData<BitDomain<'a, usize, Lsb0>> {
-    of
-}
-
-fn plain_bit_domain_mut<'a>(
-    of: PhantomData<BitDomainMut<'a>>,
-) -> PhantomData<BitDomainMut<'a, usize, Lsb0>> {
-    of
 }

@@ -1,5 +1,5 @@
 use Rattle.std.proofs.Common.{ap, ◌∙◌}
-use Rattle.bitvec.specs.PtrRange.{count_of}
+use Rattle.bitvec_ptr.specs.PtrRange.{count_of}
 use Rattle.tests_pointers.proofs.EndLemmas.{greatest-range}
 use Rattle.tests_pointers.proofs.ends.greatest_range.Goals as goal
 

@@ -1,6 +1,6 @@
 use Rattle.std.proofs.Common.{◌≡◌, subst, lt_irrefl}
 use Rattle.std.specs.Prelude.{negsuc}
-use Rattle.bitvec.specs.Steps.{CanOffset}
+use Rattle.bitvec_ptr.specs.Steps.{CanOffset}
 use Rattle.tests_pointers.proofs.ends.steps_back.Goals as goal
 
 pub returns : goal.returns

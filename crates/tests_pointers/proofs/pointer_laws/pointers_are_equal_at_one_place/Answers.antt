@@ -1,6 +1,6 @@
 use Rattle.std.proofs.Common.{◌≡◌, IsTrue, ◌↔◌, ap, rules}
-use Rattle.bitvec.specs.BitPtr.{ptr_of}
-use Rattle.bitvec.specs.Place.{place_of}
+use Rattle.bitvec_ptr.specs.BitPtr.{ptr_of}
+use Rattle.bitvec_ptr.specs.Place.{place_of}
 use Rattle.bitvec_ptr.proofs.PlaceOrder.{bit_below, place_same}
 use Rattle.tests_pointers.proofs.pointer_laws.pointers_are_equal_at_one_place.Goals as goal
 

@@ -1,5 +1,5 @@
 use Rattle.std.proofs.Common.{◌∙◌}
-use Rattle.bitvec.specs.BitPtr.{ptr_of}
+use Rattle.bitvec_ptr.specs.BitPtr.{ptr_of}
 use Rattle.bitvec_ptr.proofs.PlaceOrder.{bit_below, cmp_places, then_equal}
 use Rattle.tests_pointers.proofs.pointer_laws.pointers_compare_as_places.Goals as goal
 

@@ -1,8 +1,8 @@
 use Rattle.std.proofs.Common.{pos, neg_ℤ, ap, ◌∙◌, arith}
 use Rattle.std.specs.Int.{w64, int_wrap}
 use Rattle.std.proofs.lemmas.Int.{ints}
-use Rattle.bitvec.specs.BitPtr.{ptr_of}
-use Rattle.bitvec.specs.Steps.{wrapped_ptr}
+use Rattle.bitvec_ptr.specs.BitPtr.{ptr_of}
+use Rattle.bitvec_ptr.specs.Steps.{wrapped_ptr}
 use Rattle.bitvec_ptr.proofs.PlaceOrder.{bit_below}
 use Rattle.tests_pointers.proofs.PointerLaws.{wrapped_back}
 use Rattle.tests_pointers.proofs.pointer_laws.wrapping_sub_undoes_wrapping_add.Goals as goal

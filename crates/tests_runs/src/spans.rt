@@ -1,6 +1,5 @@
 //! Spans and domains of worked examples.
 
-use crate::span_at;
 use bitvec::domain::{Domain, DomainMut};
 use bitvec::index::{BitIdx, Limits};
 use bitvec::mem::{BitRegister, bits_of};
@@ -10,6 +9,13 @@ use bitvec::ptr::span::{BitSpan, BitSpanError, SpanLimits};
 use std::alloc::{AllocError, Global};
 use std::marker::PhantomData;
 use std::test::Fail;
+
+// The span of `len` bits from a place on, or `None` where there is none.
+pub fn span_at<R: BitRegister, O>(start: u32, len: usize) -> Option<BitSpan<R, O>> {
+    let width = u32::from(R::BITS);
+    let head = BitIdx::new_unchecked((start % width) as u8);
+    BitSpan::new((start / width) as isize, head, len).ok()
+}
 
 // The items of a span's domain from the front, as numbers; none where the span does not fit.
 fn items<R: BitRegister, O: BitOrder<R>>(
@@ -86,10 +92,8 @@ fn has_the_parts_of_the_span(rt: HostRuntime) -> Result<(), Fail> {
 fn reads_one_part(rt: HostRuntime) -> Result<(), Fail> {
     let memory = [0x12u8, 0x34, 0x56];
     let span: BitSpan<u8, Lsb0> = span_at(4, 16).ok_or("refused")?;
-    assert_eq!(rt; span.address(), 0);
-    assert_eq!(rt; span.head().into_inner(), 4);
-    assert!(rt; span.fits(3));
-    assert!(rt; !span.fits(2));
+    assert_eq!(rt; numbers(span), (0, 4, 16));
+    assert!(rt; span.fits(3) && !span.fits(2));
     assert!(rt; span.elements() == 3);
     let part = span.part(&memory, 2);
     let (head, tail) = part.bounds();
@@ -167,8 +171,7 @@ fn names_the_case_of_a_refusal(rt: HostRuntime) -> Result<(), Fail> {
         text.as_str(),
         "BitSpanError<u8>::TooHigh(9223372036854775807)"
     );
-    assert!(rt; long < high);
-    assert!(rt; high != BitSpanError::TooHigh(-1, PhantomData));
+    assert!(rt; long < high && high != BitSpanError::TooHigh(-1, PhantomData));
     Ok(())
 }
 
@@ -200,8 +203,14 @@ fn stands_between_pointers(rt: HostRuntime) -> Result<(), Fail> {
     assert!(rt; span.to_bitptr() == pointer);
     let range = span.to_bitptr_range();
     assert!(rt; range.start() == pointer);
-    assert_eq!(rt; range.end().address(), 0);
-    assert_eq!(rt; range.end().bit().into_inner(), 5);
+    let end = range.end();
+    assert_eq!(rt; (end.address(), end.bit().into_inner()), (0, 5));
+    Ok(())
+}
+
+#[test]
+fn is_empty_by_default(rt: HostRuntime) -> Result<(), Fail> {
+    let span: BitSpan<u16, Msb0> = span_at(9, 12).ok_or("refused")?;
     assert!(rt; !span.is_empty());
     let none: BitSpan<u16, Msb0> = BitSpan::default();
     assert!(rt; none == BitSpan::EMPTY);
@@ -437,19 +446,32 @@ fn write_each<R: BitRegister, O: BitOrder<R>>(span: BitSpan<R, O>, memory: &mut 
 }
 
 #[test]
-fn reads_and_writes_each_bit(rt: HostRuntime) -> Result<(), Fail> {
-    let mut memory = [0x12u8, 0x34, 0x56];
+fn reads_each_bit(rt: HostRuntime) -> Result<(), Fail> {
+    let memory = [0x12u8, 0x34, 0x56];
     let span: BitSpan<u8, Lsb0> = span_at(4, 16).ok_or("refused")?;
-    assert_eq!(rt; ones(span, &memory), 6);
     assert_eq!(rt; bit_of(span, &memory, 0), Some(true));
     assert_eq!(rt; bit_of(span, &memory, 15), Some(false));
     assert_eq!(rt; bit_of(span, &memory, 16), None);
     assert_eq!(rt; bit_from_first(span, &memory, 13), Some(true));
+    Ok(())
+}
+
+#[test]
+fn writes_each_bit(rt: HostRuntime) -> Result<(), Fail> {
+    let mut memory = [0x12u8, 0x34, 0x56];
+    let span: BitSpan<u8, Lsb0> = span_at(4, 16).ok_or("refused")?;
     assert!(rt; write_bit_of(span, &mut memory, 12, true));
     assert!(rt; !write_bit_of(span, &mut memory, 16, true));
     assert_eq!(rt; memory.as_slice(), [0x12, 0x34, 0x57].as_slice());
     write_each(span, &mut memory, true);
     assert_eq!(rt; memory.as_slice(), [0xF2, 0xFF, 0x5F].as_slice());
+    Ok(())
+}
+
+#[test]
+fn counts_ones(rt: HostRuntime) -> Result<(), Fail> {
+    let span: BitSpan<u8, Lsb0> = span_at(4, 16).ok_or("refused")?;
+    assert_eq!(rt; ones(span, &[0x12, 0x34, 0x56]), 6);
     let words = [0x8001u16, 0x0180];
     let span: BitSpan<u16, Msb0> = span_at(15, 10).ok_or("refused")?;
     assert_eq!(rt; ones(span, &words), 3);

@@ -3,8 +3,8 @@ use Rattle.std.specs.Int.RustNames.{unsigned_abs}
 use Rattle.std.proofs.lemmas.Int.{ints, to_z-of_z}
 use Rattle.bitvec_ptr.proofs.PlaceOrder.{bit_below}
 use Rattle.bitvec.specs.BitSpan.{span_of}
-use Rattle.tests_pointers.proofs.ElementLemmas.{distance-on, has-bit, from-bit, met-bit}
-use Rattle.tests_pointers.proofs.pointer_laws.elements_are_the_words_with_a_bit.Goals as goal
+use Rattle.tests_runs.proofs.ElementLemmas.{distance-on, has-bit, from-bit, met-bit}
+use Rattle.tests_runs.proofs.span_laws.elements_are_the_words_with_a_bit.Goals as goal
 
 pub returns-then-first-word : goal.returns-then-first-word
 returns-then-first-word g c =

@@ -10,7 +10,7 @@ use Rattle.bitvec.specs.Place.{words_met}
 use Rattle.bitvec_ptr.proofs.PlaceLemmas.{words_met-none, words_met-some}
 use Rattle.bitvec_ptr.proofs.PlaceOrder.{place_sum}
 use Rattle.bitvec.specs.Span.{Span}
-use Rattle.tests_pointers.specs.Elements.{HasBitIn}
+use Rattle.tests_runs.specs.Elements.{HasBitIn}
 
 -- a word `k` words on from another has its first place `k` widths on
 scaled : (bits : ℕ) (first word : ℤ) (k : ℕ) → word ≡ first +ℤ pos k → up word * bits + down first * bits ≡ down word * bits + up first * bits + k * bits

@@ -1,0 +1,163 @@
+//! What equality, order, hash, copy and default of spans, of their refusals and of commands are,
+//! and what each name stands for.
+//!
+//! Each function does what its name says, and its contract is the promise: so a body of an impl
+//! that breaks it is refused, though no contract of the layer names it.
+
+ghost use Rattle.std.specs.Prelude.{◌≡◌, ◌↔◌, ◌-◌, pos, IsTrue, Ok};
+ghost use Rattle.std.specs.Ordering.{nat_cmp, int_cmp};
+ghost use Rattle.std.specs.declared.cmp.Ordering.TheVariants.{Less};
+ghost use Rattle.bitvec.specs.BitSpan.{span_of};
+
+use bitvec::domain::{BitDomain, BitDomainMut, Domain, DomainMut};
+use bitvec::index::{BitIdx, BitPos};
+use bitvec::mem::BitRegister;
+use bitvec::order::{BitAt, LocalBits, Lsb0, Msb0};
+use bitvec::ptr::span::{BitSpan, BitSpanError};
+use bitvec::run::{Command, Reply, Request};
+use std::alloc::AllocError;
+use std::cmp::Ordering;
+use std::hash::{Hash, Hasher};
+use std::marker::PhantomData;
+
+// A span is its word, its head and its length.
+
+fn equal_spans<R: BitRegister, O>(here: BitSpan<R, O>, there: BitSpan<R, O>) -> bool
+    ensures { IsTrue result ↔ (span_of here ≡ span_of there) }
+{
+    here == there
+}
+
+fn copied_span<R: BitRegister, O>(span: &BitSpan<R, O>) -> Result<BitSpan<R, O>, AllocError>
+    ensures { result ≡ Ok span.now }
+{
+    span.clone()
+}
+
+fn default_span<R: BitRegister, O>() -> BitSpan<R, O>
+    ensures { span_of result ≡ record { word = pos 0; head = 0; len = 0 } }
+{
+    BitSpan::default()
+}
+
+// A refused span: `TooLong` comes before `TooHigh`, and the same case goes by its number.
+
+fn equal_refusals<R>(here: BitSpanError<R>, there: BitSpanError<R>) -> bool
+    ensures { IsTrue result ↔ (here ≡ there) }
+{
+    here == there
+}
+
+fn too_long_before_too_high<R>(bits: usize, word: isize) -> Ordering
+    ensures { result ≡ Less }
+{
+    let long: BitSpanError<R> = BitSpanError::TooLong(bits);
+    long.cmp(&BitSpanError::TooHigh(word, PhantomData))
+}
+
+fn order_of_too_long<R>(here: usize, there: usize) -> Ordering
+    ensures { result ≡ nat_cmp here there }
+{
+    let long: BitSpanError<R> = BitSpanError::TooLong(here);
+    long.cmp(&BitSpanError::TooLong(there))
+}
+
+fn order_of_too_high<R>(here: isize, there: isize) -> Ordering
+    ensures { result ≡ int_cmp here there }
+{
+    let high: BitSpanError<R> = BitSpanError::TooHigh(here, PhantomData);
+    high.cmp(&BitSpanError::TooHigh(there, PhantomData))
+}
+
+fn hash_of_too_long<R, H: Hasher>(bits: usize, here: &mut H, there: &mut H)
+    requires { here.old ≡ there.old }
+    ensures { here.new ≡ there.new }
+{
+    let long: BitSpanError<R> = BitSpanError::TooLong(bits);
+    long.hash(here);
+    0isize.hash(there);
+    bits.hash(there);
+}
+
+fn hash_of_too_high<R, H: Hasher>(word: isize, here: &mut H, there: &mut H)
+    requires { here.old ≡ there.old }
+    ensures { here.new ≡ there.new }
+{
+    let high: BitSpanError<R> = BitSpanError::TooHigh(word, PhantomData);
+    high.hash(here);
+    1isize.hash(there);
+    word.hash(there);
+}
+
+fn copied_refusal<R>(refusal: &BitSpanError<R>) -> Result<BitSpanError<R>, AllocError>
+    ensures { result ≡ Ok refusal.now }
+{
+    refusal.clone()
+}
+
+// Commands, requests and replies are their parts, where `==` of the register says which words are
+// the same.
+
+fn equal_commands<R: Eq>(here: &Command<R>, there: &Command<R>) -> bool
+    ensures { ((a b : R) → IsTrue (R.eq a b) ↔ (a ≡ b)) → (IsTrue result ↔ (here.now ≡ there.now)) }
+{
+    *here == *there
+}
+
+fn equal_requests<R: Eq>(here: &Request<R>, there: &Request<R>) -> bool
+    ensures { ((a b : R) → IsTrue (R.eq a b) ↔ (a ≡ b)) → (IsTrue result ↔ (here.now ≡ there.now)) }
+{
+    *here == *there
+}
+
+fn equal_replies<R: Eq>(here: &Reply<R>, there: &Reply<R>) -> bool
+    ensures { ((a b : R) → IsTrue (R.eq a b) ↔ (a ≡ b)) → (IsTrue result ↔ (here.now ≡ there.now)) }
+{
+    *here == *there
+}
+
+// Which order each name stands for: by the position of an index.
+
+fn position_in_lsb0<R: BitRegister>(index: BitIdx<R>) -> BitPos<R>
+    ensures { result ≡ index }
+{
+    <Lsb0 as BitAt<R>>::at(index)
+}
+
+fn position_in_msb0<R: BitRegister>(index: BitIdx<R>) -> BitPos<R>
+    ensures { result ≡ R.MASK - index }
+{
+    <Msb0 as BitAt<R>>::at(index)
+}
+
+fn position_in_local_bits<R: BitRegister>(index: BitIdx<R>) -> BitPos<R>
+    ensures { result ≡ index }
+{
+    <LocalBits as BitAt<R>>::at(index)
+}
+
+// Without parameters each type is that of `usize` and of `Lsb0`.
+
+fn plain_span(span: BitSpan) -> BitSpan<usize, Lsb0>
+    ensures { result ≡ span }
+{
+    span
+}
+
+fn plain_domain<'a>(of: PhantomData<Domain<'a>>) -> PhantomData<Domain<'a, usize, Lsb0>> {
+    of
+}
+
+fn plain_domain_mut<'a>(of: PhantomData<DomainMut<'a>>) -> PhantomData<DomainMut<'a, usize, Lsb0>> {
+    of
+}
+
+fn plain_bit_domain<'a>(of: PhantomData<BitDomain<'a>>) -> PhantomData<BitDomain<'a, usize, Lsb0>> {
+    of
+}
+
+fn plain_bit_domain_mut<'a>(
+    of: PhantomData<BitDomainMut<'a>>,
+) -> PhantomData<BitDomainMut<'a, usize, Lsb0>> {
+    of
+}
