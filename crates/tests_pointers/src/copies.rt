@@ -40,7 +40,7 @@ fn counts_a_copy_between_registers_and_orders(rt: HostRuntime) -> Result<(), Fai
 }
 
 #[test]
-fn copies_no_bit_behind_the_last_word(rt: HostRuntime) -> Result<(), Fail> {
+fn copies_no_bit_behind_the_last_word(rt: HostRuntime) {
     let source = [1u8, 2, 3];
     let mut memory = [4u8, 5, 6];
     let end = at::<u8, Lsb0>(24);
@@ -49,9 +49,26 @@ fn copies_no_bit_behind_the_last_word(rt: HostRuntime) -> Result<(), Fail> {
     end.copy_to_nonoverlapping(&source, end, &mut memory, 0);
     end.copy_from(&mut memory, end, &source, 0);
     end.copy_from_nonoverlapping(&mut memory, end, &source, 0);
+    assert_eq!(rt; memory, [4, 5, 6]);
+}
+
+#[test]
+fn copies_no_bit_within_behind_the_last_word(rt: HostRuntime) {
+    let mut memory = [4u8, 5, 6];
+    let end = at::<u8, Lsb0>(24);
+    assert!(rt; end.run_in(memory.len(), 0));
     end.copy_within(&mut memory, end, 0);
     end.copy_from_within(&mut memory, end, 0);
     end.copy_within_nonoverlapping(&mut memory, end, 0);
+    assert_eq!(rt; memory, [4, 5, 6]);
+}
+
+#[test]
+fn counts_no_copy_of_no_bits(rt: HostRuntime) {
+    let source = [1u8, 2, 3];
+    let mut memory = [4u8, 5, 6];
+    let end = at::<u8, Lsb0>(24);
+    assert!(rt; end.run_in(source.len(), 0) && end.run_in(memory.len(), 0));
     let mut writer = WordWriter::falling(&mut memory);
     writer.skip_to(1);
     end.copy_through(&source, end, &mut writer, 0);
@@ -59,7 +76,6 @@ fn copies_no_bit_behind_the_last_word(rt: HostRuntime) -> Result<(), Fail> {
     assert!(rt; !writer.is_rising());
     assert_eq!(rt; progress(&writer), (0, 1));
     assert_eq!(rt; memory, [4, 5, 6]);
-    Ok(())
 }
 
 // Sixteen bits copied from place `from` of two words to place `to` of two words.
@@ -76,24 +92,30 @@ fn words_copied<O: BitOrder<u16>, O2: BitOrder<u16>>(
     target
 }
 
-// 0x1234 and 0xABCD are copied from place 4 on to place 4 and to place 8, and from there to place
-// 4.
-#[test]
-fn copies_words_in_each_way(rt: HostRuntime) -> Result<(), Fail> {
+// 0x1234 and 0xABCD copied from place 4 on to place 4 and to place 8, and from there to place 4.
+fn copied_each_way<O: BitOrder<u16>, O2: BitOrder<u16>>() -> [[u16; 2]; 3] {
     let source = [0x1234u16, 0xABCD];
-    assert_eq!(rt; words_copied::<Lsb0, Lsb0>(source, 4, 4), [0x1230, 0x000D]);
-    assert_eq!(rt; words_copied::<Lsb0, Lsb0>(source, 4, 8), [0x2300, 0x00D1]);
-    assert_eq!(rt; words_copied::<Lsb0, Lsb0>(source, 8, 4), [0xD120, 0x000C]);
-    assert_eq!(rt; words_copied::<Msb0, Msb0>(source, 4, 4), [0x0234, 0xA000]);
-    assert_eq!(rt; words_copied::<Msb0, Msb0>(source, 4, 8), [0x0023, 0x4A00]);
-    assert_eq!(rt; words_copied::<Msb0, Msb0>(source, 8, 4), [0x034A, 0xB000]);
-    assert_eq!(rt; words_copied::<Lsb0, Msb0>(source, 4, 4), [0x0C48, 0xB000]);
-    assert_eq!(rt; words_copied::<Lsb0, Msb0>(source, 4, 8), [0x00C4, 0x8B00]);
-    assert_eq!(rt; words_copied::<Lsb0, Msb0>(source, 8, 4), [0x048B, 0x3000]);
-    assert_eq!(rt; words_copied::<Msb0, Lsb0>(source, 4, 4), [0x2C40, 0x0005]);
-    assert_eq!(rt; words_copied::<Msb0, Lsb0>(source, 4, 8), [0xC400, 0x0052]);
-    assert_eq!(rt; words_copied::<Msb0, Lsb0>(source, 8, 4), [0x52C0, 0x000D]);
-    Ok(())
+    [(4, 4), (4, 8), (8, 4)].map(|(from, to)| words_copied::<O, O2>(source, from, to))
+}
+
+#[test]
+fn copies_words_in_each_way(rt: HostRuntime) {
+    assert_eq!(rt;
+        copied_each_way::<Lsb0, Lsb0>(),
+        [[0x1230, 0x000D], [0x2300, 0x00D1], [0xD120, 0x000C]]
+    );
+    assert_eq!(rt;
+        copied_each_way::<Msb0, Msb0>(),
+        [[0x0234, 0xA000], [0x0023, 0x4A00], [0x034A, 0xB000]]
+    );
+    assert_eq!(rt;
+        copied_each_way::<Lsb0, Msb0>(),
+        [[0x0C48, 0xB000], [0x00C4, 0x8B00], [0x048B, 0x3000]]
+    );
+    assert_eq!(rt;
+        copied_each_way::<Msb0, Lsb0>(),
+        [[0x2C40, 0x0005], [0xC400, 0x0052], [0x52C0, 0x000D]]
+    );
 }
 
 // The pointer to a bit of the first word.

@@ -96,30 +96,41 @@ fn greatest_range(start: BitPtr<u8, Lsb0>, end: BitPtr<u8, Lsb0>) -> BitPtrRange
     BitPtrRange::from_range(start..end)
 }
 
+// The two ends of a range.
+fn ends(range: &BitPtrRange<u8, Lsb0>) -> [(isize, u8); 2] {
+    [parts(range.start()), parts(range.end())]
+}
+
 #[test]
-fn takes_places_of_the_greatest_range(rt: HostRuntime) {
+fn takes_the_last_place_of_the_greatest_range(rt: HostRuntime) {
     let mut range = greatest_range(at(0, 0), at(FAR, 7));
     assert_eq!(rt; range.len(), 9223372036854775807);
     assert_eq!(rt; range.nth(9223372036854775806).map(parts), Some((FAR, 6)));
     assert!(rt; range.is_empty());
-    assert_eq!(rt; parts(range.start()), (FAR, 7));
-    assert_eq!(rt; parts(range.end()), (FAR, 7));
+    assert_eq!(rt; ends(&range), [(FAR, 7), (FAR, 7)]);
+}
+
+#[test]
+fn takes_no_place_past_the_greatest_range(rt: HostRuntime) {
     let mut range = greatest_range(at(0, 0), at(FAR, 7));
     assert!(rt; range.nth_back(usize::MAX).is_none());
     assert!(rt; range.is_empty());
-    assert_eq!(rt; parts(range.start()), (0, 0));
-    assert_eq!(rt; parts(range.end()), (0, 0));
+    assert_eq!(rt; ends(&range), [(0, 0), (0, 0)]);
     let ends = at(0, 0)..at(FAR + 1, 0);
     assert!(rt; !BitPtrRange::can_range(&ends));
 }
 
 #[test]
-fn takes_the_last_place(rt: HostRuntime) {
+fn takes_the_last_place_from_the_front(rt: HostRuntime) {
     let ends = at(isize::MAX, 6)..at(isize::MAX, 7);
     assert!(rt; BitPtrRange::can_range(&ends));
     let mut range = BitPtrRange::from_range(ends);
     assert_eq!(rt; range.next().map(parts), Some((isize::MAX, 6)));
     assert!(rt; range.next().is_none() && range.next_back().is_none());
+}
+
+#[test]
+fn takes_the_last_place_from_the_back(rt: HostRuntime) {
     let ends = at(isize::MAX, 6)..at(isize::MAX, 7);
     assert!(rt; BitPtrRange::can_range(&ends));
     let mut range = BitPtrRange::from_range(ends);

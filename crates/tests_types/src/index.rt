@@ -10,9 +10,8 @@ use std::fmt;
 use std::process::Abort;
 use std::test::Fail;
 
-// What the constructors of a register of that width take, and the first numbers that they refuse.
-fn has_constructors<R: BitRegister>(rt: &impl Abort, width: u8) {
-    assert_eq!(rt; R::BITS, width);
+// What the constructors of a register of that width take.
+fn takes<R: BitRegister>(rt: &impl Abort, width: u8) {
     for n in 0..R::BITS {
         assert!(rt; BitIdx::<R>::new(n).is_ok(), "index {n} of {width}");
         assert!(rt; BitPos::<R>::new(n).is_some(), "position {n} of {width}");
@@ -22,12 +21,23 @@ fn has_constructors<R: BitRegister>(rt: &impl Abort, width: u8) {
             "selector {n} of {width}"
         );
     }
+    assert!(rt; BitEnd::<R>::new(width).is_some());
+}
+
+// The first numbers that they refuse.
+fn refuses<R: BitRegister>(rt: &impl Abort, width: u8) {
     assert!(rt; BitIdx::<R>::new(width).is_err());
     assert!(rt; BitPos::<R>::new(width).is_none());
-    assert!(rt; BitEnd::<R>::new(width).is_some());
     assert!(rt; BitEnd::<R>::new(R::BITS + 1).is_none());
     assert!(rt; BitSel::new(R::ZERO).is_none());
     assert!(rt; BitSel::new(R::ONE.or(R::ONE.shl(1))).is_none());
+}
+
+// That a register has a width, and constructors of that width.
+fn has_constructors<R: BitRegister>(rt: &impl Abort, width: u8) {
+    assert_eq!(rt; R::BITS, width);
+    takes::<R>(rt, width);
+    refuses::<R>(rt, width);
 }
 
 #[test]
@@ -41,22 +51,30 @@ fn constructors(rt: HostRuntime) {
 }
 
 #[test]
-fn numbers(rt: HostRuntime) -> Result<(), Fail> {
+fn numbers_of_indices(rt: HostRuntime) -> Result<(), Fail> {
     assert_eq!(rt; BitIdx::<u8>::new_unchecked(7), BitIdx::MAX);
     assert_eq!(rt; BitIdx::<u8>::MAX.into_inner(), 7);
     assert_eq!(rt; BitIdx::<u8>::MIN, BitIdx::default());
+    assert!(rt; BitIdx::<u8>::MIN < BitIdx::MAX);
+    let error = BitIdx::<u8>::new(8).err().ok_or("an index past the width")?;
+    assert_eq!(rt; error.into_inner(), 8);
+    Ok(())
+}
+
+#[test]
+fn numbers_of_ends(rt: HostRuntime) {
     assert_eq!(rt; BitEnd::<u8>::new_unchecked(8), BitEnd::MAX);
     assert_eq!(rt; BitEnd::<u8>::MAX.into_inner(), 8);
     assert_eq!(rt; BitEnd::<u8>::MIN, BitEnd::default());
+}
+
+#[test]
+fn numbers_of_positions_and_masks(rt: HostRuntime) {
     assert_eq!(rt; BitPos::<u8>::new_unchecked(7), BitPos::MAX);
     assert_eq!(rt; BitPos::<u8>::MAX.into_inner(), 7);
     assert_eq!(rt; BitPos::<u8>::MIN, BitPos::default());
     assert_eq!(rt; BitMask::<u8>::ZERO, BitMask::default());
     assert_eq!(rt; BitMask::<u8>::ALL.into_inner(), 255);
-    assert!(rt; BitIdx::<u8>::MIN < BitIdx::MAX);
-    let error = BitIdx::<u8>::new(8).err().ok_or("an index past the width")?;
-    assert_eq!(rt; error.into_inner(), 8);
-    Ok(())
 }
 
 #[test]
@@ -69,68 +87,66 @@ fn selectors_and_masks_of_a_position(rt: HostRuntime) {
 }
 
 #[test]
-fn ranges(rt: HostRuntime) -> Result<(), Fail> {
+fn range_of_indices(rt: HostRuntime) {
     let mut indices = BitIdx::<u16>::range_all();
     assert_eq!(rt; indices.next(), BitIdx::new(0).ok());
     assert_eq!(rt; indices.next_back(), BitIdx::new(15).ok());
     assert_eq!(rt; indices.count(), 14);
+}
 
-    let mut ends = BitEnd::<u8>::range_from(BitIdx::new(1)?);
+#[test]
+fn range_of_ends(rt: HostRuntime) {
+    let mut ends = BitEnd::<u8>::range_from(BitIdx::new_unchecked(1));
     assert_eq!(rt; ends.next(), BitEnd::new(1));
     assert_eq!(rt; ends.next_back(), BitEnd::new(8));
     assert_eq!(rt; ends.count(), 6);
+}
 
+#[test]
+fn range_of_positions(rt: HostRuntime) {
     let mut positions = BitPos::<u8>::range_all();
     assert_eq!(rt; positions.next(), BitPos::new(0));
     assert_eq!(rt; positions.next_back(), BitPos::new(7));
     assert_eq!(rt; positions.count(), 6);
+}
 
+#[test]
+fn range_of_selectors(rt: HostRuntime) {
     let mut selectors = BitSel::<u8>::range_all();
     assert_eq!(rt; selectors.next(), BitSel::new(1));
     assert_eq!(rt; selectors.next_back(), BitSel::new(128));
     assert_eq!(rt; selectors.count(), 6);
-    Ok(())
 }
 
 #[test]
-fn both_ends(rt: HostRuntime) -> Result<(), Fail> {
-    let mut indices = BitIdx::<u8>::new(3)?.range(BitEnd::new_unchecked(5));
+fn both_ends(rt: HostRuntime) {
+    let mut indices = BitIdx::<u8>::new_unchecked(3).range(BitEnd::new_unchecked(5));
     assert_eq!(rt; indices.len(), 2);
     assert_eq!(rt; indices.next_back(), BitIdx::new(4).ok());
     assert_eq!(rt; indices.next(), BitIdx::new(3).ok());
     assert_eq!(rt; indices.len(), 0);
-    assert_eq!(rt; indices.next(), None);
-    assert_eq!(rt; indices.next_back(), None);
+    assert_eq!(rt; (indices.next(), indices.next_back()), (None, None));
+}
+
+// That an index is followed by another, and whether the two stand in different registers.
+fn is_followed<R: BitRegister>(
+    rt: &impl Abort,
+    from: u8,
+    index: u8,
+    crossed: bool,
+) -> Result<(), Fail> {
+    let (from, index) = (BitIdx::<R>::new(from)?, BitIdx::new(index)?);
+    assert_eq!(rt; from.next(), (index, crossed));
+    assert_eq!(rt; index.prev(), (from, crossed));
     Ok(())
 }
 
 #[test]
 fn index_cycle(rt: HostRuntime) -> Result<(), Fail> {
-    for (from, index, crossed) in [(6, 7, false), (7, 0, true)] {
-        assert_eq!(rt;
-            BitIdx::<u8>::new(from)?.next(),
-            (BitIdx::new(index)?, crossed),
-            "{from}"
-        );
-        assert_eq!(rt;
-            BitIdx::<u8>::new(index)?.prev(),
-            (BitIdx::new(from)?, crossed),
-            "{index}"
-        );
-    }
-    for (from, index, crossed) in [(14, 15, false), (15, 0, true)] {
-        assert_eq!(rt;
-            BitIdx::<u16>::new(from)?.next(),
-            (BitIdx::new(index)?, crossed),
-            "{from}"
-        );
-        assert_eq!(rt;
-            BitIdx::<u16>::new(index)?.prev(),
-            (BitIdx::new(from)?, crossed),
-            "{index}"
-        );
-    }
-    Ok(())
+    is_followed::<u8>(&rt, 6, 7, false)?;
+    is_followed::<u8>(&rt, 7, 0, true)?;
+    is_followed::<u16>(&rt, 14, 15, false)?;
+    is_followed::<u16>(&rt, 15, 0, true)
 }
 
 // Whether a step from an index ends so many registers on, at that index.
@@ -182,27 +198,57 @@ impl<T: fmt::Binary> fmt::Display for AsBinary<'_, T> {
     }
 }
 
-// That a value's texts, with flags and without, are its digits, and these behind the two names.
-fn shows<T: fmt::Binary + fmt::Display + fmt::Debug>(
+// That a value's digits are a text, with flags and without.
+fn shows_digits<T: fmt::Binary>(
     rt: &(impl Abort + AllocGlobal),
     value: &T,
-    names: &str,
     digits: &str,
 ) -> Result<(), AllocError> {
     let alloc = rt.alloc();
     let shown = AsBinary(value);
-    let debug = format!(in alloc; "{names}({digits})")?;
     assert_eq!(rt; format!(in alloc; "{shown}")?.as_str(), digits);
     assert_eq!(rt; format!(in alloc; "{shown:+>90}")?.as_str(), digits);
-    assert_eq!(rt; format!(in alloc; "{value}")?.as_str(), digits);
-    assert_eq!(rt; format!(in alloc; "{value:090.1}")?.as_str(), digits);
-    assert_eq!(rt; format!(in alloc; "{value:?}")?.as_str(), debug.as_str());
-    assert_eq!(rt;
-        format!(in alloc; "{value:*<+90?}")?.as_str(),
-        debug.as_str()
-    );
-    assert_eq!(rt; format!(in alloc; "{value:#?}")?.as_str(), debug.as_str());
     Ok(())
+}
+
+// The same of its text for a user.
+fn displays<T: fmt::Display>(
+    rt: &(impl Abort + AllocGlobal),
+    value: &T,
+    text: &str,
+) -> Result<(), AllocError> {
+    let alloc = rt.alloc();
+    assert_eq!(rt; format!(in alloc; "{value}")?.as_str(), text);
+    assert_eq!(rt; format!(in alloc; "{value:+>90.1}")?.as_str(), text);
+    assert_eq!(rt; format!(in alloc; "{value:090.1}")?.as_str(), text);
+    Ok(())
+}
+
+// The same of its text for a programmer.
+fn debugs<T: fmt::Debug>(
+    rt: &(impl Abort + AllocGlobal),
+    value: &T,
+    text: &str,
+) -> Result<(), AllocError> {
+    let alloc = rt.alloc();
+    assert_eq!(rt; format!(in alloc; "{value:?}")?.as_str(), text);
+    assert_eq!(rt; format!(in alloc; "{value:*<+90?}")?.as_str(), text);
+    assert_eq!(rt; format!(in alloc; "{value:#090?}")?.as_str(), text);
+    Ok(())
+}
+
+// That a value's texts are its digits, and these behind its name.
+fn shows<T: fmt::Binary + fmt::Display + fmt::Debug>(
+    rt: &(impl Abort + AllocGlobal),
+    value: &T,
+    name: &str,
+    digits: &str,
+) -> Result<(), AllocError> {
+    let alloc = rt.alloc();
+    let debug = format!(in alloc; "{name}({digits})")?;
+    shows_digits(rt, value, digits)?;
+    displays(rt, value, digits)?;
+    debugs(rt, value, debug.as_str())
 }
 
 // The same of an error's two texts.
@@ -212,12 +258,8 @@ fn shows_error<E: Error>(
     display: &str,
     debug: &str,
 ) -> Result<(), AllocError> {
-    let alloc = rt.alloc();
-    assert_eq!(rt; format!(in alloc; "{error}")?.as_str(), display);
-    assert_eq!(rt; format!(in alloc; "{error:+>90.1}")?.as_str(), display);
-    assert_eq!(rt; format!(in alloc; "{error:?}")?.as_str(), debug);
-    assert_eq!(rt; format!(in alloc; "{error:#090?}")?.as_str(), debug);
-    Ok(())
+    displays(rt, error, display)?;
+    debugs(rt, error, debug)
 }
 
 #[test]

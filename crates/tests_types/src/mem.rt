@@ -7,29 +7,21 @@ use std::test::Fail;
 // The constants of a register.
 fn has_constants<R: BitRegister>(rt: &impl Abort, numbers: [u8; 3], name: &str) {
     assert_eq!(rt; [R::BITS, R::INDX, R::MASK], numbers);
-    assert_eq!(rt; R::NAME, name);
-    assert_eq!(rt; R::name_text(), name);
-    assert_eq!(rt; R::ZERO.to_u128(), 0);
-    assert_eq!(rt; R::ONE.to_u128(), 1);
+    assert_eq!(rt; [R::NAME, R::name_text()], [name, name]);
+    assert_eq!(rt; [R::ZERO.to_u128(), R::ONE.to_u128()], [0, 1]);
     assert_eq!(rt; R::default(), R::ZERO);
 }
 
-// Its functions, on the digits 1100 and 1010; `past` is the least number that it has no room
-// for.
-fn has_functions<R: BitRegister>(rt: &impl Abort, past: Option<u128>) -> Result<(), Fail> {
+// Its functions, on the digits 1100 and 1010.
+fn has_functions<R: BitRegister>(rt: &impl Abort) -> Result<(), Fail> {
     let a = R::from_u128(12).ok_or("12 is a number of each register")?;
     let b = R::from_u128(10).ok_or("10 is a number of each register")?;
-    assert_eq!(rt; a.and(b).to_u128(), 8);
-    assert_eq!(rt; a.or(b).to_u128(), 14);
-    assert_eq!(rt; a.xor(b).to_u128(), 6);
-    assert_eq!(rt; a.not().and(b).to_u128(), 2);
+    let (met, joined) = (a.and(b).to_u128(), a.or(b).to_u128());
+    let (apart, left) = (a.xor(b).to_u128(), a.not().and(b).to_u128());
+    assert_eq!(rt; [met, joined, apart, left], [8, 14, 6, 2]);
+    assert_eq!(rt; [a.shl(1).to_u128(), a.shr(2).to_u128()], [24, 3]);
     assert_eq!(rt; a.not().or(a), R::ALL);
-    assert_eq!(rt; a.shl(1).to_u128(), 24);
-    assert_eq!(rt; a.shr(2).to_u128(), 3);
     assert_eq!(rt; a.count_ones(), 2);
-    if let Some(past) = past {
-        assert_eq!(rt; R::from_u128(past), None);
-    }
     assert!(rt; b < a);
     Ok(())
 }
@@ -46,13 +38,22 @@ fn constants(rt: HostRuntime) {
 
 #[test]
 fn functions(rt: HostRuntime) -> Result<(), Fail> {
-    has_functions::<u8>(&rt, Some(0x100))?;
-    has_functions::<u16>(&rt, Some(0x1_0000))?;
-    has_functions::<u32>(&rt, Some(0x1_0000_0000))?;
-    has_functions::<u64>(&rt, Some(0x1_0000_0000_0000_0000))?;
-    has_functions::<usize>(&rt, Some(0x1_0000_0000_0000_0000))?;
-    has_functions::<u128>(&rt, None)?;
-    Ok(())
+    has_functions::<u8>(&rt)?;
+    has_functions::<u16>(&rt)?;
+    has_functions::<u32>(&rt)?;
+    has_functions::<u64>(&rt)?;
+    has_functions::<usize>(&rt)?;
+    has_functions::<u128>(&rt)
+}
+
+// The least numbers that registers have no room for.
+#[test]
+fn numbers_past_the_registers(rt: HostRuntime) {
+    assert_eq!(rt; u8::from_u128(0x100), None);
+    assert_eq!(rt; u16::from_u128(0x1_0000), None);
+    assert_eq!(rt; u32::from_u128(0x1_0000_0000), None);
+    assert_eq!(rt; u64::from_u128(0x1_0000_0000_0000_0000), None);
+    assert_eq!(rt; usize::from_u128(0x1_0000_0000_0000_0000), None);
 }
 
 #[test]
