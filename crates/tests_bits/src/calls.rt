@@ -247,10 +247,10 @@ fn writes_four_nibbles(rt: HostRuntime) -> Result<(), Fail> {
     for (order, memory) in [("lsb0", "21,84"), ("msb0", "84,21"), ("hilo", "12,48")] {
         let line = format!(in rt.alloc(); "run {order} {NIBBLES}")?;
         let want = format!(in rt.alloc(); "bit 0\nbit 0\nbit 0\nbit 0\nmemory {memory}\n")?;
-        let args = words(rt.alloc(), line.as_str())?;
-        let mut out = Slow::new(rt.alloc(), 7, 1000);
-        assert_eq!(rt; answer(&rt.alloc(), &args, &mut out), 0, "by {order}");
-        assert_eq!(rt; out.taken.as_slice(), want.as_bytes(), "by {order}");
+        assert!(rt;
+            gives(rt.alloc(), line.as_str(), 0, want.as_str())?,
+            "by {order}"
+        );
     }
     Ok(())
 }

@@ -18,27 +18,40 @@ fn memory_text(alloc: Global, words: u32, first: &str, firsts: u32) -> Result<St
     Ok(text)
 }
 
-// The arguments of a run of nibbles: so many spans of four bits one behind the other from place 0
-// on, each of which is given the byte 5a.
-fn nibbles(alloc: Global, words: u32, spans: u32) -> Result<Vec<String>, AllocError> {
-    let mut places = String::new(alloc);
-    let mut commands = String::new(alloc);
+// The places of so many spans of four bits, one behind the other from place 0 on.
+fn places(alloc: Global, spans: u32) -> Result<String, AllocError> {
+    let mut text = String::new(alloc);
     for k in 0..spans {
         if k > 0 {
-            places.push_str(",")?;
-            commands.push_str(",")?;
+            text.push_str(",")?;
         }
         let start = u64::from(k) * 4;
-        write!(places, "{start}+4")?;
-        write!(commands, "{k}:store:0:5a")?;
+        write!(text, "{start}+4")?;
     }
+    Ok(text)
+}
+
+// The commands that give each of so many spans the byte 5a.
+fn commands(alloc: Global, spans: u32) -> Result<String, AllocError> {
+    let mut text = String::new(alloc);
+    for k in 0..spans {
+        if k > 0 {
+            text.push_str(",")?;
+        }
+        write!(text, "{k}:store:0:5a")?;
+    }
+    Ok(text)
+}
+
+// The arguments of that run.
+fn nibbles(alloc: Global, words: u32, spans: u32) -> Result<Vec<String>, AllocError> {
     let mut args = Vec::new(alloc);
     for word in ["run", "lsb0", "u8"] {
         args.push(String::from_str(alloc, word)?)?;
     }
     args.push(memory_text(alloc, words, "0", 0)?)?;
-    args.push(places)?;
-    args.push(commands)?;
+    args.push(places(alloc, spans)?)?;
+    args.push(commands(alloc, spans)?)?;
     Ok(args)
 }
 

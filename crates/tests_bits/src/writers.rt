@@ -3,7 +3,7 @@
 use super::calls::{FIRST, USAGE, words};
 use super::refusing::{Plan, Refusing};
 use answers::answer;
-use std::alloc::Global;
+use std::alloc::{AllocError, Global};
 use std::io;
 use std::io::Write;
 use std::test::Fail;
@@ -66,23 +66,27 @@ fn calls() -> [(&'static str, u8, &'static str); 5] {
     ]
 }
 
+// The status with which a line ends through a writer, whether that has taken just the text, and how
+// many times it was flushed.
+fn written(
+    alloc: Global,
+    line: &str,
+    out: Slow,
+    text: &[u8],
+) -> Result<(u8, bool, usize), AllocError> {
+    let args = words(alloc, line)?;
+    let mut out = out;
+    let status = answer(&alloc, &args, &mut out);
+    Ok((status, out.taken.as_slice() == text, out.flushes))
+}
+
 #[test]
 fn a_write_may_fail(rt: HostRuntime) -> Result<(), Fail> {
     for (line, _, want) in calls() {
-        let args = words(rt.alloc(), line)?;
         for limit in 0..want.len() {
-            let mut out = Slow::new(rt.alloc(), 3, limit);
-            assert_eq!(rt;
-                answer(&rt.alloc(), &args, &mut out),
-                4,
-                "at {limit} of {line}"
-            );
-            assert_eq!(rt;
-                out.taken.as_slice(),
-                &want.as_bytes()[..limit],
-                "at {limit} of {line}"
-            );
-            assert_eq!(rt; out.flushes, 0, "at {limit} of {line}");
+            let out = Slow::new(rt.alloc(), 3, limit);
+            let got = written(rt.alloc(), line, out, &want.as_bytes()[..limit])?;
+            assert_eq!(rt; got, (4, true, 0), "at {limit} of {line}");
         }
     }
     Ok(())
@@ -91,11 +95,9 @@ fn a_write_may_fail(rt: HostRuntime) -> Result<(), Fail> {
 #[test]
 fn bytes_are_taken_one_at_a_time(rt: HostRuntime) -> Result<(), Fail> {
     for (line, status, want) in calls() {
-        let args = words(rt.alloc(), line)?;
-        let mut out = Slow::new(rt.alloc(), 1, want.len());
-        assert_eq!(rt; answer(&rt.alloc(), &args, &mut out), status, "at {line}");
-        assert_eq!(rt; out.taken.as_slice(), want.as_bytes(), "at {line}");
-        assert_eq!(rt; out.flushes, 1, "at {line}");
+        let out = Slow::new(rt.alloc(), 1, want.len());
+        let got = written(rt.alloc(), line, out, want.as_bytes())?;
+        assert_eq!(rt; got, (status, true, 1), "at {line}");
     }
     Ok(())
 }
@@ -103,33 +105,39 @@ fn bytes_are_taken_one_at_a_time(rt: HostRuntime) -> Result<(), Fail> {
 #[test]
 fn a_flush_may_fail(rt: HostRuntime) -> Result<(), Fail> {
     for (line, _, want) in calls() {
-        let args = words(rt.alloc(), line)?;
         let mut out = Slow::new(rt.alloc(), 3, want.len());
         out.flush_fails = true;
-        assert_eq!(rt; answer(&rt.alloc(), &args, &mut out), 4, "at {line}");
-        assert_eq!(rt; out.taken.as_slice(), want.as_bytes(), "at {line}");
+        let got = written(rt.alloc(), line, out, want.as_bytes())?;
+        assert_eq!(rt; got, (4, true, 0), "at {line}");
     }
     Ok(())
+}
+
+// The status with which a call ends that gets no memory, and whether the writer has taken just the
+// text.
+fn without_memory(
+    alloc: Global,
+    args: &[String],
+    limit: usize,
+    flush_fails: bool,
+    text: &[u8],
+) -> (u8, bool) {
+    let none = Refusing::new(alloc, Plan::all_from(0));
+    let mut out = Slow::new(alloc, 3, limit);
+    out.flush_fails = flush_fails;
+    let status = answer(&none, args, &mut out);
+    (status, out.taken.as_slice() == text)
 }
 
 #[test]
 fn want_of_memory_may_not_be_written(rt: HostRuntime) -> Result<(), Fail> {
     let args = words(rt.alloc(), FIRST)?;
-    let want = "out of memory\n";
+    let want = b"out of memory\n".as_slice();
     for limit in 0..want.len() {
-        let none = Refusing::new(rt.alloc(), Plan::all_from(0));
-        let mut out = Slow::new(rt.alloc(), 3, limit);
-        assert_eq!(rt; answer(&none, &args, &mut out), 4, "at {limit}");
-        assert_eq!(rt;
-            out.taken.as_slice(),
-            &want.as_bytes()[..limit],
-            "at {limit}"
-        );
+        let got = without_memory(rt.alloc(), &args, limit, false, &want[..limit]);
+        assert_eq!(rt; got, (4, true), "at {limit}");
     }
-    let none = Refusing::new(rt.alloc(), Plan::all_from(0));
-    let mut out = Slow::new(rt.alloc(), 3, want.len());
-    out.flush_fails = true;
-    assert_eq!(rt; answer(&none, &args, &mut out), 4);
-    assert_eq!(rt; out.taken.as_slice(), want.as_bytes());
+    let got = without_memory(rt.alloc(), &args, want.len(), true, want);
+    assert_eq!(rt; got, (4, true));
     Ok(())
 }
