@@ -1,12 +1,15 @@
 //! The lines of `bits domain`: the items of a span's domain in a memory.
 
-ghost use Rattle.std.specs.Prelude.{◌^◌, ◌<◌};
+ghost use Rattle.std.specs.Prelude.{◌^◌, ◌<◌, length};
+ghost use Rattle.bitvec.specs.BitSpan.{span_of};
+ghost use Rattle.bitvec.specs.Span.{Fits};
 
 use crate::fault::Fault;
 use crate::spans::span_at;
 use bitvec::domain::Domain;
 use bitvec::mem::BitRegister;
 use bitvec::order::BitOrder;
+use bitvec::ptr::span::BitSpan;
 use notation::names::Call;
 use notation::number::place;
 use notation::words::words_of;
@@ -39,11 +42,22 @@ impl<'a, A: Allocator> Call for DomainCall<'a, '_, A> {
         if !span.fits(memory.len()) {
             return Err(Fault::line(alloc, &"span does not fit")?);
         }
-        let mut text = String::new(alloc);
-        let total = write_items(&mut text, span.address() as u128, span.domain(&memory))?;
-        writeln!(text, "total {total}")?;
-        Ok(text)
+        Ok(text_of(alloc, span, &memory)?)
     }
+}
+
+// A line an item of a span that fits, and the number of items.
+fn text_of<'a, R: BitRegister, O: BitOrder<R>, A: Allocator>(
+    alloc: &'a A,
+    span: BitSpan<R, O>,
+    memory: &[R],
+) -> Result<String<&'a A>, AllocError>
+    requires { Fits R.BITS (span_of span) (length memory.now) }
+{
+    let mut text = String::new(alloc);
+    let total = write_items(&mut text, span.address() as u128, span.domain(memory))?;
+    writeln!(text, "total {total}")?;
+    Ok(text)
 }
 
 // Writes a line an item, and gives their number. Word numbers and counts are u128, in which no sum

@@ -35,21 +35,41 @@ impl<'a, A: Allocator> Call for RunCall<'a, '_, A> {
         let places = intervals_of(alloc, self.spans)?;
         let requests = requests_of::<R, A>(alloc, self.commands)?;
         let spans = spans_of::<R, O, A>(alloc, &places)?;
-        if !spans.iter().all(|span| span.fits(memory.len())) {
-            return Err(Fault::line(alloc, &"span does not fit")?);
-        }
-        if !can_run(&spans, memory.len()) {
-            return Err(Fault::line(alloc, &"spans overlap")?);
-        }
-        let mut replies = vec![in alloc; Reply::NoSpan; requests.len()]?;
-        run(&spans, &mut memory, &requests, &mut replies);
-        let mut text = String::new(alloc);
-        write_replies(&mut text, &replies)?;
-        write!(text, "memory ")?;
-        write_words(&mut text, &memory)?;
-        writeln!(text)?;
-        Ok(text)
+        let replies = served(alloc, &spans, &mut memory, &requests)?;
+        Ok(text_of(alloc, &replies, &memory)?)
     }
+}
+
+// Gives the commands to the spans, and returns their replies.
+fn served<'a, R: BitRegister, O: BitOrder<R>, A: Allocator>(
+    alloc: &'a A,
+    spans: &[BitSpan<R, O>],
+    memory: &mut [R],
+    requests: &[Request<R>],
+) -> Result<Vec<Reply<R>, &'a A>, Fault<&'a A>> {
+    if !spans.iter().all(|span| span.fits(memory.len())) {
+        return Err(Fault::line(alloc, &"span does not fit")?);
+    }
+    if !can_run(spans, memory.len()) {
+        return Err(Fault::line(alloc, &"spans overlap")?);
+    }
+    let mut replies = vec![in alloc; Reply::NoSpan; requests.len()]?;
+    run(spans, memory, requests, &mut replies);
+    Ok(replies)
+}
+
+// A line a reply, and the memory.
+fn text_of<'a, R: BitRegister, A: Allocator>(
+    alloc: &'a A,
+    replies: &[Reply<R>],
+    memory: &[R],
+) -> Result<String<&'a A>, AllocError> {
+    let mut text = String::new(alloc);
+    write_replies(&mut text, replies)?;
+    write!(text, "memory ")?;
+    write_words(&mut text, memory)?;
+    writeln!(text)?;
+    Ok(text)
 }
 
 // A comma list of places and lengths with a plus sign between them, or `-` for none.

@@ -1,9 +1,9 @@
 //! Spans from numbers.
 
 use crate::fault::Fault;
-use bitvec::index::BitIdx;
 use bitvec::mem::BitRegister;
 use bitvec::ptr::span::BitSpan;
+use notation::places::pointer_at;
 use std::alloc::Allocator;
 
 /// The span of `len` bits from a place on, or the fault of its refusal.
@@ -12,9 +12,7 @@ pub fn span_at<'a, R: BitRegister, O, A: Allocator>(
     start: u64,
     len: u64,
 ) -> Result<BitSpan<R, O>, Fault<&'a A>> {
-    let width = u64::from(R::BITS);
-    let head = BitIdx::new_unchecked((start % width) as u8);
-    match BitSpan::new((start / width) as isize, head, len as usize) {
+    match BitSpan::from_bitptr(pointer_at(start), len as usize) {
         Ok(span) => Ok(span),
         Err(error) => Err(Fault::line(alloc, &error)?),
     }

@@ -1,11 +1,11 @@
 //! Questions of the words and parts of words that a span meets in a memory.
 
-use crate::places::pointer_at;
 use bitvec::mem::BitRegister;
 use bitvec::order::BitOrder;
 use bitvec::ptr::span::BitSpan;
 use notation::names::{self, Call};
 use notation::number::place;
+use notation::places::pointer_at;
 use notation::words::words_of;
 use std::alloc::{AllocError, Allocator};
 

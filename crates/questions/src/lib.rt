@@ -8,6 +8,5 @@ mod domains;
 mod index;
 mod line;
 mod memories;
-mod places;
 mod pointers;
 pub mod report;

@@ -5,12 +5,12 @@ ghost use Rattle.std.specs.Prelude.{IfSome};
 ghost use Rattle.bitvec.specs.BitPtr.{ptr_of};
 ghost use Rattle.bitvec.specs.Steps.{IsIn, RangeIsIn};
 
-use crate::places::pointer_at;
 use bitvec::mem::BitRegister;
 use bitvec::order::BitOrder;
 use bitvec::ptr::single::BitPtr;
 use notation::names::{self, Call};
 use notation::number::place;
+use notation::places::pointer_at;
 use notation::words::{words_of, write_words};
 use std::alloc::{AllocError, Allocator};
 use std::fmt::Write as _;

@@ -1,6 +1,5 @@
 //! Pointers to bits, their ranges, and the refusals of spans.
 
-use crate::places::pointer_at;
 use bitvec::index::BitIdx;
 use bitvec::mem::BitRegister;
 use bitvec::order::BitOrder;
@@ -8,6 +7,7 @@ use bitvec::ptr::range::BitPtrRange;
 use bitvec::ptr::single::BitPtr;
 use bitvec::ptr::span::{BitSpan, BitSpanError};
 use notation::names::{self, Call};
+use notation::places::pointer_at;
 use std::alloc::{AllocError, Allocator};
 use std::fmt::Write as _;
 

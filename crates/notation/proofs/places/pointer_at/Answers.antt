@@ -1,6 +1,6 @@
 use Rattle.std.proofs.Common.{◌∙◌, ◌≤◌, arith}
-use Rattle.questions.proofs.PlaceLemmas.{index_below, index_fits, word_of_place_fits}
-use Rattle.questions.proofs.places.pointer_at.Goals as goal
+use Rattle.notation.proofs.PlaceLemmas.{index_below, index_fits, word_of_place_fits}
+use Rattle.notation.proofs.places.pointer_at.Goals as goal
 
 pub nonzero_rem-at : goal.nonzero_rem-at
 nonzero_rem-at g c = omega (arith, c.from-width.ensures, c.BITS.ensures, g.met.R.BitRegister.width_at_least_8)
