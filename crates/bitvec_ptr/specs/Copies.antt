@@ -7,7 +7,7 @@ use Rattle.bitvec_ptr.specs.WordWriter.{writer_memory, writer_of}
 -- From its older to its newer state, a writer has put the `met` words from the word `first` on, and has so copied
 -- `count` bits, from place s of a source on, to those of its memory from place t on. The words of the source have
 -- `width` bits at the positions `at` and are numbers by `number`; those of the memory have `width2`, `at2`, `number2`.
-pub record HasCopied {W W2 : Type 0} (width : ℕ) (at : ℕ → ℕ) (number : W → ℕ) (source : List W) (s : ℕ) (width2 : ℕ) (at2 : ℕ → ℕ) (number2 : W2 → ℕ) (older newer : WordWriter W2) (t count first met : ℕ) : Type 0 where
+pub record HasCopied {X Y : Type 0} (width : ℕ) (at : ℕ → ℕ) (number : X → ℕ) (source : List X) (s : ℕ) (width2 : ℕ) (at2 : ℕ → ℕ) (number2 : Y → ℕ) (older newer : WordWriter Y) (t count first met : ℕ) : Type 0 where
   pub reference : (writer_memory newer).ghost_name ≡ (writer_memory older).ghost_name
   pub direction : (writer_of newer).rising ≡ (writer_of older).rising
   pub len : length (writer_of newer).words ≡ length (writer_of older).words
