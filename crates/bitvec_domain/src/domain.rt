@@ -417,6 +417,7 @@ impl<'a, R: BitRegister, O: BitOrder<R>> Iterator for Domain<'a, R, O> {
                 }
                 None => {
                     *self = Domain::default();
+                    // A closure would be a function of its own to prove.
                     match tail {
                         Some(part) => Some(part.load_value()),
                         None => None,
@@ -472,6 +473,7 @@ impl<'a, R: BitRegister, O: BitOrder<R>> DoubleEndedIterator for Domain<'a, R, O
                 }
                 None => {
                     *self = Domain::default();
+                    // A closure would be a function of its own to prove.
                     match head {
                         Some(part) => Some(part.load_value()),
                         None => None,

@@ -1,4 +1,6 @@
-use Rattle.std.proofs.Common.{◌∙◌, ◌≤◌, arith}
+use Rattle.std.proofs.Common.{◌∙◌, ◌≤◌, ap, arith}
+use Rattle.std.proofs.lemmas.Int.{to_z-of_z}
+use Rattle.bitvec.specs.Place.{Ptr}
 use Rattle.notation.proofs.PlaceLemmas.{index_below, index_fits, word_of_place_fits}
 use Rattle.notation.proofs.places.pointer_at.Goals as goal
 
@@ -18,3 +20,10 @@ pub overflow_cast-at-2 : goal.overflow_cast-at-2
 overflow_cast-at-2 g c =
     let wide : 8 ≤ c.from-width.result = omega (arith, c.from-width.ensures, c.BITS.ensures, g.met.R.BitRegister.width_at_least_8) in
     word_of_place_fits c.args.at c.from-width.result (omega arith) wide
+
+pub returns-clause-word : goal.returns-clause-word
+returns-clause-word g c =
+    let wide : 8 ≤ c.from-width.result = omega (arith, c.from-width.ensures, c.BITS.ensures, g.met.R.BitRegister.width_at_least_8) in
+    let fits = word_of_place_fits c.args.at c.from-width.result (omega arith) wide in
+    let e = ap (λ (p : Ptr). p.word) c.new.ensures in
+    rw (← c.BITS.ensures, ← c.from-width.ensures) (e ∙ to_z-of_z _ _ fits)
