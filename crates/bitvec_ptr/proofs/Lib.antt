@@ -8,3 +8,4 @@ pub mod PlaceOrder
 pub mod RangeEnds
 pub mod RangeLemmas
 pub mod StepLemmas
+pub mod WriterLemmas

@@ -131,20 +131,9 @@ fn put_bits<R: BitRegister, O: BitOrder<R>, R2: BitRegister, O2: BitOrder<R2>>(
     requires to_in { to < length (writer_of writer.old).words }
     requires rising { (writer_of writer.old).rising ≡ true → (writer_of writer.old).mark ≤ to }
     requires falling { (writer_of writer.old).rising ≡ false → to < (writer_of writer.old).mark }
-    ensures reference { (writer_memory writer.new).ghost_name
-        ≡ (writer_memory writer.old).ghost_name }
-    ensures direction { (writer_of writer.new).rising ≡ (writer_of writer.old).rising }
-    ensures len { length (writer_of writer.new).words ≡ length (writer_of writer.old).words }
-    ensures writes { (writer_of writer.new).writes ≡ (writer_of writer.old).writes + 1 }
-    ensures rising_mark { (writer_of writer.old).rising ≡ true → (writer_of writer.new).mark
-        ≡ to + 1 }
-    ensures falling_mark { (writer_of writer.old).rising ≡ false → (writer_of writer.new).mark
-        ≡ to }
-    ensures bits { memory_bits R2.BITS O2.at_of (map R2.number (writer_of writer.new).words)
-        ≡ list_with_copy (memory_bits R.BITS O.at_of (map R.number source.now))
-        (from.word * R.BITS + from.bit)
-        (memory_bits R2.BITS O2.at_of (map R2.number (writer_of writer.old).words))
-        (to * R2.BITS + bit) count }
+    ensures { HasCopied R.BITS O.at_of R.number source.now
+        (from.word * R.BITS + from.bit) R2.BITS O2.at_of R2.number writer.old writer.new
+        (to * R2.BITS + bit) count to 1 }
 {
     let old = writer.get(to);
     let word = gathered_from::<R, O, R2, O2>(way, source, from, old, bit, count);
@@ -169,18 +158,9 @@ fn move_bits<R: BitRegister, O: BitOrder<R>>(
     requires to_in { to < length (writer_of writer.old).words }
     requires rising { (writer_of writer.old).rising ≡ true → (writer_of writer.old).mark ≤ to }
     requires falling { (writer_of writer.old).rising ≡ false → to < (writer_of writer.old).mark }
-    ensures reference { (writer_memory writer.new).ghost_name
-        ≡ (writer_memory writer.old).ghost_name }
-    ensures direction { (writer_of writer.new).rising ≡ (writer_of writer.old).rising }
-    ensures len { length (writer_of writer.new).words ≡ length (writer_of writer.old).words }
-    ensures writes { (writer_of writer.new).writes ≡ (writer_of writer.old).writes + 1 }
-    ensures rising_mark { (writer_of writer.old).rising ≡ true → (writer_of writer.new).mark
-        ≡ to + 1 }
-    ensures falling_mark { (writer_of writer.old).rising ≡ false → (writer_of writer.new).mark
-        ≡ to }
-    ensures bits { let old = memory_bits R.BITS O.at_of (map R.number (writer_of writer.old).words)
-        in memory_bits R.BITS O.at_of (map R.number (writer_of writer.new).words)
-        ≡ list_with_copy old (from.word * R.BITS + from.bit) old (to * R.BITS + bit) count }
+    ensures { HasCopied R.BITS O.at_of R.number (writer_of writer.old).words
+        (from.word * R.BITS + from.bit) R.BITS O.at_of R.number writer.old writer.new
+        (to * R.BITS + bit) count to 1 }
 {
     let old = writer.get(to);
     let (low, high) = pair_in(writer, from, count);
@@ -205,17 +185,9 @@ fn put_row<R: BitRegister, O: BitOrder<R>, R2: BitRegister, O2: BitOrder<R2>>(
     requires to_in { to + count ≤ length (writer_of writer.old).words }
     requires upwards { (writer_of writer.old).rising ≡ true }
     requires stands { (writer_of writer.old).mark ≡ to }
-    ensures reference { (writer_memory writer.new).ghost_name
-        ≡ (writer_memory writer.old).ghost_name }
-    ensures direction { (writer_of writer.new).rising ≡ true }
-    ensures len { length (writer_of writer.new).words ≡ length (writer_of writer.old).words }
-    ensures writes { (writer_of writer.new).writes ≡ (writer_of writer.old).writes + count }
-    ensures mark { (writer_of writer.new).mark ≡ to + count }
-    ensures bits { memory_bits R2.BITS O2.at_of (map R2.number (writer_of writer.new).words)
-        ≡ list_with_copy (memory_bits R.BITS O.at_of (map R.number source.now))
-        (from.word * R.BITS + from.bit)
-        (memory_bits R2.BITS O2.at_of (map R2.number (writer_of writer.old).words)) (to * R2.BITS)
-        (count * R2.BITS) }
+    ensures { HasCopied R.BITS O.at_of R.number source.now
+        (from.word * R.BITS + from.bit) R2.BITS O2.at_of R2.number writer.old writer.new
+        (to * R2.BITS) (count * R2.BITS) to count }
 {
     for k in 0..count {
         let read = from.words_on::<R2>(k);
@@ -240,17 +212,9 @@ fn put_row_down<R: BitRegister, O: BitOrder<R>, R2: BitRegister, O2: BitOrder<R2
     requires to_in { to + count ≤ length (writer_of writer.old).words }
     requires downwards { (writer_of writer.old).rising ≡ false }
     requires stands { (writer_of writer.old).mark ≡ to + count }
-    ensures reference { (writer_memory writer.new).ghost_name
-        ≡ (writer_memory writer.old).ghost_name }
-    ensures direction { (writer_of writer.new).rising ≡ false }
-    ensures len { length (writer_of writer.new).words ≡ length (writer_of writer.old).words }
-    ensures writes { (writer_of writer.new).writes ≡ (writer_of writer.old).writes + count }
-    ensures mark { (writer_of writer.new).mark ≡ to }
-    ensures bits { memory_bits R2.BITS O2.at_of (map R2.number (writer_of writer.new).words)
-        ≡ list_with_copy (memory_bits R.BITS O.at_of (map R.number source.now))
-        (from.word * R.BITS + from.bit)
-        (memory_bits R2.BITS O2.at_of (map R2.number (writer_of writer.old).words)) (to * R2.BITS)
-        (count * R2.BITS) }
+    ensures { HasCopied R.BITS O.at_of R.number source.now
+        (from.word * R.BITS + from.bit) R2.BITS O2.at_of R2.number writer.old writer.new
+        (to * R2.BITS) (count * R2.BITS) to count }
 {
     for done in 0..count {
         let k = count - 1 - done;
@@ -276,15 +240,9 @@ fn move_row<R: BitRegister, O: BitOrder<R>>(
     requires before { to * R.BITS ≤ from.word * R.BITS + from.bit }
     requires upwards { (writer_of writer.old).rising ≡ true }
     requires stands { (writer_of writer.old).mark ≡ to }
-    ensures reference { (writer_memory writer.new).ghost_name
-        ≡ (writer_memory writer.old).ghost_name }
-    ensures direction { (writer_of writer.new).rising ≡ true }
-    ensures len { length (writer_of writer.new).words ≡ length (writer_of writer.old).words }
-    ensures writes { (writer_of writer.new).writes ≡ (writer_of writer.old).writes + count }
-    ensures mark { (writer_of writer.new).mark ≡ to + count }
-    ensures bits { let old = memory_bits R.BITS O.at_of (map R.number (writer_of writer.old).words)
-        in memory_bits R.BITS O.at_of (map R.number (writer_of writer.new).words)
-        ≡ list_with_copy old (from.word * R.BITS + from.bit) old (to * R.BITS) (count * R.BITS) }
+    ensures { HasCopied R.BITS O.at_of R.number (writer_of writer.old).words
+        (from.word * R.BITS + from.bit) R.BITS O.at_of R.number writer.old writer.new
+        (to * R.BITS) (count * R.BITS) to count }
 {
     for k in 0..count {
         let read = from.words_on::<R>(k);
@@ -309,15 +267,9 @@ fn move_row_down<R: BitRegister, O: BitOrder<R>>(
     requires behind { from.word * R.BITS + from.bit ≤ to * R.BITS }
     requires downwards { (writer_of writer.old).rising ≡ false }
     requires stands { (writer_of writer.old).mark ≡ to + count }
-    ensures reference { (writer_memory writer.new).ghost_name
-        ≡ (writer_memory writer.old).ghost_name }
-    ensures direction { (writer_of writer.new).rising ≡ false }
-    ensures len { length (writer_of writer.new).words ≡ length (writer_of writer.old).words }
-    ensures writes { (writer_of writer.new).writes ≡ (writer_of writer.old).writes + count }
-    ensures mark { (writer_of writer.new).mark ≡ to }
-    ensures bits { let old = memory_bits R.BITS O.at_of (map R.number (writer_of writer.old).words)
-        in memory_bits R.BITS O.at_of (map R.number (writer_of writer.new).words)
-        ≡ list_with_copy old (from.word * R.BITS + from.bit) old (to * R.BITS) (count * R.BITS) }
+    ensures { HasCopied R.BITS O.at_of R.number (writer_of writer.old).words
+        (from.word * R.BITS + from.bit) R.BITS O.at_of R.number writer.old writer.new
+        (to * R.BITS) (count * R.BITS) to count }
 {
     for done in 0..count {
         let k = count - 1 - done;
@@ -356,6 +308,47 @@ fn whole_and_last<R: BitRegister>(bit: u8, count: usize) -> (usize, u8)
     (left / width, (left % width) as u8 + 1)
 }
 
+// The three pieces of a copy to more than one word: how many bits lie in the first word, how many
+// words there are between, how many bits lie in the last; and where the two later pieces are read.
+#[derive(Drop)]
+struct Pieces<R: BitRegister> {
+    first: u8,
+    whole: usize,
+    last: u8,
+    middle: Cursor<R>,
+    end: Cursor<R>,
+}
+
+// The pieces of a copy of `count` bits from a place on, to the words that it enters at an index.
+fn pieces_from<R: BitRegister, R2: BitRegister>(from: Cursor<R>, bit: u8, count: usize) -> Pieces<R>
+    requires bit_in { bit < R2.BITS }
+    requires more { R2.BITS < bit + count }
+    requires inside { from.word * R.BITS + from.bit + count < 18446744073709551616 * R.BITS }
+    ensures first { result.first ≡ R2.BITS - bit }
+    ensures all { R2.BITS - bit + (result.whole * R2.BITS + result.last) ≡ count }
+    ensures some { 0 < result.last }
+    ensures most { result.last ≤ R2.BITS }
+    ensures met { words_met R2.BITS bit count ≡ result.whole + 2 }
+    ensures middle { result.middle.word * R.BITS + result.middle.bit
+        ≡ from.word * R.BITS + from.bit + (R2.BITS - bit) }
+    ensures end { result.end.word * R.BITS + result.end.bit
+        ≡ from.word * R.BITS + from.bit + (R2.BITS - bit + result.whole * R2.BITS) }
+    ensures middle_starts { R.BITS ≡ R2.BITS → from.bit ≡ bit → result.middle.bit ≡ 0 }
+    ensures end_starts { R.BITS ≡ R2.BITS → from.bit ≡ bit → result.end.bit ≡ 0 }
+{
+    let (whole, last) = whole_and_last::<R2>(bit, count);
+    let first = R2::BITS - bit;
+    let middle = from.advanced(usize::from(first));
+    let end = from.advanced(count - usize::from(last));
+    Pieces {
+        first,
+        whole,
+        last,
+        middle,
+        end,
+    }
+}
+
 // Copies some bits into the writer's memory, from the front on.
 #[inline(always)]
 pub(super) fn copy_up<R: BitRegister, O: BitOrder<R>, R2: BitRegister, O2: BitOrder<R2>>(
@@ -373,32 +366,20 @@ pub(super) fn copy_up<R: BitRegister, O: BitOrder<R>, R2: BitRegister, O2: BitOr
         (writer_of writer.old).words }
     requires direction { (writer_of writer.old).rising ≡ true }
     requires stands { (writer_of writer.old).mark ≡ to.word }
-    ensures reference { (writer_memory writer.new).ghost_name
-        ≡ (writer_memory writer.old).ghost_name }
-    ensures direction { (writer_of writer.new).rising ≡ true }
-    ensures len { length (writer_of writer.new).words ≡ length (writer_of writer.old).words }
-    ensures writes { (writer_of writer.new).writes
-        ≡ (writer_of writer.old).writes + words_met R2.BITS to.bit count }
-    ensures mark { (writer_of writer.new).mark ≡ to.word + words_met R2.BITS to.bit count }
-    ensures bits { memory_bits R2.BITS O2.at_of (map R2.number (writer_of writer.new).words)
-        ≡ list_with_copy (memory_bits R.BITS O.at_of (map R.number source.now))
-        (from.word * R.BITS + from.bit)
-        (memory_bits R2.BITS O2.at_of (map R2.number (writer_of writer.old).words))
-        (to.word * R2.BITS + to.bit) count }
+    ensures { HasCopied R.BITS O.at_of R.number source.now
+        (from.word * R.BITS + from.bit) R2.BITS O2.at_of R2.number writer.old writer.new
+        (to.word * R2.BITS + to.bit) count to.word (words_met R2.BITS to.bit count) }
 {
     if is_in_one_word::<R2>(to.bit, count) {
         put_bits::<R, O, R2, O2>(way, source, from, writer, to.word, to.bit, count as u8);
         return;
     }
-    let first = R2::BITS - to.bit;
-    let (whole, last) = whole_and_last::<R2>(to.bit, count);
-    let head = usize::from(first);
-    let tail = usize::from(last);
-    let middle = from.advanced(head);
-    let end = from.advanced(count - tail);
-    put_bits::<R, O, R2, O2>(way, source, from, writer, to.word, to.bit, first);
-    put_row::<R, O, R2, O2>(way, source, middle, writer, to.word + 1, whole);
-    put_bits::<R, O, R2, O2>(way, source, end, writer, to.word + 1 + whole, 0, last);
+    let pieces = pieces_from::<R, R2>(from, to.bit, count);
+    let next = to.word + 1;
+    let last = next + pieces.whole;
+    put_bits::<R, O, R2, O2>(way, source, from, writer, to.word, to.bit, pieces.first);
+    put_row::<R, O, R2, O2>(way, source, pieces.middle, writer, next, pieces.whole);
+    put_bits::<R, O, R2, O2>(way, source, pieces.end, writer, last, 0, pieces.last);
 }
 
 // Copies some bits into the writer's memory, from the back on.
@@ -418,32 +399,20 @@ pub(super) fn copy_down<R: BitRegister, O: BitOrder<R>, R2: BitRegister, O2: Bit
         (writer_of writer.old).words }
     requires direction { (writer_of writer.old).rising ≡ false }
     requires stands { (writer_of writer.old).mark ≡ to.word + words_met R2.BITS to.bit count }
-    ensures reference { (writer_memory writer.new).ghost_name
-        ≡ (writer_memory writer.old).ghost_name }
-    ensures direction { (writer_of writer.new).rising ≡ false }
-    ensures len { length (writer_of writer.new).words ≡ length (writer_of writer.old).words }
-    ensures writes { (writer_of writer.new).writes
-        ≡ (writer_of writer.old).writes + words_met R2.BITS to.bit count }
-    ensures mark { (writer_of writer.new).mark ≡ to.word }
-    ensures bits { memory_bits R2.BITS O2.at_of (map R2.number (writer_of writer.new).words)
-        ≡ list_with_copy (memory_bits R.BITS O.at_of (map R.number source.now))
-        (from.word * R.BITS + from.bit)
-        (memory_bits R2.BITS O2.at_of (map R2.number (writer_of writer.old).words))
-        (to.word * R2.BITS + to.bit) count }
+    ensures { HasCopied R.BITS O.at_of R.number source.now
+        (from.word * R.BITS + from.bit) R2.BITS O2.at_of R2.number writer.old writer.new
+        (to.word * R2.BITS + to.bit) count to.word (words_met R2.BITS to.bit count) }
 {
     if is_in_one_word::<R2>(to.bit, count) {
         put_bits::<R, O, R2, O2>(way, source, from, writer, to.word, to.bit, count as u8);
         return;
     }
-    let first = R2::BITS - to.bit;
-    let (whole, last) = whole_and_last::<R2>(to.bit, count);
-    let head = usize::from(first);
-    let tail = usize::from(last);
-    let middle = from.advanced(head);
-    let end = from.advanced(count - tail);
-    put_bits::<R, O, R2, O2>(way, source, end, writer, to.word + 1 + whole, 0, last);
-    put_row_down::<R, O, R2, O2>(way, source, middle, writer, to.word + 1, whole);
-    put_bits::<R, O, R2, O2>(way, source, from, writer, to.word, to.bit, first);
+    let pieces = pieces_from::<R, R2>(from, to.bit, count);
+    let next = to.word + 1;
+    let last = next + pieces.whole;
+    put_bits::<R, O, R2, O2>(way, source, pieces.end, writer, last, 0, pieces.last);
+    put_row_down::<R, O, R2, O2>(way, source, pieces.middle, writer, next, pieces.whole);
+    put_bits::<R, O, R2, O2>(way, source, from, writer, to.word, to.bit, pieces.first);
 }
 
 // Copies some bits inside the writer's memory downwards, from the front on.
@@ -463,30 +432,20 @@ pub(super) fn move_down<R: BitRegister, O: BitOrder<R>>(
     requires before { to.word * R.BITS + to.bit ≤ from.word * R.BITS + from.bit }
     requires direction { (writer_of writer.old).rising ≡ true }
     requires stands { (writer_of writer.old).mark ≡ to.word }
-    ensures reference { (writer_memory writer.new).ghost_name
-        ≡ (writer_memory writer.old).ghost_name }
-    ensures direction { (writer_of writer.new).rising ≡ true }
-    ensures len { length (writer_of writer.new).words ≡ length (writer_of writer.old).words }
-    ensures writes { (writer_of writer.new).writes
-        ≡ (writer_of writer.old).writes + words_met R.BITS to.bit count }
-    ensures mark { (writer_of writer.new).mark ≡ to.word + words_met R.BITS to.bit count }
-    ensures bits { let old = memory_bits R.BITS O.at_of (map R.number (writer_of writer.old).words)
-        in memory_bits R.BITS O.at_of (map R.number (writer_of writer.new).words)
-        ≡ list_with_copy old (from.word * R.BITS + from.bit) old (to.word * R.BITS + to.bit) count }
+    ensures { HasCopied R.BITS O.at_of R.number (writer_of writer.old).words
+        (from.word * R.BITS + from.bit) R.BITS O.at_of R.number writer.old writer.new
+        (to.word * R.BITS + to.bit) count to.word (words_met R.BITS to.bit count) }
 {
     if is_in_one_word::<R>(to.bit, count) {
         move_bits::<R, O>(way, from, writer, to.word, to.bit, count as u8);
         return;
     }
-    let first = R::BITS - to.bit;
-    let (whole, last) = whole_and_last::<R>(to.bit, count);
-    let head = usize::from(first);
-    let tail = usize::from(last);
-    let middle = from.advanced(head);
-    let end = from.advanced(count - tail);
-    move_bits::<R, O>(way, from, writer, to.word, to.bit, first);
-    move_row::<R, O>(way, middle, writer, to.word + 1, whole);
-    move_bits::<R, O>(way, end, writer, to.word + 1 + whole, 0, last);
+    let pieces = pieces_from::<R, R>(from, to.bit, count);
+    let next = to.word + 1;
+    let last = next + pieces.whole;
+    move_bits::<R, O>(way, from, writer, to.word, to.bit, pieces.first);
+    move_row::<R, O>(way, pieces.middle, writer, next, pieces.whole);
+    move_bits::<R, O>(way, pieces.end, writer, last, 0, pieces.last);
 }
 
 // Copies some bits inside the writer's memory upwards, from the back on.
@@ -506,30 +465,20 @@ pub(super) fn move_up<R: BitRegister, O: BitOrder<R>>(
     requires behind { from.word * R.BITS + from.bit ≤ to.word * R.BITS + to.bit }
     requires direction { (writer_of writer.old).rising ≡ false }
     requires stands { (writer_of writer.old).mark ≡ to.word + words_met R.BITS to.bit count }
-    ensures reference { (writer_memory writer.new).ghost_name
-        ≡ (writer_memory writer.old).ghost_name }
-    ensures direction { (writer_of writer.new).rising ≡ false }
-    ensures len { length (writer_of writer.new).words ≡ length (writer_of writer.old).words }
-    ensures writes { (writer_of writer.new).writes
-        ≡ (writer_of writer.old).writes + words_met R.BITS to.bit count }
-    ensures mark { (writer_of writer.new).mark ≡ to.word }
-    ensures bits { let old = memory_bits R.BITS O.at_of (map R.number (writer_of writer.old).words)
-        in memory_bits R.BITS O.at_of (map R.number (writer_of writer.new).words)
-        ≡ list_with_copy old (from.word * R.BITS + from.bit) old (to.word * R.BITS + to.bit) count }
+    ensures { HasCopied R.BITS O.at_of R.number (writer_of writer.old).words
+        (from.word * R.BITS + from.bit) R.BITS O.at_of R.number writer.old writer.new
+        (to.word * R.BITS + to.bit) count to.word (words_met R.BITS to.bit count) }
 {
     if is_in_one_word::<R>(to.bit, count) {
         move_bits::<R, O>(way, from, writer, to.word, to.bit, count as u8);
         return;
     }
-    let first = R::BITS - to.bit;
-    let (whole, last) = whole_and_last::<R>(to.bit, count);
-    let head = usize::from(first);
-    let tail = usize::from(last);
-    let middle = from.advanced(head);
-    let end = from.advanced(count - tail);
-    move_bits::<R, O>(way, end, writer, to.word + 1 + whole, 0, last);
-    move_row_down::<R, O>(way, middle, writer, to.word + 1, whole);
-    move_bits::<R, O>(way, from, writer, to.word, to.bit, first);
+    let pieces = pieces_from::<R, R>(from, to.bit, count);
+    let next = to.word + 1;
+    let last = next + pieces.whole;
+    move_bits::<R, O>(way, pieces.end, writer, last, 0, pieces.last);
+    move_row_down::<R, O>(way, pieces.middle, writer, next, pieces.whole);
+    move_bits::<R, O>(way, from, writer, to.word, to.bit, pieces.first);
 }
 
 // Copies some bits into the writer's memory in one way, in the direction of the writer.

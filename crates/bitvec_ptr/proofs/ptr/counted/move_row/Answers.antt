@@ -1,23 +1,15 @@
-use Rattle.std.proofs.Common.{◌≡◌, ◌+◌, ◌*◌, ◌≤◌, length, map, refl, ap, ◌∙◌, arith}
-use Rattle.std.proofs.Math.Nat.{mul-le-mul_right}
-use Rattle.bitvec_ptr.specs.Memory.{memory_bits}
-use Rattle.bitvec_ptr.proofs.CopyLemmas.{length-bits, place_below}
+use Rattle.std.proofs.Common.{◌≡◌, ◌+◌, ◌*◌, length, refl, ap, ◌∙◌, arith}
+use Rattle.bitvec_ptr.proofs.CopyLemmas.{place_below}
 use Rattle.bitvec_ptr.proofs.EdgeLemmas.{allows_on}
-use Rattle.bitvec_ptr.proofs.JoinLemmas.{copied_no_words, row_less, moved_row_on}
+use Rattle.bitvec_ptr.proofs.JoinLemmas.{row_less}
+use Rattle.bitvec_ptr.proofs.WriterLemmas.{nothing_copied, moves_on}
 use Rattle.bitvec_ptr.proofs.ptr.counted.move_row.Goals as goal
 
 pub loop-k-init : goal.loop-k-init
 loop-k-init g c =
     let R = g.R.BitRegister in
-    let old = memory_bits R.BITS g.O.BitAt.at_of (map R.number c.args.writer.now.words.now) in
-    record {
-      reference = refl;
-      direction = c.requires.upwards;
-      len = refl;
-      writes = omega arith;
-      mark = omega arith;
-      bits = copied_no_words old (c.args.from.word * R.BITS + c.args.from.bit) old (c.args.to * R.BITS) R.BITS;
-    }
+    let at = g.O.BitAt.at_of in
+    nothing_copied R.BITS at R.number c.args.writer.now.words.now (c.args.from.word * R.BITS + c.args.from.bit) R.BITS at R.number c.args.writer.now (c.args.to * R.BITS) (0 * R.BITS) c.args.to (omega arith) c.requires.stands
 
 pub words_on-read-requires-clause-short : goal.words_on-read-requires-clause-short
 words_on-read-requires-clause-short g c =
@@ -44,25 +36,8 @@ move_bits-requires-clause-from_in g c =
 pub loop-k-preserved : goal.loop-k-preserved
 loop-k-preserved g c =
     let R = g.R.BitRegister in
-    let old = memory_bits R.BITS g.O.BitAt.at_of (map R.number c.args.writer.now.words.now) in
-    let now = memory_bits R.BITS g.O.BitAt.at_of (map R.number c.loop-k.writer.words.now) in
-    let new = memory_bits R.BITS g.O.BitAt.at_of (map R.number c.move_bits.new.writer.words.now) in
-    let here = c.loop-k.invariant in
-    let put = c.move_bits.ensures in
-    let s = c.args.from.word * R.BITS + c.args.from.bit in
-    let t = c.args.to * R.BITS in
     let k = c.loop-k.k in
     let less = row_less R.BITS k c.args.count (omega arith) in
     let next : (k + 1) * R.BITS ≡ k * R.BITS + R.BITS = omega arith in
-    let write : (c.args.to + k) * R.BITS + 0 ≡ t + k * R.BITS = omega arith in
-    let m = length-bits R.BITS g.O.BitAt.at_of R.number c.args.writer.now.words.now in
-    let room : c.args.to * R.BITS + c.args.count * R.BITS ≤ length c.args.writer.now.words.now * R.BITS =
-    (let up : (c.args.to + c.args.count) * R.BITS ≤ length c.args.writer.now.words.now * R.BITS = mul-le-mul_right R.BITS c.requires.to_in in omega (arith, up)) in
-    record {
-      reference = put.reference ∙ here.reference;
-      direction = put.direction ∙ here.direction;
-      len = put.len ∙ here.len;
-      writes = omega (arith, put.writes, here.writes);
-      mark = let v = put.rising_mark here.direction in omega (arith, v);
-      bits = moved_row_on old now new s t R.BITS k (c.words_on-read.result.word * R.BITS + c.words_on-read.result.bit) ((c.args.to + k) * R.BITS + 0) c.BITS.result c.words_on-read.ensures.place write c.BITS.ensures c.requires.before (omega (arith, less, next, c.requires.from_in, m)) here.bits put.bits;
-    }
+    let write : (c.args.to + k) * R.BITS + 0 ≡ c.args.to * R.BITS + k * R.BITS = omega arith in
+    moves_on c.requires.upwards c.requires.before (omega (arith, less, next, c.requires.from_in)) c.words_on-read.ensures.place write refl (omega (arith, next, c.BITS.ensures)) refl c.loop-k.invariant c.move_bits.ensures

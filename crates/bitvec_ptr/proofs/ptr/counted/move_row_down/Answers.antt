@@ -1,23 +1,17 @@
-use Rattle.std.proofs.Common.{◌≡◌, ◌+◌, ◌-◌, ◌*◌, ◌≤◌, length, map, refl, ap, ◌∙◌, arith}
+use Rattle.std.proofs.Common.{◌≡◌, ◌+◌, ◌-◌, ◌*◌, ◌≤◌, length, refl, ap, ◌∙◌, arith}
 use Rattle.std.proofs.Math.Nat.{mul-le-mul_right}
-use Rattle.bitvec_ptr.specs.Memory.{memory_bits, list_with_copy}
-use Rattle.bitvec_ptr.proofs.CopyLemmas.{length-bits, place_below}
+use Rattle.bitvec_ptr.proofs.CopyLemmas.{place_below}
 use Rattle.bitvec_ptr.proofs.EdgeLemmas.{allows_on}
-use Rattle.bitvec_ptr.proofs.JoinLemmas.{copied_no_words, row_less, moved_row_back}
+use Rattle.bitvec_ptr.proofs.JoinLemmas.{row_less}
+use Rattle.bitvec_ptr.proofs.WriterLemmas.{nothing_copied, has_copied_as, moves_back}
 use Rattle.bitvec_ptr.proofs.ptr.counted.move_row_down.Goals as goal
 
 pub loop-done-init : goal.loop-done-init
 loop-done-init g c =
     let R = g.R.BitRegister in
-    let old = memory_bits R.BITS g.O.BitAt.at_of (map R.number c.args.writer.now.words.now) in
-    record {
-      reference = refl;
-      direction = c.requires.downwards;
-      len = refl;
-      writes = omega arith;
-      mark = omega arith;
-      bits = copied_no_words old (c.args.from.word * R.BITS + c.args.from.bit + (c.args.count - 0) * R.BITS) old (c.args.to * R.BITS + (c.args.count - 0) * R.BITS) R.BITS;
-    }
+    let at = g.O.BitAt.at_of in
+    let count = c.args.count in
+    nothing_copied R.BITS at R.number c.args.writer.now.words.now (c.args.from.word * R.BITS + c.args.from.bit + (count - 0) * R.BITS) R.BITS at R.number c.args.writer.now (c.args.to * R.BITS + (count - 0) * R.BITS) (0 * R.BITS) (c.args.to + (count - 0)) (omega arith) (omega arith)
 
 pub words_on-read-requires-clause-short : goal.words_on-read-requires-clause-short
 words_on-read-requires-clause-short g c =
@@ -44,45 +38,21 @@ move_bits-requires-clause-from_in g c =
 pub loop-done-preserved : goal.loop-done-preserved
 loop-done-preserved g c =
     let R = g.R.BitRegister in
-    let old = memory_bits R.BITS g.O.BitAt.at_of (map R.number c.args.writer.now.words.now) in
-    let now = memory_bits R.BITS g.O.BitAt.at_of (map R.number c.loop-done.writer.words.now) in
-    let new = memory_bits R.BITS g.O.BitAt.at_of (map R.number c.move_bits.new.writer.words.now) in
-    let here = c.loop-done.invariant in
-    let put = c.move_bits.ensures in
-    let s = c.args.from.word * R.BITS + c.args.from.bit in
-    let t = c.args.to * R.BITS in
-    let k = c.args.count - 1 - c.loop-done.done in
-    let less = row_less R.BITS k c.args.count (omega arith) in
-    let next : (k + 1) * R.BITS ≡ k * R.BITS + R.BITS = omega arith in
-    let write : (c.args.to + k) * R.BITS + 0 ≡ t + k * R.BITS = omega arith in
-    let m = length-bits R.BITS g.O.BitAt.at_of R.number c.args.writer.now.words.now in
-    let room : c.args.to * R.BITS + c.args.count * R.BITS ≤ length c.args.writer.now.words.now * R.BITS =
-    (let up : (c.args.to + c.args.count) * R.BITS ≤ length c.args.writer.now.words.now * R.BITS = mul-le-mul_right R.BITS c.requires.to_in in omega (arith, up)) in
     let done = c.loop-done.done in
-    let whole : (k + 1 + done) * R.BITS ≡ c.args.count * R.BITS = ap (λ v. v * R.BITS) (let v : k + 1 + done ≡ c.args.count = omega arith in v) in
-    let a : c.args.count - done ≡ k + 1 = omega arith in
-    let b : k ≡ c.args.count - (done + 1) = omega arith in
-    record {
-      reference = put.reference ∙ here.reference;
-      direction = put.direction ∙ here.direction;
-      len = put.len ∙ here.len;
-      writes = omega (arith, put.writes, here.writes);
-      mark = let v = put.falling_mark here.direction in omega (arith, v, here.mark);
-      bits = moved_row_back old now new s t R.BITS k (c.args.count - done) done (c.words_on-read.result.word * R.BITS + c.words_on-read.result.bit) ((c.args.to + k) * R.BITS + 0) c.BITS.result c.words_on-read.ensures.place write c.BITS.ensures a c.requires.behind (omega (arith, whole, room, m)) here.bits put.bits
-          ∙ ap (λ v. list_with_copy old (s + v * R.BITS) old (t + v * R.BITS) ((done + 1) * R.BITS)) b;
-    }
+    let k = c.args.count - 1 - done in
+    let rest : c.args.count - (done + 1) ≡ k = omega arith in
+    let one : c.args.count - done ≡ k + 1 = omega arith in
+    let here : (c.args.count - (done + 1)) * R.BITS ≡ k * R.BITS = ap (λ v. v * R.BITS) rest in
+    let there : (c.args.count - done) * R.BITS ≡ k * R.BITS + R.BITS = ap (λ v. v * R.BITS) one ∙ omega arith in
+    let all : k * R.BITS + (done + 1) * R.BITS ≡ c.args.count * R.BITS = (let v : k + (done + 1) ≡ c.args.count = omega arith in omega (arith, ap (λ n. n * R.BITS) v)) in
+    let room : (c.args.to + c.args.count) * R.BITS ≤ length c.args.writer.now.words.now * R.BITS = mul-le-mul_right R.BITS c.requires.to_in in
+    let width = c.BITS.ensures in
+    moves_back c.requires.downwards (omega (arith, here, c.requires.behind)) (omega (arith, here, all, room)) (omega (arith, here, there, width)) (omega (arith, here, there, width)) (omega (arith, here, c.words_on-read.ensures.place)) (omega (arith, here)) (omega (arith, rest)) (omega (arith, width)) refl c.loop-done.invariant c.move_bits.ensures
 
-pub returns-clause-bits : goal.returns-clause-bits
-returns-clause-bits g c =
+pub returns : goal.returns
+returns g c =
     let R = g.R.BitRegister in
-    let old = memory_bits R.BITS g.O.BitAt.at_of (map R.number c.args.writer.now.words.now) in
-    let count = c.args.count in
-    let none : c.args.from.word * R.BITS + c.args.from.bit + (count - c.loop-done.done) * R.BITS ≡ c.args.from.word * R.BITS + c.args.from.bit =
-    (let v : count - c.loop-done.done ≡ 0 = omega arith in ap (λ n. c.args.from.word * R.BITS + c.args.from.bit + n * R.BITS) v ∙ omega arith) in
-    let zero : c.args.to * R.BITS + (count - c.loop-done.done) * R.BITS ≡ c.args.to * R.BITS =
-    (let v : count - c.loop-done.done ≡ 0 = omega arith in ap (λ n. c.args.to * R.BITS + n * R.BITS) v ∙ omega arith) in
-    let all : c.loop-done.done * R.BITS ≡ count * R.BITS = ap (λ n. n * R.BITS) (let v : c.loop-done.done ≡ count = omega arith in v) in
-    c.loop-done.invariant.bits
-    ∙ ap (λ v. list_with_copy old v old (c.args.to * R.BITS + (count - c.loop-done.done) * R.BITS) (c.loop-done.done * R.BITS)) none
-    ∙ ap (λ v. list_with_copy old (c.args.from.word * R.BITS + c.args.from.bit) old v (c.loop-done.done * R.BITS)) zero
-    ∙ ap (λ v. list_with_copy old (c.args.from.word * R.BITS + c.args.from.bit) old (c.args.to * R.BITS) v) all
+    let none : c.args.count - c.loop-done.done ≡ 0 = omega arith in
+    let left : (c.args.count - c.loop-done.done) * R.BITS ≡ 0 = ap (λ n. n * R.BITS) none ∙ omega arith in
+    let all : c.loop-done.done ≡ c.args.count = omega arith in
+    has_copied_as (omega (arith, left)) (omega (arith, left)) (ap (λ n. n * R.BITS) all) (omega (arith, none)) all c.loop-done.invariant

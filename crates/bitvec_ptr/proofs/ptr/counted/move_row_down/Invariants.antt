@@ -1,16 +1,10 @@
-use Rattle.std.proofs.Common.{◌≡◌, ◌+◌, ◌-◌, ◌*◌, false, length, map}
-use Rattle.bitvec_ptr.specs.Memory.{memory_bits, list_with_copy}
+use Rattle.std.proofs.Common.{◌+◌, ◌-◌, ◌*◌}
+use Rattle.bitvec_ptr.specs.Copies.{HasCopied}
 use Rattle.bitvec_ptr.proofs.ptr.counted.move_row_down.Given as goal
 
 abbrev pub invariant-loop-done : goal.invariant-loop-done
 invariant-loop-done g l =
     let R = g.R.BitRegister in
-    record {
-      reference : l.writer.words.ghost_name ≡ l.fn.writer.words.ghost_name;
-      direction : l.writer.rising ≡ false;
-      len : length l.writer.words.now ≡ length l.fn.writer.words.now;
-      writes : l.writer.writes ≡ l.fn.writer.writes + l.done;
-      mark : l.writer.mark + l.done ≡ l.to + l.count;
-      bits : memory_bits R.BITS g.O.BitAt.at_of (map R.number l.writer.words.now)
-          ≡ list_with_copy (memory_bits R.BITS g.O.BitAt.at_of (map R.number l.fn.writer.words.now)) (l.fn.from.word * R.BITS + l.fn.from.bit + (l.count - l.done) * R.BITS) (memory_bits R.BITS g.O.BitAt.at_of (map R.number l.fn.writer.words.now)) (l.to * R.BITS + (l.count - l.done) * R.BITS) (l.done * R.BITS);
-    }
+    let at = g.O.BitAt.at_of in
+    let left = l.count - l.done in
+    HasCopied R.BITS at R.number l.fn.writer.words.now (l.fn.from.word * R.BITS + l.fn.from.bit + left * R.BITS) R.BITS at R.number l.fn.writer l.writer (l.to * R.BITS + left * R.BITS) (l.done * R.BITS) (l.to + left) l.done

@@ -1,14 +1,14 @@
 use Rattle.std.proofs.Common.{◌≡◌, ◌+◌, ◌*◌, ◌<◌, ◌≤◌, length, map, ap, ◌∙◌, arith}
 use Rattle.std.specs.Prelude.{slice_index}
-use Rattle.std.proofs.lemmas.List.{length-map, map-set}
+use Rattle.std.proofs.lemmas.List.{length-map, length-set, map-set}
 use Rattle.bitvec_mem.specs.Digit.{digit}
 use Rattle.bitvec_ptr.specs.Memory.{memory_bits}
 use Rattle.bitvec_ptr.proofs.CopyLemmas.{word_is}
 use Rattle.bitvec_ptr.proofs.EdgeLemmas.{part_put}
 use Rattle.bitvec_ptr.proofs.ptr.counted.put_bits.Goals as goal
 
-pub returns-clause-bits : goal.returns-clause-bits
-returns-clause-bits g c =
+pub returns : goal.returns
+returns g c =
     let R = g.R.BitRegister in
     let R2 = g.R2.BitRegister in
     let at2 = g.O2.BitAt.at_of in
@@ -20,8 +20,16 @@ returns-clause-bits g c =
     let was : R2.number c.get-old.result ≡ slice_index (map R2.number words) to = word_is R2.number words to c.get-old.result c.requires.to_in c.get-old.ensures in
     let room : to < length (map R2.number words) = omega (arith, length-map words R2.number, c.requires.to_in) in
     let holds : s + c.args.count ≤ length (map R.number xs) * R.BITS = omega (arith, c.requires.from_in, ap (λ n. n * R.BITS) (length-map xs R.number)) in
-    ap (λ w. memory_bits R2.BITS at2 (map R2.number w)) c.put.ensures.words
-    ∙ ap (memory_bits R2.BITS at2) (map-set R2.number words to word.result)
-    ∙ part_put R.BITS R2.BITS g.O.BitAt.at_of at2 (map R.number xs) (map R2.number words) s to c.args.bit c.args.count (R2.number word.result) c.requires.some c.requires.bit_in room holds
-    word.ensures.inside
-    (λ j h u. word.ensures.outside j h u ∙ ap (λ n. digit n (at2 j)) was)
+    record {
+      reference = c.put.ensures.reference;
+      direction = c.put.ensures.direction;
+      len = ap length c.put.ensures.words ∙ length-set words to word.result;
+      writes = c.put.ensures.writes;
+      rising_mark = c.put.ensures.rising_mark;
+      falling_mark = c.put.ensures.falling_mark;
+      bits = ap (λ w. memory_bits R2.BITS at2 (map R2.number w)) c.put.ensures.words
+          ∙ ap (memory_bits R2.BITS at2) (map-set R2.number words to word.result)
+          ∙ part_put R.BITS R2.BITS g.O.BitAt.at_of at2 (map R.number xs) (map R2.number words) s to c.args.bit c.args.count (R2.number word.result) c.requires.some c.requires.bit_in room holds
+          word.ensures.inside
+          (λ j h u. word.ensures.outside j h u ∙ ap (λ n. digit n (at2 j)) was);
+    }

@@ -1,25 +1,17 @@
-use Rattle.std.proofs.Common.{◌≡◌, ◌+◌, ◌-◌, ◌*◌, ◌≤◌, length, map, refl, ap, ◌∙◌, arith}
+use Rattle.std.proofs.Common.{◌≡◌, ◌+◌, ◌-◌, ◌*◌, ◌≤◌, length, refl, ap, ◌∙◌, arith}
 use Rattle.std.proofs.Math.Nat.{mul-le-mul_right}
-use Rattle.bitvec_ptr.specs.Memory.{memory_bits, list_with_copy}
-use Rattle.bitvec_ptr.proofs.CopyLemmas.{length-bits, place_below}
+use Rattle.bitvec_ptr.proofs.CopyLemmas.{place_below}
 use Rattle.bitvec_ptr.proofs.EdgeLemmas.{allows_on}
-use Rattle.bitvec_ptr.proofs.JoinLemmas.{copied_no_words, row_less, row_back}
+use Rattle.bitvec_ptr.proofs.JoinLemmas.{row_less}
+use Rattle.bitvec_ptr.proofs.WriterLemmas.{nothing_copied, has_copied_as, goes_back}
 use Rattle.bitvec_ptr.proofs.ptr.counted.put_row_down.Goals as goal
 
 pub loop-done-init : goal.loop-done-init
 loop-done-init g c =
     let R = g.R.BitRegister in
     let R2 = g.R2.BitRegister in
-    let source = memory_bits R.BITS g.O.BitAt.at_of (map R.number c.args.source.now) in
-    let target = memory_bits R2.BITS g.O2.BitAt.at_of (map R2.number c.args.writer.now.words.now) in
-    record {
-      reference = refl;
-      direction = c.requires.downwards;
-      len = refl;
-      writes = omega arith;
-      mark = omega arith;
-      bits = copied_no_words source (c.args.from.word * R.BITS + c.args.from.bit + (c.args.count - 0) * R2.BITS) target (c.args.to * R2.BITS + (c.args.count - 0) * R2.BITS) R2.BITS;
-    }
+    let count = c.args.count in
+    nothing_copied R.BITS g.O.BitAt.at_of R.number c.args.source.now (c.args.from.word * R.BITS + c.args.from.bit + (count - 0) * R2.BITS) R2.BITS g.O2.BitAt.at_of R2.number c.args.writer.now (c.args.to * R2.BITS + (count - 0) * R2.BITS) (0 * R2.BITS) (c.args.to + (count - 0)) (omega arith) (omega arith)
 
 pub words_on-read-requires-clause-short : goal.words_on-read-requires-clause-short
 words_on-read-requires-clause-short g c =
@@ -48,49 +40,22 @@ pub loop-done-preserved : goal.loop-done-preserved
 loop-done-preserved g c =
     let R = g.R.BitRegister in
     let R2 = g.R2.BitRegister in
-    let source = memory_bits R.BITS g.O.BitAt.at_of (map R.number c.args.source.now) in
-    let target = memory_bits R2.BITS g.O2.BitAt.at_of (map R2.number c.args.writer.now.words.now) in
-    let now = memory_bits R2.BITS g.O2.BitAt.at_of (map R2.number c.loop-done.writer.words.now) in
-    let new = memory_bits R2.BITS g.O2.BitAt.at_of (map R2.number c.put_bits.new.writer.words.now) in
-    let here = c.loop-done.invariant in
-    let put = c.put_bits.ensures in
-    let s = c.args.from.word * R.BITS + c.args.from.bit in
-    let t = c.args.to * R2.BITS in
-    let k = c.args.count - 1 - c.loop-done.done in
-    let less = row_less R2.BITS k c.args.count (omega arith) in
-    let next : (k + 1) * R2.BITS ≡ k * R2.BITS + R2.BITS = omega arith in
-    let write : (c.args.to + k) * R2.BITS + 0 ≡ t + k * R2.BITS = omega arith in
-    let m = length-bits R.BITS g.O.BitAt.at_of R.number c.args.source.now in
-    let n = length-bits R2.BITS g.O2.BitAt.at_of R2.number c.args.writer.now.words.now in
-    let room : c.args.to * R2.BITS + c.args.count * R2.BITS ≤ length c.args.writer.now.words.now * R2.BITS =
-    (let up : (c.args.to + c.args.count) * R2.BITS ≤ length c.args.writer.now.words.now * R2.BITS = mul-le-mul_right R2.BITS c.requires.to_in in omega (arith, up)) in
     let done = c.loop-done.done in
-    let whole : (k + 1 + done) * R2.BITS ≡ c.args.count * R2.BITS = ap (λ v. v * R2.BITS) (let v : k + 1 + done ≡ c.args.count = omega arith in v) in
-    let a : c.args.count - done ≡ k + 1 = omega arith in
-    let b : k ≡ c.args.count - (done + 1) = omega arith in
-    record {
-      reference = put.reference ∙ here.reference;
-      direction = put.direction ∙ here.direction;
-      len = put.len ∙ here.len;
-      writes = omega (arith, put.writes, here.writes);
-      mark = let v = put.falling_mark here.direction in omega (arith, v, here.mark);
-      bits = row_back source target now new s t R2.BITS k (c.args.count - done) done (c.words_on-read.result.word * R.BITS + c.words_on-read.result.bit) ((c.args.to + k) * R2.BITS + 0) c.BITS.result c.words_on-read.ensures.place write c.BITS.ensures a (omega (arith, whole, room, n)) (omega (arith, whole, c.requires.from_in, m)) here.bits put.bits
-          ∙ ap (λ v. list_with_copy source (s + v * R2.BITS) target (t + v * R2.BITS) ((done + 1) * R2.BITS)) b;
-    }
+    let k = c.args.count - 1 - done in
+    let rest : c.args.count - (done + 1) ≡ k = omega arith in
+    let one : c.args.count - done ≡ k + 1 = omega arith in
+    let here : (c.args.count - (done + 1)) * R2.BITS ≡ k * R2.BITS = ap (λ v. v * R2.BITS) rest in
+    let there : (c.args.count - done) * R2.BITS ≡ k * R2.BITS + R2.BITS = ap (λ v. v * R2.BITS) one ∙ omega arith in
+    let all : k * R2.BITS + (done + 1) * R2.BITS ≡ c.args.count * R2.BITS = (let v : k + (done + 1) ≡ c.args.count = omega arith in omega (arith, ap (λ n. n * R2.BITS) v)) in
+    let room : (c.args.to + c.args.count) * R2.BITS ≤ length c.args.writer.now.words.now * R2.BITS = mul-le-mul_right R2.BITS c.requires.to_in in
+    let width = c.BITS.ensures in
+    goes_back c.requires.downwards (omega (arith, here, all, room)) (omega (arith, here, all, c.requires.from_in)) (omega (arith, here, there, width)) (omega (arith, here, there, width)) (omega (arith, here, c.words_on-read.ensures.place)) (omega (arith, here)) (omega (arith, rest)) (omega (arith, width)) refl c.loop-done.invariant c.put_bits.ensures
 
-pub returns-clause-bits : goal.returns-clause-bits
-returns-clause-bits g c =
+pub returns : goal.returns
+returns g c =
     let R = g.R.BitRegister in
     let R2 = g.R2.BitRegister in
-    let source = memory_bits R.BITS g.O.BitAt.at_of (map R.number c.args.source.now) in
-    let target = memory_bits R2.BITS g.O2.BitAt.at_of (map R2.number c.args.writer.now.words.now) in
-    let count = c.args.count in
-    let none : c.args.from.word * R.BITS + c.args.from.bit + (count - c.loop-done.done) * R2.BITS ≡ c.args.from.word * R.BITS + c.args.from.bit =
-    (let v : count - c.loop-done.done ≡ 0 = omega arith in ap (λ n. c.args.from.word * R.BITS + c.args.from.bit + n * R2.BITS) v ∙ omega arith) in
-    let zero : c.args.to * R2.BITS + (count - c.loop-done.done) * R2.BITS ≡ c.args.to * R2.BITS =
-    (let v : count - c.loop-done.done ≡ 0 = omega arith in ap (λ n. c.args.to * R2.BITS + n * R2.BITS) v ∙ omega arith) in
-    let all : c.loop-done.done * R2.BITS ≡ count * R2.BITS = ap (λ n. n * R2.BITS) (let v : c.loop-done.done ≡ count = omega arith in v) in
-    c.loop-done.invariant.bits
-    ∙ ap (λ v. list_with_copy source v target (c.args.to * R2.BITS + (count - c.loop-done.done) * R2.BITS) (c.loop-done.done * R2.BITS)) none
-    ∙ ap (λ v. list_with_copy source (c.args.from.word * R.BITS + c.args.from.bit) target v (c.loop-done.done * R2.BITS)) zero
-    ∙ ap (λ v. list_with_copy source (c.args.from.word * R.BITS + c.args.from.bit) target (c.args.to * R2.BITS) v) all
+    let none : c.args.count - c.loop-done.done ≡ 0 = omega arith in
+    let left : (c.args.count - c.loop-done.done) * R2.BITS ≡ 0 = ap (λ n. n * R2.BITS) none ∙ omega arith in
+    let all : c.loop-done.done ≡ c.args.count = omega arith in
+    has_copied_as (omega (arith, left)) (omega (arith, left)) (ap (λ n. n * R2.BITS) all) (omega (arith, none)) all c.loop-done.invariant
