@@ -1,8 +1,9 @@
 -- What a `BitPtr` shows.
-use Rattle.std.specs.Prelude.{pos}
+use Rattle.std.specs.Prelude.{ℕ, pos, nat_abs, ◌+◌, Bool, List, map}
 use Rattle.std.proofs.Common.{zero-le}
 use Rattle.bitvec_ptr.specs.declared.ptr.single.BitPtr.{BitPtr}
-use Rattle.bitvec_ptr.specs.Place.{Ptr}
+use Rattle.bitvec_ptr.specs.Memory.{memory_bits}
+use Rattle.bitvec_ptr.specs.Place.{Ptr, index_of, words_met}
 
 -- the word and the bit of a pointer
 abbrev pub ptr_of : {R O : Type 0} {a b c d e f g : _} → BitPtr R O a b c d e f g → Ptr
@@ -11,3 +12,15 @@ ptr_of ptr = record { word = ptr.word; bit = ptr.bit }
 -- the pointer to the first bit of the first word
 abbrev pub dangling : {R O : Type 0} {a b c d e f g : _} → BitPtr R O a b c d e f g
 dangling = record { word = pos 0; bit = 0; of = record {}; in_word = zero-le }
+
+-- the place of a pointer into a memory, as an index of the list of the memory's bits
+abbrev pub index_at : {R O : Type 0} {a b c d e f g : _} → BitPtr R O a b c d e f g → ℕ
+index_at {a = own} ptr = index_of own.BITS (ptr_of ptr)
+
+-- the bits of a memory of such words as the pointer is into, by the positions of an order
+abbrev pub bits_by : {R O : Type 0} {a b c d e f g : _} → BitPtr R O a b c d e f g → (ℕ → ℕ) → List R → List Bool
+bits_by {a = own} ptr at words = memory_bits own.BITS at (map own.number words)
+
+-- the edge of words behind those that `count` bits from a pointer on meet
+abbrev pub far_edge : {R O : Type 0} {a b c d e f g : _} → BitPtr R O a b c d e f g → ℕ → ℕ
+far_edge {a = own} ptr count = nat_abs (ptr_of ptr).word + words_met own.BITS (ptr_of ptr).bit count

@@ -16,3 +16,7 @@ pub record HasCopied {X Y : Type 0} (width : ℕ) (at : ℕ → ℕ) (number : X
   pub falling_mark : (writer_of older).rising ≡ false → (writer_of newer).mark ≡ first
   pub bits : memory_bits width2 at2 (map number2 (writer_of newer).words)
       ≡ list_with_copy (memory_bits width at (map number source)) s (memory_bits width2 at2 (map number2 (writer_of older).words)) t count
+
+-- The same inside one memory: what is copied is what was there before.
+abbrev pub HasMoved : {Y : Type 0} (width : ℕ) (at : ℕ → ℕ) (number : Y → ℕ) (s : ℕ) (older newer : WordWriter Y) (t count first met : ℕ) → Type 0
+HasMoved width at number s older newer t count first met = HasCopied width at number (writer_of older).words s width at number older newer t count first met

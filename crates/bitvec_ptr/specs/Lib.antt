@@ -1,6 +1,7 @@
 pub mod BitPtr
 pub mod BitPtrRange
 pub mod Copies
+pub mod Cursor
 pub mod Memory
 pub mod Place
 pub mod PtrRange

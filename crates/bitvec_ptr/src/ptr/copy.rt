@@ -3,9 +3,9 @@
 ghost use Rattle.std.specs.Prelude.{◌≡◌, ℕ, ℤ, pos, nat_abs, ◌+◌, ◌*◌, ◌<◌, ◌≤◌, ◌+ℤ◌, ◌≤ℤ◌, true};
 ghost use Rattle.std.specs.Prelude.{false, length, map};
 ghost use Rattle.std.specs.Int.{int_div_euclid};
-ghost use Rattle.bitvec_ptr.specs.BitPtr.{ptr_of};
-ghost use Rattle.bitvec_ptr.specs.Memory.{memory_bits, list_with_copy};
-ghost use Rattle.bitvec_ptr.specs.Place.{place_of, index_of, words_met, region_max_bits};
+ghost use Rattle.bitvec_ptr.specs.BitPtr.{ptr_of, index_at, bits_by, far_edge};
+ghost use Rattle.bitvec_ptr.specs.Memory.{list_with_copy};
+ghost use Rattle.bitvec_ptr.specs.Place.{place_of, words_met, region_max_bits};
 ghost use Rattle.bitvec_ptr.specs.Steps.{RangeIsIn, AreApart};
 ghost use Rattle.bitvec_ptr.specs.WordWriter.{writer_memory, writer_of};
 
@@ -39,8 +39,7 @@ impl<R: BitRegister, O: BitOrder<R>> BitPtr<R, O> {
         requires rising { 0 < count → (writer_of writer.old).rising ≡ true
             → (writer_of writer.old).mark ≡ nat_abs (ptr_of dest).word }
         requires falling { 0 < count → (writer_of writer.old).rising ≡ false
-            → (writer_of writer.old).mark
-            ≡ nat_abs (ptr_of dest).word + words_met R2.BITS (ptr_of dest).bit count }
+            → (writer_of writer.old).mark ≡ far_edge dest count }
         ensures reference { (writer_memory writer.new).ghost_name
             ≡ (writer_memory writer.old).ghost_name }
         ensures direction { (writer_of writer.new).rising ≡ (writer_of writer.old).rising }
@@ -48,15 +47,12 @@ impl<R: BitRegister, O: BitOrder<R>> BitPtr<R, O> {
         ensures writes { (writer_of writer.new).writes
             ≡ (writer_of writer.old).writes + words_met R2.BITS (ptr_of dest).bit count }
         ensures rising_mark { 0 < count → (writer_of writer.old).rising ≡ true
-            → (writer_of writer.new).mark
-            ≡ nat_abs (ptr_of dest).word + words_met R2.BITS (ptr_of dest).bit count }
+            → (writer_of writer.new).mark ≡ far_edge dest count }
         ensures falling_mark { 0 < count → (writer_of writer.old).rising ≡ false
             → (writer_of writer.new).mark ≡ nat_abs (ptr_of dest).word }
-        ensures bits { memory_bits R2.BITS O2.at_of (map R2.number (writer_of writer.new).words)
-            ≡ list_with_copy (memory_bits R.BITS O.at_of (map R.number memory.now))
-            (index_of R.BITS (ptr_of self))
-            (memory_bits R2.BITS O2.at_of (map R2.number (writer_of writer.old).words))
-            (index_of R2.BITS (ptr_of dest)) count }
+        ensures bits { bits_by dest O2.at_of (writer_of writer.new).words
+            ≡ list_with_copy (bits_by self O.at_of memory.now) (index_at self)
+            (bits_by dest O2.at_of (writer_of writer.old).words) (index_at dest) count }
         ensures none { count ≡ 0 → writer_of writer.new ≡ writer_of writer.old }
     {
         if count == 0 {
@@ -81,12 +77,10 @@ impl<R: BitRegister, O: BitOrder<R>> BitPtr<R, O> {
         requires rising { 0 < count → (writer_of writer.old).rising ≡ true
             → (writer_of writer.old).mark ≡ nat_abs (ptr_of dest).word }
         requires falling { 0 < count → (writer_of writer.old).rising ≡ false
-            → (writer_of writer.old).mark
-            ≡ nat_abs (ptr_of dest).word + words_met R.BITS (ptr_of dest).bit count }
-        requires downwards { 0 < count
-            → index_of R.BITS (ptr_of dest) ≤ index_of R.BITS (ptr_of self)
+            → (writer_of writer.old).mark ≡ far_edge dest count }
+        requires downwards { 0 < count → index_at dest ≤ index_at self
             → (writer_of writer.old).rising ≡ true }
-        requires upwards { 0 < count → index_of R.BITS (ptr_of self) < index_of R.BITS (ptr_of dest)
+        requires upwards { 0 < count → index_at self < index_at dest
             → (writer_of writer.old).rising ≡ false }
         ensures reference { (writer_memory writer.new).ghost_name
             ≡ (writer_memory writer.old).ghost_name }
@@ -95,15 +89,12 @@ impl<R: BitRegister, O: BitOrder<R>> BitPtr<R, O> {
         ensures writes { (writer_of writer.new).writes
             ≡ (writer_of writer.old).writes + words_met R.BITS (ptr_of dest).bit count }
         ensures rising_mark { 0 < count → (writer_of writer.old).rising ≡ true
-            → (writer_of writer.new).mark
-            ≡ nat_abs (ptr_of dest).word + words_met R.BITS (ptr_of dest).bit count }
+            → (writer_of writer.new).mark ≡ far_edge dest count }
         ensures falling_mark { 0 < count → (writer_of writer.old).rising ≡ false
             → (writer_of writer.new).mark ≡ nat_abs (ptr_of dest).word }
-        ensures bits { let old = memory_bits R.BITS O.at_of
-            (map R.number (writer_of writer.old).words)
-            in memory_bits R.BITS O.at_of (map R.number (writer_of writer.new).words)
-            ≡ list_with_copy old (index_of R.BITS (ptr_of self)) old (index_of R.BITS (ptr_of dest))
-            count }
+        ensures bits { let old = bits_by self O.at_of (writer_of writer.old).words
+            in bits_by self O.at_of (writer_of writer.new).words
+            ≡ list_with_copy old (index_at self) old (index_at dest) count }
         ensures none { count ≡ 0 → writer_of writer.new ≡ writer_of writer.old }
     {
         if count == 0 {
@@ -137,11 +128,9 @@ impl<R: BitRegister, O: BitOrder<R>> BitPtr<R, O> {
     )
         requires from_in { RangeIsIn R.BITS (ptr_of self) (length memory.now) count }
         requires to_in { RangeIsIn R2.BITS (ptr_of dest) (length target.old) count }
-        ensures bits { memory_bits R2.BITS O2.at_of (map R2.number target.new)
-            ≡ list_with_copy (memory_bits R.BITS O.at_of (map R.number memory.now))
-            (index_of R.BITS (ptr_of self))
-            (memory_bits R2.BITS O2.at_of (map R2.number target.old))
-            (index_of R2.BITS (ptr_of dest)) count }
+        ensures bits { bits_by dest O2.at_of target.new
+            ≡ list_with_copy (bits_by self O.at_of memory.now) (index_at self)
+            (bits_by dest O2.at_of target.old) (index_at dest) count }
         ensures words { length target.new ≡ length target.old }
     {
         let to = Cursor::at(dest);
@@ -160,11 +149,9 @@ impl<R: BitRegister, O: BitOrder<R>> BitPtr<R, O> {
     )
         requires from_in { RangeIsIn R.BITS (ptr_of self) (length memory.now) count }
         requires to_in { RangeIsIn R2.BITS (ptr_of dest) (length target.old) count }
-        ensures bits { memory_bits R2.BITS O2.at_of (map R2.number target.new)
-            ≡ list_with_copy (memory_bits R.BITS O.at_of (map R.number memory.now))
-            (index_of R.BITS (ptr_of self))
-            (memory_bits R2.BITS O2.at_of (map R2.number target.old))
-            (index_of R2.BITS (ptr_of dest)) count }
+        ensures bits { bits_by dest O2.at_of target.new
+            ≡ list_with_copy (bits_by self O.at_of memory.now) (index_at self)
+            (bits_by dest O2.at_of target.old) (index_at dest) count }
         ensures words { length target.new ≡ length target.old }
     {
         self.copy_to(memory, dest, target, count);
@@ -184,10 +171,9 @@ impl<R: BitRegister, O: BitOrder<R>> BitPtr<R, O> {
     )
         requires from_in { RangeIsIn R2.BITS (ptr_of src) (length source.now) count }
         requires to_in { RangeIsIn R.BITS (ptr_of self) (length memory.old) count }
-        ensures bits { memory_bits R.BITS O.at_of (map R.number memory.new)
-            ≡ list_with_copy (memory_bits R2.BITS O2.at_of (map R2.number source.now))
-            (index_of R2.BITS (ptr_of src)) (memory_bits R.BITS O.at_of (map R.number memory.old))
-            (index_of R.BITS (ptr_of self)) count }
+        ensures bits { bits_by self O.at_of memory.new
+            ≡ list_with_copy (bits_by src O2.at_of source.now) (index_at src)
+            (bits_by self O.at_of memory.old) (index_at self) count }
         ensures words { length memory.new ≡ length memory.old }
     {
         src.copy_to(source, self, memory, count);
@@ -204,10 +190,9 @@ impl<R: BitRegister, O: BitOrder<R>> BitPtr<R, O> {
     )
         requires from_in { RangeIsIn R2.BITS (ptr_of src) (length source.now) count }
         requires to_in { RangeIsIn R.BITS (ptr_of self) (length memory.old) count }
-        ensures bits { memory_bits R.BITS O.at_of (map R.number memory.new)
-            ≡ list_with_copy (memory_bits R2.BITS O2.at_of (map R2.number source.now))
-            (index_of R2.BITS (ptr_of src)) (memory_bits R.BITS O.at_of (map R.number memory.old))
-            (index_of R.BITS (ptr_of self)) count }
+        ensures bits { bits_by self O.at_of memory.new
+            ≡ list_with_copy (bits_by src O2.at_of source.now) (index_at src)
+            (bits_by self O.at_of memory.old) (index_at self) count }
         ensures words { length memory.new ≡ length memory.old }
     {
         self.copy_from(memory, src, source, count);
@@ -221,10 +206,8 @@ impl<R: BitRegister, O: BitOrder<R>> BitPtr<R, O> {
     pub fn copy_within(self, memory: &mut [R], dest: Self, count: usize)
         requires from_in { RangeIsIn R.BITS (ptr_of self) (length memory.old) count }
         requires to_in { RangeIsIn R.BITS (ptr_of dest) (length memory.old) count }
-        ensures bits { let old = memory_bits R.BITS O.at_of (map R.number memory.old)
-            in memory_bits R.BITS O.at_of (map R.number memory.new)
-            ≡ list_with_copy old (index_of R.BITS (ptr_of self)) old (index_of R.BITS (ptr_of dest))
-            count }
+        ensures bits { let old = bits_by self O.at_of memory.old in bits_by self O.at_of memory.new
+            ≡ list_with_copy old (index_at self) old (index_at dest) count }
         ensures words { length memory.new ≡ length memory.old }
     {
         let to = Cursor::at(dest);
@@ -242,10 +225,8 @@ impl<R: BitRegister, O: BitOrder<R>> BitPtr<R, O> {
     pub fn copy_from_within(self, memory: &mut [R], src: Self, count: usize)
         requires from_in { RangeIsIn R.BITS (ptr_of src) (length memory.old) count }
         requires to_in { RangeIsIn R.BITS (ptr_of self) (length memory.old) count }
-        ensures bits { let old = memory_bits R.BITS O.at_of (map R.number memory.old)
-            in memory_bits R.BITS O.at_of (map R.number memory.new)
-            ≡ list_with_copy old (index_of R.BITS (ptr_of src)) old (index_of R.BITS (ptr_of self))
-            count }
+        ensures bits { let old = bits_by self O.at_of memory.old in bits_by self O.at_of memory.new
+            ≡ list_with_copy old (index_at src) old (index_at self) count }
         ensures words { length memory.new ≡ length memory.old }
     {
         src.copy_within(memory, self, count);
@@ -266,10 +247,8 @@ impl<R: BitRegister, O: BitOrder<R>> BitPtr<R, O> {
         requires to_low { int_div_euclid (place_of R.BITS (ptr_of dest) +ℤ pos count) (pos R.BITS)
             ≤ℤ isize.MAX }
         requires apart { AreApart R.BITS (ptr_of self) (ptr_of dest) count }
-        ensures bits { let old = memory_bits R.BITS O.at_of (map R.number memory.old)
-            in memory_bits R.BITS O.at_of (map R.number memory.new)
-            ≡ list_with_copy old (index_of R.BITS (ptr_of self)) old (index_of R.BITS (ptr_of dest))
-            count }
+        ensures bits { let old = bits_by self O.at_of memory.old in bits_by self O.at_of memory.new
+            ≡ list_with_copy old (index_at self) old (index_at dest) count }
         ensures words { length memory.new ≡ length memory.old }
     {
         self.copy_within(memory, dest, count);

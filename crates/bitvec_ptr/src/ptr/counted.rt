@@ -6,11 +6,12 @@
 ghost use Rattle.std.specs.Prelude.{◌≡◌, ℕ, ◌+◌, ◌-◌, ◌*◌, ◌<◌, ◌≤◌, ◌⊎◌, true, false, length, map};
 ghost use Rattle.std.specs.Prelude.{slice_index};
 ghost use Rattle.bitvec_mem.specs.Digit.{digit};
-ghost use Rattle.bitvec_ptr.specs.Copies.{HasCopied};
-ghost use Rattle.bitvec_ptr.specs.Memory.{bit_of, memory_bits, list_with_copy};
+ghost use Rattle.bitvec_ptr.specs.Copies.{HasCopied, HasMoved};
+ghost use Rattle.bitvec_ptr.specs.Cursor.{offset};
+ghost use Rattle.bitvec_ptr.specs.Memory.{bit_of};
 ghost use Rattle.bitvec_ptr.specs.Place.{words_met};
 ghost use Rattle.bitvec_ptr.specs.Shifts.{Allows};
-ghost use Rattle.bitvec_ptr.specs.WordWriter.{writer_memory, writer_of};
+ghost use Rattle.bitvec_ptr.specs.WordWriter.{writer_of};
 
 use crate::ptr::cursor::Cursor;
 use crate::ptr::shift::{Way, gathered, piece, way_of};
@@ -30,9 +31,9 @@ fn gathered_far<R: BitRegister, O: BitOrder<R>, R2: BitRegister, O2: BitOrder<R2
 ) -> R2
     requires bit_in { bit + count ≤ R2.BITS }
     requires way { Allows way R.BITS O.at_of R2.BITS O2.at_of from.bit bit }
-    requires from_in { from.word * R.BITS + from.bit + count ≤ length source.now * R.BITS }
+    requires from_in { offset from + count ≤ length source.now * R.BITS }
     ensures inside { (j : ℕ) → j < count → digit (R2.number result) (O2.at_of (bit + j))
-        ≡ bit_of R.BITS O.at_of (map R.number source.now) (from.word * R.BITS + from.bit + j) }
+        ≡ bit_of R.BITS O.at_of (map R.number source.now) (offset from + j) }
     ensures outside { (j : ℕ) → j < R2.BITS → (j < bit) ⊎ (bit + count ≤ j)
         → digit (R2.number result) (O2.at_of j) ≡ digit (R2.number word) (O2.at_of j) }
 {
@@ -55,7 +56,7 @@ fn gathered_far<R: BitRegister, O: BitOrder<R>, R2: BitRegister, O2: BitOrder<R2
 fn pair_from<R: BitRegister>(source: &[R], from: Cursor<R>, count: u8) -> (R, R)
     requires some { 0 < count }
     requires most { count ≤ R.BITS }
-    requires from_in { from.word * R.BITS + from.bit + count ≤ length source.now * R.BITS }
+    requires from_in { offset from + count ≤ length source.now * R.BITS }
     ensures low { R.number result.0 ≡ slice_index (map R.number source.now) from.word }
     ensures high { R.BITS < from.bit + count → R.number result.1
         ≡ slice_index (map R.number source.now) (from.word + 1) }
@@ -72,8 +73,7 @@ fn pair_from<R: BitRegister>(source: &[R], from: Cursor<R>, count: u8) -> (R, R)
 fn pair_in<R: BitRegister>(writer: &WordWriter<R>, from: Cursor<R>, count: u8) -> (R, R)
     requires some { 0 < count }
     requires most { count ≤ R.BITS }
-    requires from_in { from.word * R.BITS + from.bit + count ≤ length (writer_of writer.now).words *
-        R.BITS }
+    requires from_in { offset from + count ≤ length (writer_of writer.now).words * R.BITS }
     ensures low { R.number result.0 ≡ slice_index (map R.number (writer_of writer.now).words)
         from.word }
     ensures high { R.BITS < from.bit + count → R.number result.1
@@ -100,9 +100,9 @@ fn gathered_from<R: BitRegister, O: BitOrder<R>, R2: BitRegister, O2: BitOrder<R
     requires some { 0 < count }
     requires bit_in { bit + count ≤ R2.BITS }
     requires way { Allows way R.BITS O.at_of R2.BITS O2.at_of from.bit bit }
-    requires from_in { from.word * R.BITS + from.bit + count ≤ length source.now * R.BITS }
+    requires from_in { offset from + count ≤ length source.now * R.BITS }
     ensures inside { (j : ℕ) → j < count → digit (R2.number result) (O2.at_of (bit + j))
-        ≡ bit_of R.BITS O.at_of (map R.number source.now) (from.word * R.BITS + from.bit + j) }
+        ≡ bit_of R.BITS O.at_of (map R.number source.now) (offset from + j) }
     ensures outside { (j : ℕ) → j < R2.BITS → (j < bit) ⊎ (bit + count ≤ j)
         → digit (R2.number result) (O2.at_of j) ≡ digit (R2.number word) (O2.at_of j) }
 {
@@ -127,13 +127,12 @@ fn put_bits<R: BitRegister, O: BitOrder<R>, R2: BitRegister, O2: BitOrder<R2>>(
     requires some { 0 < count }
     requires bit_in { bit + count ≤ R2.BITS }
     requires way { Allows way R.BITS O.at_of R2.BITS O2.at_of from.bit bit }
-    requires from_in { from.word * R.BITS + from.bit + count ≤ length source.now * R.BITS }
+    requires from_in { offset from + count ≤ length source.now * R.BITS }
     requires to_in { to < length (writer_of writer.old).words }
     requires rising { (writer_of writer.old).rising ≡ true → (writer_of writer.old).mark ≤ to }
     requires falling { (writer_of writer.old).rising ≡ false → to < (writer_of writer.old).mark }
-    ensures { HasCopied R.BITS O.at_of R.number source.now
-        (from.word * R.BITS + from.bit) R2.BITS O2.at_of R2.number writer.old writer.new
-        (to * R2.BITS + bit) count to 1 }
+    ensures { HasCopied R.BITS O.at_of R.number source.now (offset from) R2.BITS O2.at_of R2.number
+        writer.old writer.new (to * R2.BITS + bit) count to 1 }
 {
     let old = writer.get(to);
     let word = gathered_from::<R, O, R2, O2>(way, source, from, old, bit, count);
@@ -153,13 +152,11 @@ fn move_bits<R: BitRegister, O: BitOrder<R>>(
     requires some { 0 < count }
     requires bit_in { bit + count ≤ R.BITS }
     requires way { Allows way R.BITS O.at_of R.BITS O.at_of from.bit bit }
-    requires from_in { from.word * R.BITS + from.bit + count ≤ length (writer_of writer.old).words *
-        R.BITS }
+    requires from_in { offset from + count ≤ length (writer_of writer.old).words * R.BITS }
     requires to_in { to < length (writer_of writer.old).words }
     requires rising { (writer_of writer.old).rising ≡ true → (writer_of writer.old).mark ≤ to }
     requires falling { (writer_of writer.old).rising ≡ false → to < (writer_of writer.old).mark }
-    ensures { HasCopied R.BITS O.at_of R.number (writer_of writer.old).words
-        (from.word * R.BITS + from.bit) R.BITS O.at_of R.number writer.old writer.new
+    ensures { HasMoved R.BITS O.at_of R.number (offset from) writer.old writer.new
         (to * R.BITS + bit) count to 1 }
 {
     let old = writer.get(to);
@@ -180,14 +177,12 @@ fn put_row<R: BitRegister, O: BitOrder<R>, R2: BitRegister, O2: BitOrder<R2>>(
 )
     requires way { Allows way R.BITS O.at_of R2.BITS O2.at_of from.bit 0 }
     requires short { count * R2.BITS ≤ usize.MAX }
-    requires from_in { from.word * R.BITS + from.bit + count * R2.BITS ≤ length source.now *
-        R.BITS }
+    requires from_in { offset from + count * R2.BITS ≤ length source.now * R.BITS }
     requires to_in { to + count ≤ length (writer_of writer.old).words }
     requires upwards { (writer_of writer.old).rising ≡ true }
     requires stands { (writer_of writer.old).mark ≡ to }
-    ensures { HasCopied R.BITS O.at_of R.number source.now
-        (from.word * R.BITS + from.bit) R2.BITS O2.at_of R2.number writer.old writer.new
-        (to * R2.BITS) (count * R2.BITS) to count }
+    ensures { HasCopied R.BITS O.at_of R.number source.now (offset from) R2.BITS O2.at_of R2.number
+        writer.old writer.new (to * R2.BITS) (count * R2.BITS) to count }
 {
     for k in 0..count {
         let read = from.words_on::<R2>(k);
@@ -207,14 +202,12 @@ fn put_row_down<R: BitRegister, O: BitOrder<R>, R2: BitRegister, O2: BitOrder<R2
 )
     requires way { Allows way R.BITS O.at_of R2.BITS O2.at_of from.bit 0 }
     requires short { count * R2.BITS ≤ usize.MAX }
-    requires from_in { from.word * R.BITS + from.bit + count * R2.BITS ≤ length source.now *
-        R.BITS }
+    requires from_in { offset from + count * R2.BITS ≤ length source.now * R.BITS }
     requires to_in { to + count ≤ length (writer_of writer.old).words }
     requires downwards { (writer_of writer.old).rising ≡ false }
     requires stands { (writer_of writer.old).mark ≡ to + count }
-    ensures { HasCopied R.BITS O.at_of R.number source.now
-        (from.word * R.BITS + from.bit) R2.BITS O2.at_of R2.number writer.old writer.new
-        (to * R2.BITS) (count * R2.BITS) to count }
+    ensures { HasCopied R.BITS O.at_of R.number source.now (offset from) R2.BITS O2.at_of R2.number
+        writer.old writer.new (to * R2.BITS) (count * R2.BITS) to count }
 {
     for done in 0..count {
         let k = count - 1 - done;
@@ -234,15 +227,13 @@ fn move_row<R: BitRegister, O: BitOrder<R>>(
 )
     requires way { Allows way R.BITS O.at_of R.BITS O.at_of from.bit 0 }
     requires short { count * R.BITS ≤ usize.MAX }
-    requires from_in { from.word * R.BITS + from.bit + count * R.BITS ≤ length
-        (writer_of writer.old).words * R.BITS }
+    requires from_in { offset from + count * R.BITS ≤ length (writer_of writer.old).words * R.BITS }
     requires to_in { to + count ≤ length (writer_of writer.old).words }
-    requires before { to * R.BITS ≤ from.word * R.BITS + from.bit }
+    requires before { to * R.BITS ≤ offset from }
     requires upwards { (writer_of writer.old).rising ≡ true }
     requires stands { (writer_of writer.old).mark ≡ to }
-    ensures { HasCopied R.BITS O.at_of R.number (writer_of writer.old).words
-        (from.word * R.BITS + from.bit) R.BITS O.at_of R.number writer.old writer.new
-        (to * R.BITS) (count * R.BITS) to count }
+    ensures { HasMoved R.BITS O.at_of R.number (offset from) writer.old writer.new (to * R.BITS)
+        (count * R.BITS) to count }
 {
     for k in 0..count {
         let read = from.words_on::<R>(k);
@@ -261,15 +252,13 @@ fn move_row_down<R: BitRegister, O: BitOrder<R>>(
 )
     requires way { Allows way R.BITS O.at_of R.BITS O.at_of from.bit 0 }
     requires short { count * R.BITS ≤ usize.MAX }
-    requires from_in { from.word * R.BITS + from.bit + count * R.BITS ≤ length
-        (writer_of writer.old).words * R.BITS }
+    requires from_in { offset from + count * R.BITS ≤ length (writer_of writer.old).words * R.BITS }
     requires to_in { to + count ≤ length (writer_of writer.old).words }
-    requires behind { from.word * R.BITS + from.bit ≤ to * R.BITS }
+    requires behind { offset from ≤ to * R.BITS }
     requires downwards { (writer_of writer.old).rising ≡ false }
     requires stands { (writer_of writer.old).mark ≡ to + count }
-    ensures { HasCopied R.BITS O.at_of R.number (writer_of writer.old).words
-        (from.word * R.BITS + from.bit) R.BITS O.at_of R.number writer.old writer.new
-        (to * R.BITS) (count * R.BITS) to count }
+    ensures { HasMoved R.BITS O.at_of R.number (offset from) writer.old writer.new (to * R.BITS)
+        (count * R.BITS) to count }
 {
     for done in 0..count {
         let k = count - 1 - done;
@@ -323,16 +312,14 @@ struct Pieces<R: BitRegister> {
 fn pieces_from<R: BitRegister, R2: BitRegister>(from: Cursor<R>, bit: u8, count: usize) -> Pieces<R>
     requires bit_in { bit < R2.BITS }
     requires more { R2.BITS < bit + count }
-    requires inside { from.word * R.BITS + from.bit + count < 18446744073709551616 * R.BITS }
+    requires inside { offset from + count < 18446744073709551616 * R.BITS }
     ensures first { result.first ≡ R2.BITS - bit }
     ensures all { R2.BITS - bit + (result.whole * R2.BITS + result.last) ≡ count }
     ensures some { 0 < result.last }
     ensures most { result.last ≤ R2.BITS }
     ensures met { words_met R2.BITS bit count ≡ result.whole + 2 }
-    ensures middle { result.middle.word * R.BITS + result.middle.bit
-        ≡ from.word * R.BITS + from.bit + (R2.BITS - bit) }
-    ensures end { result.end.word * R.BITS + result.end.bit
-        ≡ from.word * R.BITS + from.bit + (R2.BITS - bit + result.whole * R2.BITS) }
+    ensures middle { offset result.middle ≡ offset from + (R2.BITS - bit) }
+    ensures end { offset result.end ≡ offset from + (R2.BITS - bit + result.whole * R2.BITS) }
     ensures middle_starts { R.BITS ≡ R2.BITS → from.bit ≡ bit → result.middle.bit ≡ 0 }
     ensures end_starts { R.BITS ≡ R2.BITS → from.bit ≡ bit → result.end.bit ≡ 0 }
 {
@@ -361,14 +348,13 @@ pub(super) fn copy_up<R: BitRegister, O: BitOrder<R>, R2: BitRegister, O2: BitOr
 )
     requires some { 0 < count }
     requires way { Allows way R.BITS O.at_of R2.BITS O2.at_of from.bit to.bit }
-    requires from_in { from.word * R.BITS + from.bit + count ≤ length source.now * R.BITS }
+    requires from_in { offset from + count ≤ length source.now * R.BITS }
     requires to_in { to.word + words_met R2.BITS to.bit count ≤ length
         (writer_of writer.old).words }
     requires direction { (writer_of writer.old).rising ≡ true }
     requires stands { (writer_of writer.old).mark ≡ to.word }
-    ensures { HasCopied R.BITS O.at_of R.number source.now
-        (from.word * R.BITS + from.bit) R2.BITS O2.at_of R2.number writer.old writer.new
-        (to.word * R2.BITS + to.bit) count to.word (words_met R2.BITS to.bit count) }
+    ensures { HasCopied R.BITS O.at_of R.number source.now (offset from) R2.BITS O2.at_of R2.number
+        writer.old writer.new (offset to) count to.word (words_met R2.BITS to.bit count) }
 {
     if is_in_one_word::<R2>(to.bit, count) {
         put_bits::<R, O, R2, O2>(way, source, from, writer, to.word, to.bit, count as u8);
@@ -394,14 +380,13 @@ pub(super) fn copy_down<R: BitRegister, O: BitOrder<R>, R2: BitRegister, O2: Bit
 )
     requires some { 0 < count }
     requires way { Allows way R.BITS O.at_of R2.BITS O2.at_of from.bit to.bit }
-    requires from_in { from.word * R.BITS + from.bit + count ≤ length source.now * R.BITS }
+    requires from_in { offset from + count ≤ length source.now * R.BITS }
     requires to_in { to.word + words_met R2.BITS to.bit count ≤ length
         (writer_of writer.old).words }
     requires direction { (writer_of writer.old).rising ≡ false }
     requires stands { (writer_of writer.old).mark ≡ to.word + words_met R2.BITS to.bit count }
-    ensures { HasCopied R.BITS O.at_of R.number source.now
-        (from.word * R.BITS + from.bit) R2.BITS O2.at_of R2.number writer.old writer.new
-        (to.word * R2.BITS + to.bit) count to.word (words_met R2.BITS to.bit count) }
+    ensures { HasCopied R.BITS O.at_of R.number source.now (offset from) R2.BITS O2.at_of R2.number
+        writer.old writer.new (offset to) count to.word (words_met R2.BITS to.bit count) }
 {
     if is_in_one_word::<R2>(to.bit, count) {
         put_bits::<R, O, R2, O2>(way, source, from, writer, to.word, to.bit, count as u8);
@@ -426,15 +411,13 @@ pub(super) fn move_down<R: BitRegister, O: BitOrder<R>>(
 )
     requires some { 0 < count }
     requires way { Allows way R.BITS O.at_of R.BITS O.at_of from.bit to.bit }
-    requires from_in { from.word * R.BITS + from.bit + count ≤ length (writer_of writer.old).words *
-        R.BITS }
+    requires from_in { offset from + count ≤ length (writer_of writer.old).words * R.BITS }
     requires to_in { to.word + words_met R.BITS to.bit count ≤ length (writer_of writer.old).words }
-    requires before { to.word * R.BITS + to.bit ≤ from.word * R.BITS + from.bit }
+    requires before { offset to ≤ offset from }
     requires direction { (writer_of writer.old).rising ≡ true }
     requires stands { (writer_of writer.old).mark ≡ to.word }
-    ensures { HasCopied R.BITS O.at_of R.number (writer_of writer.old).words
-        (from.word * R.BITS + from.bit) R.BITS O.at_of R.number writer.old writer.new
-        (to.word * R.BITS + to.bit) count to.word (words_met R.BITS to.bit count) }
+    ensures { HasMoved R.BITS O.at_of R.number (offset from) writer.old writer.new (offset to) count
+        to.word (words_met R.BITS to.bit count) }
 {
     if is_in_one_word::<R>(to.bit, count) {
         move_bits::<R, O>(way, from, writer, to.word, to.bit, count as u8);
@@ -459,15 +442,13 @@ pub(super) fn move_up<R: BitRegister, O: BitOrder<R>>(
 )
     requires some { 0 < count }
     requires way { Allows way R.BITS O.at_of R.BITS O.at_of from.bit to.bit }
-    requires from_in { from.word * R.BITS + from.bit + count ≤ length (writer_of writer.old).words *
-        R.BITS }
+    requires from_in { offset from + count ≤ length (writer_of writer.old).words * R.BITS }
     requires to_in { to.word + words_met R.BITS to.bit count ≤ length (writer_of writer.old).words }
-    requires behind { from.word * R.BITS + from.bit ≤ to.word * R.BITS + to.bit }
+    requires behind { offset from ≤ offset to }
     requires direction { (writer_of writer.old).rising ≡ false }
     requires stands { (writer_of writer.old).mark ≡ to.word + words_met R.BITS to.bit count }
-    ensures { HasCopied R.BITS O.at_of R.number (writer_of writer.old).words
-        (from.word * R.BITS + from.bit) R.BITS O.at_of R.number writer.old writer.new
-        (to.word * R.BITS + to.bit) count to.word (words_met R.BITS to.bit count) }
+    ensures { HasMoved R.BITS O.at_of R.number (offset from) writer.old writer.new (offset to) count
+        to.word (words_met R.BITS to.bit count) }
 {
     if is_in_one_word::<R>(to.bit, count) {
         move_bits::<R, O>(way, from, writer, to.word, to.bit, count as u8);
@@ -493,15 +474,14 @@ fn copy_one_way<R: BitRegister, O: BitOrder<R>, R2: BitRegister, O2: BitOrder<R2
 )
     requires some { 0 < count }
     requires way { Allows way R.BITS O.at_of R2.BITS O2.at_of from.bit to.bit }
-    requires from_in { from.word * R.BITS + from.bit + count ≤ length source.now * R.BITS }
+    requires from_in { offset from + count ≤ length source.now * R.BITS }
     requires to_in { to.word + words_met R2.BITS to.bit count ≤ length
         (writer_of writer.old).words }
     requires rising { (writer_of writer.old).rising ≡ true → (writer_of writer.old).mark ≡ to.word }
     requires falling { (writer_of writer.old).rising ≡ false → (writer_of writer.old).mark
         ≡ to.word + words_met R2.BITS to.bit count }
-    ensures { HasCopied R.BITS O.at_of R.number source.now
-        (from.word * R.BITS + from.bit) R2.BITS O2.at_of R2.number writer.old writer.new
-        (to.word * R2.BITS + to.bit) count to.word (words_met R2.BITS to.bit count) }
+    ensures { HasCopied R.BITS O.at_of R.number source.now (offset from) R2.BITS O2.at_of R2.number
+        writer.old writer.new (offset to) count to.word (words_met R2.BITS to.bit count) }
 {
     if writer.is_rising() {
         copy_up::<R, O, R2, O2>(way, source, from, writer, to, count);
@@ -522,15 +502,14 @@ pub(super) fn copy_across<R: BitRegister, O: BitOrder<R>, R2: BitRegister, O2: B
     count: usize,
 )
     requires some { 0 < count }
-    requires from_in { from.word * R.BITS + from.bit + count ≤ length source.now * R.BITS }
+    requires from_in { offset from + count ≤ length source.now * R.BITS }
     requires to_in { to.word + words_met R2.BITS to.bit count ≤ length
         (writer_of writer.old).words }
     requires rising { (writer_of writer.old).rising ≡ true → (writer_of writer.old).mark ≡ to.word }
     requires falling { (writer_of writer.old).rising ≡ false → (writer_of writer.old).mark
         ≡ to.word + words_met R2.BITS to.bit count }
-    ensures { HasCopied R.BITS O.at_of R.number source.now
-        (from.word * R.BITS + from.bit) R2.BITS O2.at_of R2.number writer.old writer.new
-        (to.word * R2.BITS + to.bit) count to.word (words_met R2.BITS to.bit count) }
+    ensures { HasCopied R.BITS O.at_of R.number source.now (offset from) R2.BITS O2.at_of R2.number
+        writer.old writer.new (offset to) count to.word (words_met R2.BITS to.bit count) }
 {
     match way_of::<R, O, R2, O2>(from.bit, to.bit) {
         Way::Whole => {
@@ -561,19 +540,15 @@ fn move_one_way<R: BitRegister, O: BitOrder<R>>(
 )
     requires some { 0 < count }
     requires way { Allows way R.BITS O.at_of R.BITS O.at_of from.bit to.bit }
-    requires from_in { from.word * R.BITS + from.bit + count ≤ length (writer_of writer.old).words *
-        R.BITS }
+    requires from_in { offset from + count ≤ length (writer_of writer.old).words * R.BITS }
     requires to_in { to.word + words_met R.BITS to.bit count ≤ length (writer_of writer.old).words }
-    requires before { (writer_of writer.old).rising ≡ true
-        → to.word * R.BITS + to.bit ≤ from.word * R.BITS + from.bit }
-    requires behind { (writer_of writer.old).rising ≡ false
-        → from.word * R.BITS + from.bit ≤ to.word * R.BITS + to.bit }
+    requires before { (writer_of writer.old).rising ≡ true → offset to ≤ offset from }
+    requires behind { (writer_of writer.old).rising ≡ false → offset from ≤ offset to }
     requires rising { (writer_of writer.old).rising ≡ true → (writer_of writer.old).mark ≡ to.word }
     requires falling { (writer_of writer.old).rising ≡ false → (writer_of writer.old).mark
         ≡ to.word + words_met R.BITS to.bit count }
-    ensures { HasCopied R.BITS O.at_of R.number (writer_of writer.old).words
-        (from.word * R.BITS + from.bit) R.BITS O.at_of R.number writer.old writer.new
-        (to.word * R.BITS + to.bit) count to.word (words_met R.BITS to.bit count) }
+    ensures { HasMoved R.BITS O.at_of R.number (offset from) writer.old writer.new (offset to) count
+        to.word (words_met R.BITS to.bit count) }
 {
     if writer.is_rising() {
         move_down::<R, O>(way, from, writer, to, count);
@@ -593,19 +568,15 @@ pub(super) fn move_across<R: BitRegister, O: BitOrder<R>>(
     count: usize,
 )
     requires some { 0 < count }
-    requires from_in { from.word * R.BITS + from.bit + count ≤ length (writer_of writer.old).words *
-        R.BITS }
+    requires from_in { offset from + count ≤ length (writer_of writer.old).words * R.BITS }
     requires to_in { to.word + words_met R.BITS to.bit count ≤ length (writer_of writer.old).words }
-    requires before { (writer_of writer.old).rising ≡ true
-        → to.word * R.BITS + to.bit ≤ from.word * R.BITS + from.bit }
-    requires behind { (writer_of writer.old).rising ≡ false
-        → from.word * R.BITS + from.bit ≤ to.word * R.BITS + to.bit }
+    requires before { (writer_of writer.old).rising ≡ true → offset to ≤ offset from }
+    requires behind { (writer_of writer.old).rising ≡ false → offset from ≤ offset to }
     requires rising { (writer_of writer.old).rising ≡ true → (writer_of writer.old).mark ≡ to.word }
     requires falling { (writer_of writer.old).rising ≡ false → (writer_of writer.old).mark
         ≡ to.word + words_met R.BITS to.bit count }
-    ensures { HasCopied R.BITS O.at_of R.number (writer_of writer.old).words
-        (from.word * R.BITS + from.bit) R.BITS O.at_of R.number writer.old writer.new
-        (to.word * R.BITS + to.bit) count to.word (words_met R.BITS to.bit count) }
+    ensures { HasMoved R.BITS O.at_of R.number (offset from) writer.old writer.new (offset to) count
+        to.word (words_met R.BITS to.bit count) }
 {
     match way_of::<R, O, R, O>(from.bit, to.bit) {
         Way::Whole => {

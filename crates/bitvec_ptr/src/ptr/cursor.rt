@@ -2,9 +2,8 @@
 
 ghost use Rattle.std.specs.Prelude.{◌≡◌, ⊤, ℕ, pos, nat_abs, ◌+◌, ◌-◌, ◌*◌, ◌<◌, ◌≤◌, ◌≤ℤ◌, true};
 ghost use Rattle.std.specs.Prelude.{false, length, map};
-ghost use Rattle.bitvec_ptr.specs.BitPtr.{ptr_of};
+ghost use Rattle.bitvec_ptr.specs.BitPtr.{ptr_of, index_at};
 ghost use Rattle.bitvec_ptr.specs.Memory.{bit_of};
-ghost use Rattle.bitvec_ptr.specs.Place.{index_of};
 
 use crate::ptr::single::{BitPtr, bit_at};
 use bitvec_mem::mem::BitRegister;
@@ -13,7 +12,7 @@ use bitvec_order::order::BitOrder;
 use std::alloc::AllocError;
 use std::marker::PhantomData;
 
-// A place from the first of a memory on: the index of a word, and that of a bit in it.
+// A offset from the first of a memory on: the index of a word, and that of a bit in it.
 //
 // It is no single number, since the places of a long memory pass the type.
 #[derive_where(Copy)]
@@ -35,6 +34,8 @@ impl<R: BitRegister> Clone for Cursor<R> {
 }
 
 impl<R: BitRegister> Cursor<R> {
+    ghost use Rattle.bitvec_ptr.specs.Cursor.{offset};
+
     // The place of a bit of a word.
     pub(super) fn new(word: usize, bit: u8) -> Self
         requires { bit < R.BITS }
@@ -53,7 +54,7 @@ impl<R: BitRegister> Cursor<R> {
         requires { pos 0 ≤ℤ (ptr_of pointer).word }
         ensures word { result.word ≡ nat_abs (ptr_of pointer).word }
         ensures bit { result.bit ≡ (ptr_of pointer).bit }
-        ensures place { result.word * R.BITS + result.bit ≡ index_of R.BITS (ptr_of pointer) }
+        ensures place { offset result ≡ index_at pointer }
     {
         Cursor::new(pointer.address() as usize, pointer.bit().into_inner())
     }
@@ -61,7 +62,7 @@ impl<R: BitRegister> Cursor<R> {
     // The next place.
     pub(super) fn next(self) -> Self
         requires { self.word < usize.MAX }
-        ensures { result.word * R.BITS + result.bit ≡ self.word * R.BITS + self.bit + 1 }
+        ensures { offset result ≡ offset self + 1 }
     {
         if self.bit < R::MASK {
             Cursor::new(self.word, self.bit + 1)
@@ -72,8 +73,8 @@ impl<R: BitRegister> Cursor<R> {
 
     // The place `count` places on.
     pub(super) fn advanced(self, count: usize) -> Self
-        requires { self.word * R.BITS + self.bit + count < 18446744073709551616 * R.BITS }
-        ensures { result.word * R.BITS + result.bit ≡ self.word * R.BITS + self.bit + count }
+        requires { offset self + count < 18446744073709551616 * R.BITS }
+        ensures { offset result ≡ offset self + count }
     {
         let width = usize::from(R::BITS);
         let bit = usize::from(self.bit) + count % width;
@@ -84,10 +85,8 @@ impl<R: BitRegister> Cursor<R> {
     #[inline(always)]
     pub(super) fn words_on<R2: BitRegister>(self, count: usize) -> Self
         requires short { count * R2.BITS ≤ usize.MAX }
-        requires inside { self.word * R.BITS + self.bit + count * R2.BITS < 18446744073709551616 *
-            R.BITS }
-        ensures place { result.word * R.BITS + result.bit
-            ≡ self.word * R.BITS + self.bit + count * R2.BITS }
+        requires inside { offset self + count * R2.BITS < 18446744073709551616 * R.BITS }
+        ensures place { offset result ≡ offset self + count * R2.BITS }
         ensures bit { R.BITS ≡ R2.BITS → result.bit ≡ self.bit }
     {
         if R::BITS == R2::BITS {
@@ -101,10 +100,8 @@ impl<R: BitRegister> Cursor<R> {
 
     // Whether the place is at or before another.
     pub(super) fn is_at_most(self, other: Self) -> bool
-        ensures yes { result ≡ true → self.word * R.BITS + self.bit ≤ other.word * R.BITS +
-            other.bit }
-        ensures no { result ≡ false → other.word * R.BITS + other.bit < self.word * R.BITS +
-            self.bit }
+        ensures yes { result ≡ true → offset self ≤ offset other }
+        ensures no { result ≡ false → offset other < offset self }
     {
         if self.word == other.word {
             return self.bit <= other.bit;
@@ -115,8 +112,7 @@ impl<R: BitRegister> Cursor<R> {
     // The bit at the place.
     pub(super) fn read<O: BitOrder<R>>(self, memory: &[R]) -> bool
         requires { self.word < length memory.now }
-        ensures { result ≡ bit_of R.BITS O.at_of (map R.number memory.now)
-            (self.word * R.BITS + self.bit) }
+        ensures { result ≡ bit_of R.BITS O.at_of (map R.number memory.now) (offset self) }
     {
         bit_at::<R, O>(memory[self.word], BitIdx::new_unchecked(self.bit))
     }

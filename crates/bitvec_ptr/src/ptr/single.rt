@@ -4,8 +4,8 @@ ghost use Rattle.std.specs.Prelude.{◌≡◌, ⊤, ℕ, ℤ, pos, neg_ℤ, ◌+
 ghost use Rattle.std.specs.Prelude.{Some, length, map, slice_get, slice_set, swap, ◌<◌, ◌≤◌, ◌+ℤ◌};
 ghost use Rattle.std.specs.Prelude.{◌≤ℤ◌, ◌↔◌, IsTrue, FitsSigned};
 ghost use Rattle.std.specs.Int.{w64, int_wrap};
-ghost use Rattle.bitvec_ptr.specs.Place.{place_of, index_of, words_met};
-ghost use Rattle.bitvec_ptr.specs.Memory.{bit_of, memory_bits};
+ghost use Rattle.bitvec_ptr.specs.Place.{place_of, words_met};
+ghost use Rattle.bitvec_ptr.specs.Memory.{bit_of};
 ghost use Rattle.bitvec_mem.specs.Digit.{digit};
 ghost use Rattle.bitvec_ptr.specs.Steps.{CanOffset, wrapped_ptr, distance, IsIn, RangeIsIn};
 
@@ -312,7 +312,7 @@ pub(crate) fn with_bit<R: BitRegister, O: BitOrder<R>>(word: R, index: BitIdx<R>
 }
 
 impl<R: BitRegister, O: BitOrder<R>> BitPtr<R, O> {
-    ghost use Rattle.bitvec_ptr.specs.BitPtr.{ptr_of};
+    ghost use Rattle.bitvec_ptr.specs.BitPtr.{ptr_of, index_at, bits_by};
 
     /// The pointer's bit in a memory that has its word: [`is_in`](BitPtr::is_in) is the test.
     ///
@@ -327,8 +327,7 @@ impl<R: BitRegister, O: BitOrder<R>> BitPtr<R, O> {
     /// ```
     pub fn read(self, memory: &[R]) -> bool
         requires { IsIn (ptr_of self) (length memory.now) }
-        ensures { slice_get (memory_bits R.BITS O.at_of (map R.number memory.now))
-            (index_of R.BITS (ptr_of self)) ≡ Some result }
+        ensures { slice_get (bits_by self O.at_of memory.now) (index_at self) ≡ Some result }
     {
         bit_at::<R, O>(memory[self.word as usize], self.bit())
     }
@@ -346,9 +345,8 @@ impl<R: BitRegister, O: BitOrder<R>> BitPtr<R, O> {
     /// ```
     pub fn write(self, memory: &mut [R], bit: bool)
         requires { IsIn (ptr_of self) (length memory.old) }
-        ensures bits { memory_bits R.BITS O.at_of (map R.number memory.new)
-            ≡ slice_set (memory_bits R.BITS O.at_of (map R.number memory.old))
-            (index_of R.BITS (ptr_of self)) bit }
+        ensures bits { bits_by self O.at_of memory.new ≡ slice_set (bits_by self O.at_of memory.old)
+            (index_at self) bit }
         ensures words { length memory.new ≡ length memory.old }
     {
         let at = self.word as usize;
@@ -358,11 +356,10 @@ impl<R: BitRegister, O: BitOrder<R>> BitPtr<R, O> {
     /// Writes the pointer's bit as [`write`](BitPtr::write) does, and returns the bit before.
     pub fn replace(self, memory: &mut [R], bit: bool) -> bool
         requires { IsIn (ptr_of self) (length memory.old) }
-        ensures previous { slice_get (memory_bits R.BITS O.at_of (map R.number memory.old))
-            (index_of R.BITS (ptr_of self)) ≡ Some result }
-        ensures bits { memory_bits R.BITS O.at_of (map R.number memory.new)
-            ≡ slice_set (memory_bits R.BITS O.at_of (map R.number memory.old))
-            (index_of R.BITS (ptr_of self)) bit }
+        ensures previous { slice_get (bits_by self O.at_of memory.old) (index_at self)
+            ≡ Some result }
+        ensures bits { bits_by self O.at_of memory.new ≡ slice_set (bits_by self O.at_of memory.old)
+            (index_at self) bit }
         ensures words { length memory.new ≡ length memory.old }
     {
         let previous = self.read(memory);
@@ -380,14 +377,11 @@ impl<R: BitRegister, O: BitOrder<R>> BitPtr<R, O> {
     )
         requires self_in { IsIn (ptr_of self) (length memory.old) }
         requires with_in { IsIn (ptr_of with) (length other.old) }
-        ensures bits { memory_bits R.BITS O.at_of (map R.number memory.new)
-            ≡ slice_set (memory_bits R.BITS O.at_of (map R.number memory.old))
-            (index_of R.BITS (ptr_of self))
-            (bit_of R2.BITS O2.at_of (map R2.number other.old) (index_of R2.BITS (ptr_of with))) }
-        ensures other_bits { memory_bits R2.BITS O2.at_of (map R2.number other.new)
-            ≡ slice_set (memory_bits R2.BITS O2.at_of (map R2.number other.old))
-            (index_of R2.BITS (ptr_of with))
-            (bit_of R.BITS O.at_of (map R.number memory.old) (index_of R.BITS (ptr_of self))) }
+        ensures bits { bits_by self O.at_of memory.new ≡ slice_set (bits_by self O.at_of memory.old)
+            (index_at self) (bit_of R2.BITS O2.at_of (map R2.number other.old) (index_at with)) }
+        ensures other_bits { bits_by with O2.at_of other.new ≡ slice_set
+            (bits_by with O2.at_of other.old) (index_at with)
+            (bit_of R.BITS O.at_of (map R.number memory.old) (index_at self)) }
         ensures words { length memory.new ≡ length memory.old }
         ensures other_words { length other.new ≡ length other.old }
     {
@@ -401,9 +395,8 @@ impl<R: BitRegister, O: BitOrder<R>> BitPtr<R, O> {
     pub fn swap_within(self, memory: &mut [R], with: Self)
         requires self_in { IsIn (ptr_of self) (length memory.old) }
         requires with_in { IsIn (ptr_of with) (length memory.old) }
-        ensures bits { memory_bits R.BITS O.at_of (map R.number memory.new)
-            ≡ swap (memory_bits R.BITS O.at_of (map R.number memory.old))
-            (index_of R.BITS (ptr_of self)) (index_of R.BITS (ptr_of with)) }
+        ensures bits { bits_by self O.at_of memory.new ≡ swap (bits_by self O.at_of memory.old)
+            (index_at self) (index_at with) }
         ensures words { length memory.new ≡ length memory.old }
     {
         let theirs = with.read(memory);
