@@ -2,38 +2,16 @@
 use Rattle.std.proofs.Common.{◌≡◌, ℕ, zero, suc, ◌+◌, ◌-◌, ◌<◌, ◌≤◌, ◌==◌, Bool, true, false, not, ◌&&◌, if◌then◌else◌, List, [], ◌∷◌, ◌++◌, replicate, set, length, map, take, drop, refl, sym, ap, subst, ◌∙◌, arith}
 use Rattle.std.proofs.lemmas.List.{take-map, drop-map, get_or-take, get_or-drop, length-take-le, length-drop, take_more_set, replicate_more}
 use Rattle.std.proofs.lemmas.Bool.{eqb-true, eqb-false}
-use Rattle.std.specs.Prelude.{nat_abs, slice_index, slice_range, T, Option, Some, None, is_some, IfSome}
+use Rattle.std.specs.Prelude.{nat_abs, slice_index, slice_range, T, Option, Some, None, is_some, IfSome, option_map}
 use Rattle.std.specs.Borrow.{MutBor}
 use Rattle.bitvec_ptr.specs.Place.{words_met, tail_of}
 use Rattle.bitvec_ptr.proofs.PlaceLemmas.{words_met-none, words_met-some}
 use Rattle.bitvec_domain.specs.Span.{Span}
 use Rattle.bitvec_domain.proofs.PartLemmas.{part_same}
 use Rattle.bitvec_domain.proofs.SliceLemmas.{map-slice}
-use Rattle.bitvec_domain.specs.Parts.{Part, Parts, enclave, region, part_of, parts_of}
+use Rattle.bitvec_domain.specs.Parts.{enclave, region, part_of, parts_of}
 use Rattle.bitvec_domain.specs.Slot.{Slot, slot_part, slot_at}
-use Rattle.bitvec_domain.specs.Loans.{is_inside, has_head, has_tail, words_before, body_words, slots_of, lists_of}
-use Rattle.bitvec_domain.specs.DomainMut.{loan_slots, loan_words, lent_parts}
-use Rattle.bitvec_domain.specs.Pieces.{piece_list}
-use Rattle.bitvec_domain.specs.declared.domain.domain_mut.DomainMut.{DomainMut}
-use Rattle.bitvec_domain.specs.declared.domain.domain_mut.DomainMut.TheVariants.{Enclave, Region}
-
--- the part at a slot of some words, if there is one
-abbrev pub slot_part_if : Option Slot → List ℕ → Option Part
-slot_part_if (Some slot) words = Some (slot_part slot words)
-slot_part_if None words = None
-
--- the parts that lie in loans, by where they lie and by the words behind the loans
-abbrev pub parts_from : {R : Type 0} → (R → ℕ) → Option Slot × Bool × Option Slot → List R × List R × List R → Parts
-parts_from number (h, true, t) words = region (slot_part_if h (map number words.0)) (map number words.1) (slot_part_if t (map number words.2))
-parts_from number (Some slot, false, t) words = enclave (slot_part slot (map number words.0))
-parts_from number (None, false, t) words = region None [] None
-
-pub lent_parts-from : {R O : Type 0} {a b c d e f g : _} (number : R → ℕ) (domain : DomainMut R O a b c d e f g) → lent_parts number domain ≡ parts_from number (loan_slots domain) (loan_words domain)
-lent_parts-from number (Enclave part) = refl
-lent_parts-from number (Region (Some head) body (Some tail)) = refl
-lent_parts-from number (Region (Some head) body None) = refl
-lent_parts-from number (Region None body (Some tail)) = refl
-lent_parts-from number (Region None body None) = refl
+use Rattle.bitvec_domain.specs.Loans.{loan_parts, loan_at, is_inside, has_head, has_tail, words_before, body_words, span_loans}
 
 -- what holds of each row of the table of a span's parts, holds
 pub rows : (empty begins ends one : Bool) (P : Bool → Bool → Bool → Bool → Type 0) → (empty ≡ true → P true begins ends one) → (empty ≡ false → P false true true one) → (empty ≡ false → P false false true one) → (empty ≡ false → P false true false one) → (empty ≡ false → one ≡ true → P false false false true) → (empty ≡ false → one ≡ false → P false false false false) → P empty begins ends one
@@ -132,12 +110,14 @@ module _ (bits : ℕ) (span : Span) where
     body-is i n from upto e h = ap (λ k. map number (take k (drop i memory))) h ∙ ap (λ k. map number (take (upto - from) (drop k memory))) e ∙ map-slice number memory from upto
 
     -- the parts in the loans are the span's
-    parts-from-loans : parts_from number (slots_of bits span) (lists_of bits span memory) ≡ parts_of bits span (map number memory)
+    pub parts-from-loans : loan_parts number (span_loans bits span memory) ≡ parts_of bits span (map number memory)
     parts-from-loans =
         by_rows (λ e b f o. let i = first + (if heads e b then 1 else 0) in let n = met - (if heads e b then 1 else 0) - (if tails e b f o then 1 else 0) in
-        parts_from number
-        ((if heads e b then Some (slot_at bits span 0 first) else None), not (inside e b f o), (if tails e b f o then Some (slot_at bits span (met - 1) 0) else None))
-        ((if heads e b then take i memory else []), (if inside e b f o then [] else take n (drop i memory)), (if tails e b f o then drop n (drop i memory) else []))
+        loan_parts number (
+          loan_at (take i memory) (if heads e b then Some (slot_at bits span 0 first) else None),
+          (if inside e b f o then None else Some (take n (drop i memory))),
+          loan_at (drop n (drop i memory)) (if tails e b f o then Some (slot_at bits span (met - 1) 0) else None),
+        )
         ≡ (if e then region None [] None
         else if b && f then region None (slice_range (map number memory) first (first + met)) None
         else if f then region (Some (part_of bits span (map number memory) 0)) (slice_range (map number memory) (first + 1) (first + met)) None
@@ -153,23 +133,23 @@ module _ (bits : ℕ) (span : Span) where
         (λ e o. let more = some_met e in let differ = eqb-false met 1 o in
         λ k. region (Some (head-is k)) (body-is (first + 1) (met - 1 - 1) (first + 1) (first + met - 1) (omega arith) (omega arith) k) (Some (tail-is (first + 1) (met - 1 - 1) (omega arith) k)))
 
-    pub lent_parts-of : {O : Type 0} {a b c d e f g : _} (domain : DomainMut R O a b c d e f g) → loan_slots domain ≡ slots_of bits span → loan_words domain ≡ lists_of bits span memory
-        → lent_parts number domain ≡ parts_of bits span (map number memory)
-    lent_parts-of domain slots words = lent_parts-from number domain ∙ (λ k. parts_from number (slots k) (words k)) ∙ parts-from-loans
-
 -- what is asked of the list behind a loan, if there is one, where there is to be one
 pub loan_has : {X : Type 0} (F : Option (MutBor (List X))) (b : Bool) (v : List X) (Q : List X → Type 0) → is_some F ≡ b → IfSome F (λ (r : MutBor (List X)). r.now ≡ v) → (b ≡ true → Q v) → IfSome F (λ (r : MutBor (List X)). Q r.now)
 loan_has (Some r) b v Q is e k = subst Q (sym e) (k (sym is))
 loan_has None b v Q is e k = tt
 
--- the list behind a loan, by whether there is to be one
-pub listed_if : {X : Type 0} (F : Option (MutBor (List X))) (b : Bool) (v : List X) → is_some F ≡ b → IfSome F (λ (r : MutBor (List X)). r.now ≡ v) → piece_list F ≡ (if b then v else [])
-listed_if {X} (Some r) b v is e = subst (λ (q : Bool). r.now ≡ (if q then v else [])) is e
-listed_if {X} None b v is e = subst (λ (q : Bool). ◌≡◌ {A = List X} [] (if q then v else [])) is refl
+-- the loan of a part, by whether there is to be one
+pub lent_at : {X : Type 0} (F : Option (MutBor (List X))) (b : Bool) (v : List X) (slot : Slot) → is_some F ≡ b → IfSome F (λ (r : MutBor (List X)). r.now ≡ v)
+    → option_map (λ (r : MutBor (List X)). record { words = r.now; place = slot }) F ≡ loan_at v (if b then Some slot else None)
+lent_at (Some r) b v slot is e = subst (λ (q : Bool). Some (record { words = r.now; place = slot }) ≡ loan_at v (if q then Some slot else None)) is (ap (λ l. Some (record { words = l; place = slot })) e)
+lent_at None b v slot is e = subst (λ (q : Bool). None ≡ loan_at v (if q then Some slot else None)) is refl
 
-pub listed_unless : {X : Type 0} (F : Option (MutBor (List X))) (b : Bool) (v : List X) → is_some F ≡ not b → IfSome F (λ (r : MutBor (List X)). r.now ≡ v) → piece_list F ≡ (if b then [] else v)
-listed_unless F true v is e = listed_if F false v is e
-listed_unless F false v is e = listed_if F true v is e
+-- that of the body, by whether there is to be none
+pub lent_unless : {X : Type 0} (F : Option (MutBor (List X))) (b : Bool) (v : List X) → is_some F ≡ not b → IfSome F (λ (r : MutBor (List X)). r.now ≡ v) → option_map (λ (r : MutBor (List X)). r.now) F ≡ (if b then None else Some v)
+lent_unless (Some r) false v is e = ap Some e
+lent_unless (Some r) true v is e = absurd (true_false is)
+lent_unless None true v is e = refl
+lent_unless None false v is e = absurd (false_true is)
 
 pub map-replicate : {X Y : Type 0} (f : X → Y) (n : ℕ) (x : X) → map f (replicate n x) ≡ replicate n (f x)
 map-replicate f zero x = refl

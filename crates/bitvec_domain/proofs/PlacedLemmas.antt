@@ -1,5 +1,5 @@
 -- The stretches of a span's bits in its loans, and where their bits lie in the span.
-use Rattle.std.proofs.Common.{◌≡◌, ℕ, ◌+◌, ◌-◌, ◌*◌, ◌/◌, ◌%◌, ◌<◌, ◌≤◌, ◌==◌, Bool, true, false, not, if◌then◌else◌, T, List, [], ◌++◌, length, map, take, drop, refl, sym, ap, ◌∙◌, subst, arith, inl, inr, MutBor}
+use Rattle.std.proofs.Common.{◌≡◌, ℕ, ◌+◌, ◌-◌, ◌*◌, ◌/◌, ◌%◌, ◌<◌, ◌≤◌, ◌==◌, Bool, true, false, not, if◌then◌else◌, T, List, ◌++◌, length, map, take, drop, refl, sym, ap, ◌∙◌, subst, arith, inl, inr, MutBor}
 use Rattle.std.specs.Prelude.{nat_abs, Option, Some, None, is_some, IfSome}
 use Rattle.std.specs.Borrow.{GName}
 use Rattle.std.proofs.lemmas.List.{length-map, length-take-le, length-drop, map-append, take-append-drop}
@@ -10,16 +10,16 @@ use Rattle.bitvec_ptr.proofs.PlaceLemmas.{words_met-none, words_met-some, tail_o
 use Rattle.bitvec_domain.specs.Span.{Span}
 use Rattle.bitvec_domain.specs.Parts.{part_head, part_tail}
 use Rattle.bitvec_domain.specs.Slot.{Slot, slot_at}
-use Rattle.bitvec_domain.specs.Stretch.{Stretch, slot_stretch_if, whole_stretch}
-use Rattle.bitvec_domain.specs.Written.{IsWritten, StretchIsWritten, body_stretch, tail_stretch}
+use Rattle.bitvec_domain.specs.Stretch.{Stretch, whole_stretch}
+use Rattle.bitvec_domain.specs.Written.{IsWritten, StretchIsWritten, LoanIsWritten, LoansAreWritten}
 use Rattle.bitvec_domain.specs.Lending.{name_of}
 use Rattle.bitvec_domain.specs.Pieces.{names_of}
-use Rattle.bitvec_domain.specs.BitLoans.{names_if, stretches_of}
-use Rattle.bitvec_domain.specs.BitDomainMut.{bit_loan_names, bit_loan_stretches, bit_loan_words}
+use Rattle.bitvec_domain.specs.BitLoans.{BitLoans, names_if, stretch_loan, whole_loan, stretch_loans, loans_len}
+use Rattle.bitvec_domain.specs.BitDomainMut.{bit_loan_names, bit_loans_of}
 use Rattle.bitvec_domain.specs.declared.lend.Pieces.{Pieces}
 use Rattle.bitvec_domain.specs.declared.domain.bit_domain_mut.BitDomainMut.{BitDomainMut}
 use Rattle.bitvec_domain.specs.declared.domain.bit_domain_mut.BitDomainMut.TheVariants.{Enclave, Region}
-use Rattle.bitvec_domain.specs.Loans.{is_inside, has_head, has_tail, words_before, body_words, slots_of, lists_of}
+use Rattle.bitvec_domain.specs.Loans.{Loan, loan_at, is_inside, has_head, has_tail, words_before, body_words, span_loans}
 use Rattle.bitvec_domain.proofs.LoanEnds.{last_of}
 use Rattle.bitvec_domain.proofs.LoanLemmas.{rows, inside, heads, tails, loans-within, inside-alone, inside-none}
 use Rattle.bitvec_domain.proofs.StretchLemmas.{is_some-if}
@@ -39,10 +39,10 @@ module _ (bits : ℕ) (span : Span) (in_head : span.head < bits) where
   one b = if b then 1 else 0
 
   -- the three stretches write what is to be written in the span
-  abbrev AllAgree : Bool → Bool → ℕ → Type 0
-  AllAgree hd tl n =
-      let s0 = slot_stretch_if (if hd then Some (slot_at bits span 0 first) else None) in
-      let s2 = slot_stretch_if (if tl then Some (slot_at bits span (met - 1) 0) else None) in
+  abbrev AllAgree : {R : Type 0} → List R → List R → Bool → Bool → ℕ → Type 0
+  AllAgree v0 v2 hd tl n =
+      let s0 = (stretch_loan (loan_at v0 (if hd then Some (slot_at bits span 0 first) else None))).place in
+      let s2 = (stretch_loan (loan_at v2 (if tl then Some (slot_at bits span (met - 1) 0) else None))).place in
       Agrees start span.len 0 ((first + one hd) * bits) 0 (s0.first * bits + s0.head) s0.len
       × (Agrees start span.len ((first + one hd) * bits) (n * bits) s0.len 0 (n * bits)
       × ((size : ℕ) → Agrees start span.len ((first + one hd) * bits + n * bits) size (s0.len + n * bits) (s2.first * bits + s2.head) s2.len))
@@ -78,10 +78,10 @@ module _ (bits : ℕ) (span : Span) (in_head : span.head < bits) where
       let parts = div-add-mod' (span.head + span.len - 1) bits in
       (words_met-some bits span.head span.len some, (tail_of-some bits span.head span.len some, (omega (arith, parts, some), mod_below (span.head + span.len - 1) bits (omega (arith, in_head)))))
 
-  pub all-agree : AllAgree (has_head span) (has_tail bits span) (body_words bits span)
-  all-agree =
+  pub all-agree : {R : Type 0} (v0 v2 : List R) → AllAgree v0 v2 (has_head span) (has_tail bits span) (body_words bits span)
+  all-agree v0 v2 =
       rows (span.len == 0) (span.head == 0) (tail_of bits span.head span.len == bits) (met == 1)
-      (λ e b f o. (span.head == 0) ≡ b → (tail_of bits span.head span.len == bits) ≡ f → AllAgree (heads e b) (tails e b f o) (met - one (heads e b) - one (tails e b f o)))
+      (λ e b f o. (span.head == 0) ≡ b → (tail_of bits span.head span.len == bits) ≡ f → AllAgree v0 v2 (heads e b) (tails e b f o) (met - one (heads e b) - one (tails e b f o)))
       (λ e b f.
       let none = eqb-true span.len 0 e in
       let no_words = words_met-none bits span.head span.len none in
@@ -150,24 +150,36 @@ module _ (bits : ℕ) (span : Span) (in_head : span.head < bits) where
       refl refl
 
 -- where there is a tail there is a body
-tail-outside : (bits : ℕ) (span : Span) → has_tail bits span ≡ true → not (is_inside bits span) ≡ true
+tail-outside : (bits : ℕ) (span : Span) → has_tail bits span ≡ true → is_inside bits span ≡ false
 tail-outside bits span =
     rows (span.len == 0) (span.head == 0) (tail_of bits span.head span.len == bits) (words_met bits span.head span.len == 1)
-    (λ e b f o. tails e b f o ≡ true → not (inside e b f o) ≡ true)
+    (λ e b f o. tails e b f o ≡ true → inside e b f o ≡ false)
     (λ e t. refl) (λ e t. refl) (λ e t. refl) (λ e t. refl) (λ e o t. absurd cc) (λ e o t. refl)
 
--- how many bits the stretches have
-abbrev total : (bits : ℕ) → Span → Bool → Bool → Bool → ℕ → ℕ
-total bits span hd ins tl n =
-    let p = stretches_of bits ((if hd then Some (slot_at bits span 0 (nat_abs span.word)) else None), not ins, (if tl then Some (slot_at bits span (words_met bits span.head span.len - 1) 0) else None)) n in
-    p.0.len + ((body_stretch p).len + (tail_stretch p).len)
+-- how many bits the stretches have, by how many words the body has
+abbrev total : {R : Type 0} → ℕ → Option (Loan R Slot) → Option (Loan R Slot) → Bool → ℕ → ℕ
+total bits head tail inside n = (stretch_loan head).place.len + (if inside then 0 else n * bits + (stretch_loan tail).place.len)
+
+counted : {R : Type 0} (bits : ℕ) (head tail : Option (Loan R Slot)) (inside : Bool) (words : List R) (n : ℕ) → length words ≡ n → loans_len (stretch_loans bits (head, (if inside then None else Some words), tail)) ≡ total bits head tail inside n
+counted bits head tail true words n e = omega arith
+counted bits head tail false words n e = ap (total bits head tail false) e
+
+-- the body's loan has its words
+body-len : {R : Type 0} (bits : ℕ) (span : Span) (memory : List R) → nat_abs span.word + words_met bits span.head span.len ≤ length memory → length (take (body_words bits span) (drop (words_before span) memory)) ≡ body_words bits span
+body-len bits span memory fits =
+    let within = loans-within bits span in
+    let rest = length-drop (words_before span) memory in
+    length-take-le (body_words bits span) (drop (words_before span) memory) (omega (arith, within, fits, rest))
 
 -- the stretches have as many bits as the span
-pub total-len : (bits : ℕ) (span : Span) (in_head : span.head < bits) → (p : Stretch × Option (Stretch × Stretch)) → p ≡ stretches_of bits (slots_of bits span) (body_words bits span) → p.0.len + ((body_stretch p).len + (tail_stretch p).len) ≡ span.len
-total-len bits span in_head p is =
-    ap (λ (p : Stretch × Option (Stretch × Stretch)). p.0.len + ((body_stretch p).len + (tail_stretch p).len)) is
+pub total-len : {R : Type 0} (bits : ℕ) (span : Span) (in_head : span.head < bits) (memory : List R) → nat_abs span.word + words_met bits span.head span.len ≤ length memory → loans_len (stretch_loans bits (span_loans bits span memory)) ≡ span.len
+total-len {R} bits span in_head memory fits =
+    let loans = span_loans bits span memory in
+    let lent : List R → Bool → ℕ → ℕ → Option (Loan R Slot) = λ words there k word. loan_at words (if there then Some (slot_at bits span k word) else None) in
+    counted bits loans.0 loans.2 (is_inside bits span) (take (body_words bits span) (drop (words_before span) memory)) (body_words bits span) (body-len bits span memory fits)
     ∙ rows (span.len == 0) (span.head == 0) (tail_of bits span.head span.len == bits) (words_met bits span.head span.len == 1)
-    (λ e b f o. (span.head == 0) ≡ b → (tail_of bits span.head span.len == bits) ≡ f → total bits span (heads e b) (inside e b f o) (tails e b f o) (words_met bits span.head span.len - one bits span in_head (heads e b) - one bits span in_head (tails e b f o)) ≡ span.len)
+    (λ e b f o. (span.head == 0) ≡ b → (tail_of bits span.head span.len == bits) ≡ f
+    → total bits (lent (take (words_before span) memory) (heads e b) 0 (nat_abs span.word)) (lent (drop (body_words bits span) (drop (words_before span) memory)) (tails e b f o) (words_met bits span.head span.len - 1) 0) (inside e b f o) (words_met bits span.head span.len - one bits span in_head (heads e b) - one bits span in_head (tails e b f o)) ≡ span.len)
     (λ e b f.
     let none = eqb-true span.len 0 e in
     let no_words = words_met-none bits span.head span.len none in
@@ -220,53 +232,42 @@ named hd tl true (name, Some others) e k = differ e
 named hd tl false (name, None) e k = differ (sym e)
 named hd tl false (name, Some (body, last)) e k = (is_some-if hd name, (refl, is_some-if tl last))
 
-named-stretches : {R O : Type 0} {a b c d e f g : _} (domain : BitDomainMut R O a b c d e f g) → is_some (bit_loan_names domain).1 ≡ is_some (bit_loan_stretches domain).1
-named-stretches (Enclave stretch) = refl
-named-stretches (Region head body tail) = refl
+named-loans : {R O : Type 0} {a b c d e f g : _} (domain : BitDomainMut R O a b c d e f g) → is_some (bit_loan_names domain).1 ≡ is_some (bit_loans_of domain).1
+named-loans (Enclave stretch) = refl
+named-loans (Region head body tail) = refl
 
-some-places : (bits : ℕ) (head tail : Option Slot) (inside : Bool) (n : ℕ) → is_some (stretches_of bits (head, not inside, tail) n).1 ≡ not inside
-some-places bits head tail true n = refl
-some-places bits head tail false n = refl
-
-first-place : (bits : ℕ) (head tail : Option Slot) (inside : Bool) (n : ℕ) → (stretches_of bits (head, not inside, tail) n).0 ≡ slot_stretch_if head
-first-place bits head tail true n = refl
-first-place bits head tail false n = refl
-
-other-places : (bits : ℕ) (head tail : Option Slot) (inside : Bool) (n : ℕ) → not inside ≡ true
-    → (body_stretch (stretches_of bits (head, not inside, tail) n) ≡ whole_stretch bits n) × (tail_stretch (stretches_of bits (head, not inside, tail) n) ≡ slot_stretch_if tail)
-other-places bits head tail true n e = differ (sym e)
-other-places bits head tail false n e = (refl, refl)
-
-unless-if : {X : Type 0} (inside : Bool) (v : List X) → (if inside then [] else v) ≡ (if not inside then v else [])
-unless-if true v = refl
-unless-if false v = refl
-
-no_slot : (b : Bool) (slot : Slot) → b ≡ false → (slot_stretch_if (if b then Some slot else None)).len ≡ 0
-no_slot true slot e = differ e
-no_slot false slot e = refl
+some-loans : {R : Type 0} (bits : ℕ) (head tail : Option (Loan R Slot)) (inside : Bool) (words : List R) → is_some (stretch_loans bits (head, (if inside then None else Some words), tail)).1 ≡ not inside
+some-loans bits head tail true words = refl
+some-loans bits head tail false words = refl
 
 module _ {R : Type 0} (number : R → ℕ) (bits : ℕ) (at : ℕ → ℕ) (xs : List Bool) where
-  -- the last words of a loan, if there was one
-  piece-written : (F : Option (MutBor (List R))) (b : Bool) (from from' : ℕ) (stretch stretch' : Stretch) (l v : List R) → is_some (name_of F) ≡ b → (b ≡ true → from ≡ from') → (b ≡ true → stretch ≡ stretch') → (b ≡ false → stretch'.len ≡ 0) → l ≡ (if b then v else [])
-      → IfSome F (λ (r : MutBor (List R)). StretchIsWritten bits at xs from stretch (map number l) (map number r.now)) → StretchIsWritten bits at xs from' stretch' (map number v) (map number (last_of F v))
-  piece-written (Some r) true from from' stretch stretch' l v is begins lies none listed put =
-      let a : StretchIsWritten bits at xs from' stretch (map number l) (map number r.now) = subst (λ (f : ℕ). StretchIsWritten bits at xs f stretch (map number l) (map number r.now)) (begins refl) put in
-      let c : StretchIsWritten bits at xs from' stretch' (map number l) (map number r.now) = subst (λ (s : Stretch). StretchIsWritten bits at xs from' s (map number l) (map number r.now)) (lies refl) a in
-      subst (λ (w : List R). StretchIsWritten bits at xs from' stretch' (map number w) (map number r.now)) listed c
-  piece-written (Some r) false from from' stretch stretch' l v is begins lies none listed put = differ is
-  piece-written None true from from' stretch stretch' l v is begins lies none listed put = differ (sym is)
-  piece-written None false from from' stretch stretch' l v is begins lies none listed put =
-      subst (λ (n : ℕ). IsWritten bits at xs from' (stretch'.first * bits + stretch'.head) n (map number v) (map number v)) (sym (none refl)) (written-none bits at xs from' (stretch'.first * bits + stretch'.head) (map number v))
+  -- the last words of a part's loan, if there was one
+  part-written : (F : Option (MutBor (List R))) (b : Bool) (slot : Slot) (from : ℕ) (v : List R) → is_some (name_of F) ≡ b → (b ≡ true → IfSome F (LoanIsWritten number bits at xs from (stretch_loan (loan_at v (if b then Some slot else None)))))
+      → StretchIsWritten bits at xs from (stretch_loan (loan_at v (if b then Some slot else None))).place (map number v) (map number (last_of F v))
+  part-written (Some r) true slot from v is put = put refl
+  part-written (Some r) false slot from v is put = differ is
+  part-written None true slot from v is put = differ (sym is)
+  part-written None false slot from v is put = written-none bits at xs from (0 * bits + 0) (map number v)
+
+  -- those of the body's
+  body-written : (F : Option (MutBor (List R))) (inside : Bool) (from n : ℕ) (v : List R) → is_some (name_of F) ≡ not inside → length v ≡ n → (inside ≡ true → n ≡ 0) → (inside ≡ false → IfSome F (LoanIsWritten number bits at xs from (whole_loan bits v)))
+      → StretchIsWritten bits at xs from (whole_stretch bits n) (map number v) (map number (last_of F v))
+  body-written (Some r) true from n v is long none put = differ is
+  body-written (Some r) false from n v is long none put = subst (λ (m : ℕ). StretchIsWritten bits at xs from (whole_stretch bits m) (map number v) (map number r.now)) long (put refl)
+  body-written None true from n v is long none put = subst (λ (m : ℕ). IsWritten bits at xs from (0 * bits + 0) m (map number v) (map number v)) (sym (ap (λ m. m * bits) (none refl) ∙ omega arith)) (written-none bits at xs from (0 * bits + 0) (map number v))
+  body-written None false from n v is long none put = differ (sym is)
+
+  rest-written : (head tail : Option (Loan R Slot)) (inside : Bool) (words : List R) (pieces : Pieces R) → LoansAreWritten number bits at xs (stretch_loans bits (head, (if inside then None else Some words), tail)) pieces → inside ≡ false
+      → IfSome pieces.body (LoanIsWritten number bits at xs (stretch_loan head).place.len (whole_loan bits words)) × IfSome pieces.back (LoanIsWritten number bits at xs ((stretch_loan head).place.len + length words * bits) (stretch_loan tail))
+  rest-written head tail true words pieces put e = differ e
+  rest-written head tail false words pieces put e = put.1
 
   -- the loans' last words, one behind the other
   pub written-loans : {O : Type 0} {a b c d e f g : _} (span : Span) (memory : List R) → span.head < bits → nat_abs span.word + words_met bits span.head span.len ≤ length memory → (domain : BitDomainMut R O a b c d e f g) (pieces : Pieces R)
-      → bit_loan_stretches domain ≡ stretches_of bits (slots_of bits span) (body_words bits span) → bit_loan_words domain ≡ lists_of bits span memory → names_of pieces ≡ names_if (has_head span) (has_tail bits span) (bit_loan_names domain)
-      → IfSome pieces.front (λ (r : MutBor (List R)). StretchIsWritten bits at xs 0 (bit_loan_stretches domain).0 (map number (bit_loan_words domain).0) (map number r.now))
-      → IfSome pieces.body (λ (r : MutBor (List R)). StretchIsWritten bits at xs (bit_loan_stretches domain).0.len (body_stretch (bit_loan_stretches domain)) (map number (bit_loan_words domain).1) (map number r.now))
-      → IfSome pieces.back (λ (r : MutBor (List R)). StretchIsWritten bits at xs ((bit_loan_stretches domain).0.len + (body_stretch (bit_loan_stretches domain)).len) (tail_stretch (bit_loan_stretches domain)) (map number (bit_loan_words domain).2) (map number r.now))
+      → bit_loans_of domain ≡ stretch_loans bits (span_loans bits span memory) → names_of pieces ≡ names_if (has_head span) (has_tail bits span) (bit_loan_names domain) → LoansAreWritten number bits at xs (bit_loans_of domain) pieces
       → IsWritten bits at xs 0 (nat_abs span.word * bits + span.head) span.len (map number memory)
       (map number (last_of pieces.front (take (words_before span) memory) ++ (last_of pieces.body (take (body_words bits span) (drop (words_before span) memory)) ++ last_of pieces.back (drop (body_words bits span) (drop (words_before span) memory)))))
-  written-loans span memory in_head fits domain pieces places words names front body back =
+  written-loans span memory in_head fits domain pieces lent names written =
       let i : ℕ = words_before span in
       let n : ℕ = body_words bits span in
       let start : ℕ = nat_abs span.word * bits + span.head in
@@ -281,29 +282,24 @@ module _ {R : Type 0} (number : R → ℕ) (bits : ℕ) (at : ℕ → ℕ) (xs :
       let inside : Bool = is_inside bits span in
       let slot0 : Slot = slot_at bits span 0 (nat_abs span.word) in
       let slot2 : Slot = slot_at bits span (words_met bits span.head span.len - 1) 0 in
-      let head : Option Slot = if hd then Some slot0 else None in
-      let tail : Option Slot = if tl then Some slot2 else None in
-      let s0 : Stretch = slot_stretch_if head in
-      let s2 : Stretch = slot_stretch_if tail in
-      let s1 : Stretch = whole_stretch bits n in
+      let head : Option (Loan R Slot) = loan_at v0 (if hd then Some slot0 else None) in
+      let tail : Option (Loan R Slot) = loan_at v2 (if tl then Some slot2 else None) in
+      let s0 : Stretch = (stretch_loan head).place in
+      let s2 : Stretch = (stretch_loan tail).place in
       let within = loans-within bits span in
-      let rest = length-drop i memory in
       let some : 0 < bits = omega (arith, in_head) in
       let long0 : length (map number v0) ≡ i = length-map v0 number ∙ length-take-le i memory (omega (arith, within, fits)) in
-      let long1 : length (map number v1) ≡ n = length-map v1 number ∙ length-take-le n (drop i memory) (omega (arith, within, fits, rest)) in
+      let long1 : length v1 ≡ n = body-len bits span memory fits in
       let size0 : length (map number v0) * bits ≡ i * bits = ap (λ m. m * bits) long0 in
-      let size1 : length (map number v1) * bits ≡ n * bits = ap (λ m. m * bits) long1 in
-      let there = named hd tl inside (bit_loan_names domain) (named-stretches domain ∙ ap (λ (p : Stretch × Option (Stretch × Stretch)). is_some p.1) places ∙ some-places bits head tail inside n) (inside-alone bits span) in
-      let place0 : (bit_loan_stretches domain).0 ≡ s0 = ap (λ (p : Stretch × Option (Stretch × Stretch)). p.0) places ∙ first-place bits head tail inside n in
-      let others = other-places bits head tail inside n in
-      let place1 : not inside ≡ true → body_stretch (bit_loan_stretches domain) ≡ s1 = λ e. ap body_stretch places ∙ (others e).0 in
-      let outside : tl ≡ true → not inside ≡ true = tail-outside bits span in
-      let place2 : tl ≡ true → tail_stretch (bit_loan_stretches domain) ≡ s2 = λ e. ap tail_stretch places ∙ (others (outside e)).1 in
-      let len0 : (bit_loan_stretches domain).0.len ≡ s0.len = ap (λ (s : Stretch). s.len) place0 in
-      let w0 = piece-written pieces.front hd 0 0 (bit_loan_stretches domain).0 s0 (bit_loan_words domain).0 v0 (ap (λ (m : Option GName × Option GName × Option GName). is_some m.0) names ∙ there.0) (λ e. refl) (λ e. place0) (no_slot hd slot0) (λ k. (words k).0) front in
-      let w1 = piece-written pieces.body (not inside) (bit_loan_stretches domain).0.len s0.len (body_stretch (bit_loan_stretches domain)) s1 (bit_loan_words domain).1 v1 (ap (λ (m : Option GName × Option GName × Option GName). is_some m.1) names ∙ there.1.0) (λ e. len0) place1 (λ e. ap (λ m. m * bits) (inside-none bits span (not-false inside e)) ∙ omega arith) ((λ k. (words k).1) ∙ unless-if inside v1) body in
-      let w2 = piece-written pieces.back tl ((bit_loan_stretches domain).0.len + (body_stretch (bit_loan_stretches domain)).len) (s0.len + n * bits) (tail_stretch (bit_loan_stretches domain)) s2 (bit_loan_words domain).2 v2 (ap (λ (m : Option GName × Option GName × Option GName). is_some m.2) names ∙ there.1.1) (λ e. (λ k. len0 k + (place1 (outside e) k).len)) place2 (no_slot tl slot2) (λ k. (words k).2) back in
-      let agree = all-agree bits span in_head in
+      let size1 : length (map number v1) * bits ≡ n * bits = ap (λ m. m * bits) (length-map v1 number ∙ long1) in
+      let there = named hd tl inside (bit_loan_names domain) (named-loans domain ∙ ap (λ (p : BitLoans R). is_some p.1) lent ∙ some-loans bits head tail inside v1) (inside-alone bits span) in
+      let put : LoansAreWritten number bits at xs (stretch_loans bits (span_loans bits span memory)) pieces = subst (λ (p : BitLoans R). LoansAreWritten number bits at xs p pieces) lent written in
+      let rest = rest-written head tail inside v1 pieces put in
+      let w0 = part-written pieces.front hd slot0 0 v0 (ap (λ (m : Option GName × Option GName × Option GName). is_some m.0) names ∙ there.0) (λ e. put.0) in
+      let w1 = body-written pieces.body inside s0.len n v1 (ap (λ (m : Option GName × Option GName × Option GName). is_some m.1) names ∙ there.1.0) long1 (inside-none bits span) (λ e. (rest e).0) in
+      let w2 = part-written pieces.back tl slot2 (s0.len + n * bits) v2 (ap (λ (m : Option GName × Option GName × Option GName). is_some m.2) names ∙ there.1.1)
+      (λ e. subst (λ (m : ℕ). IfSome pieces.back (LoanIsWritten number bits at xs (s0.len + m * bits) (stretch_loan tail))) long1 (rest (tail-outside bits span e)).1) in
+      let agree = all-agree bits span in_head v0 v2 in
       let p0 = placed-piece bits at xs start span.len 0 0 (s0.first * bits + s0.head) s0.len (map number v0) (map number c0) w0 (subst (λ (m : ℕ). Agrees start span.len 0 m 0 (s0.first * bits + s0.head) s0.len) (sym size0) agree.0) in
       let p1 = placed-piece bits at xs start span.len (0 + length (map number v0) * bits) s0.len (0 * bits + 0) (n * bits) (map number v1) (map number c1) w1
       (moved start span.len (i * bits) (0 + length (map number v0) * bits) (n * bits) (length (map number v1) * bits) s0.len 0 (0 * bits + 0) (n * bits) (omega (arith, size0)) (sym size1) (omega arith) agree.1.0) in
@@ -317,10 +313,6 @@ module _ {R : Type 0} (number : R → ℕ) (bits : ℕ) (at : ℕ → ℕ) (xs :
       subst (λ (l : List ℕ). IsWritten bits at xs 0 start span.len l (map number (c0 ++ (c1 ++ c2)))) old
       (subst (λ (l : List ℕ). IsWritten bits at xs 0 start span.len (map number v0 ++ (map number v1 ++ map number v2)) l) (sym (whole c0 c1 c2)) joined)
     where
-      not-false : (b : Bool) → not b ≡ false → b ≡ true
-      not-false true e = refl
-      not-false false e = differ e
-
       moved : (start len b b' s s' f p p' c : ℕ) → b ≡ b' → s ≡ s' → p ≡ p' → Agrees start len b s f p c → Agrees start len b' s' f p' c
       moved start len b b' s s' f p p' c eb es ep a =
           subst (λ (x : ℕ). Agrees start len x s' f p' c) eb (subst (λ (x : ℕ). Agrees start len b x f p' c) es (subst (λ (x : ℕ). Agrees start len b s f x c) ep a))

@@ -1,11 +1,12 @@
 -- What a `BitDomainMut` shows.
-use Rattle.std.specs.Prelude.{ℕ, Bool, List, [], Option, Some, None, map}
+use Rattle.std.specs.Prelude.{ℕ, Bool, List, Option, Some, None, map}
 use Rattle.std.specs.Borrow.{Fml, GName, RattleType, MutBor}
 use Rattle.bitvec_domain.specs.declared.domain.bit_words_mut.BitWordsMut.{BitWordsMut}
 use Rattle.bitvec_domain.specs.declared.domain.bit_domain_mut.BitDomainMut.{BitDomainMut}
-use Rattle.bitvec_domain.specs.declared.domain.bit_domain_mut.BitDomainMut.TheVariants.{Enclave, Region}
+pub use Rattle.bitvec_domain.specs.declared.domain.bit_domain_mut.BitDomainMut.TheVariants.{Enclave, Region}
 use Rattle.bitvec_domain.specs.Lending.{LendsNamed}
-use Rattle.bitvec_domain.specs.BitLoans.{names_if}
+use Rattle.bitvec_domain.specs.Loans.{Loan}
+use Rattle.bitvec_domain.specs.BitLoans.{BitLoans, names_if}
 use Rattle.bitvec_domain.specs.BitParts.{WordBits, BitParts, bit_enclave, bit_region}
 use Rattle.bitvec_domain.specs.Stretch.{Stretch, stretch_bits}
 use Rattle.bitvec_domain.specs.BitWordsMut.{words_memory, stretch_in}
@@ -24,15 +25,14 @@ abbrev pub bit_loan_names : {R O : Type 0} {a b c d e f g : _} → BitDomainMut 
 bit_loan_names (Enclave stretch) = ((words_memory stretch).ghost_name, None)
 bit_loan_names (Region head body tail) = ((words_memory head).ghost_name, Some ((words_memory body).ghost_name, (words_memory tail).ghost_name))
 
--- where the stretches lie in their loans, in the same way
-abbrev pub bit_loan_stretches : {R O : Type 0} {a b c d e f g : _} → BitDomainMut R O a b c d e f g → Stretch × Option (Stretch × Stretch)
-bit_loan_stretches (Enclave stretch) = (stretch_in stretch, None)
-bit_loan_stretches (Region head body tail) = (stretch_in head, Some (stretch_in body, stretch_in tail))
+-- the words behind a stretch's loan, and where the stretch lies in them
+abbrev pub words_loan : {R O : Type 0} {a b c d e f g : _} → BitWordsMut R O a b c d e f g → Loan R Stretch
+words_loan stretch = record { words = (words_memory stretch).now; place = stretch_in stretch }
 
--- the words behind the loans before, in and behind the body; an enclave's are before it
-abbrev pub bit_loan_words : {R O : Type 0} {a b c d e f g : _} → BitDomainMut R O a b c d e f g → List R × List R × List R
-bit_loan_words (Enclave stretch) = ((words_memory stretch).now, [], [])
-bit_loan_words (Region head body tail) = ((words_memory head).now, (words_memory body).now, (words_memory tail).now)
+-- the loan of one stretch alone, or of the head's, and then those of the body's and of the tail's
+abbrev pub bit_loans_of : {R O : Type 0} {a b c d e f g : _} → BitDomainMut R O a b c d e f g → BitLoans R
+bit_loans_of (Enclave stretch) = (words_loan stretch, None)
+bit_loans_of (Region head body tail) = (words_loan head, Some (words_loan body, words_loan tail))
 
 -- s ends as the last words behind the loans of the domain's stretches, one behind the other, and where there is no head or no tail its words are as they were
 abbrev pub LendsBits : (R : RattleType) {O : Type 0} {a b c d e f g : _} → MutBor (List R.Denot) → ℕ → ℕ → Bool → Bool → BitDomainMut R.Denot O a b c d e f g → Fml

@@ -1,11 +1,12 @@
 -- What a `DomainMut` shows.
-use Rattle.std.specs.Prelude.{ℕ, Bool, true, false, List, [], Option, Some, None, map}
+use Rattle.std.specs.Prelude.{ℕ, List, Option, Some, None, option_map}
 use Rattle.std.specs.Borrow.{Fml, GName, RattleType, MutBor}
 use Rattle.bitvec_domain.specs.declared.domain.partial_element_mut.PartialElementMut.{PartialElementMut}
 use Rattle.bitvec_domain.specs.declared.domain.domain_mut.DomainMut.{DomainMut}
-use Rattle.bitvec_domain.specs.declared.domain.domain_mut.DomainMut.TheVariants.{Enclave, Region}
-use Rattle.bitvec_domain.specs.Parts.{Part, Parts, enclave, region}
-use Rattle.bitvec_domain.specs.Slot.{Slot, slot_part}
+pub use Rattle.bitvec_domain.specs.declared.domain.domain_mut.DomainMut.TheVariants.{Enclave, Region}
+use Rattle.bitvec_domain.specs.Parts.{Part, Parts}
+use Rattle.bitvec_domain.specs.Slot.{Slot}
+use Rattle.bitvec_domain.specs.Loans.{Loan, Loans, loan_part, loan_parts}
 use Rattle.bitvec_domain.specs.PartialElementMut.{memory_of, slot_in}
 use Rattle.bitvec_domain.specs.Lending.{LendsNamed}
 
@@ -23,36 +24,19 @@ loan_names (Region head body tail) = (part_name head, Some body.ghost_name, part
 abbrev pub LendsDomain : (R : RattleType) {O : Type 0} {a b c d e f g : _} → MutBor (List R.Denot) → ℕ → ℕ → DomainMut R.Denot O a b c d e f g → Fml
 LendsDomain R s i n domain = LendsNamed R s i n (loan_names domain)
 
--- the words behind a part's loan
-abbrev pub part_words : {R O : Type 0} {a b c d e f g : _} → Option (PartialElementMut R O a b c d e f g) → List R
-part_words (Some part) = (memory_of part).now
-part_words None = []
-
--- the words behind the loans of a domain
-abbrev pub loan_words : {R O : Type 0} {a b c d e f g : _} → DomainMut R O a b c d e f g → List R × List R × List R
-loan_words (Enclave part) = (part_words (Some part), [], [])
-loan_words (Region head body tail) = (part_words head, body.now, part_words tail)
-
--- where a part lies in its loan
-abbrev pub part_slot : {R O : Type 0} {a b c d e f g : _} → Option (PartialElementMut R O a b c d e f g) → Option Slot
-part_slot (Some part) = Some (slot_in part)
-part_slot None = None
-
--- where the parts lie in their loans, and between them whether there is a body
-abbrev pub loan_slots : {R O : Type 0} {a b c d e f g : _} → DomainMut R O a b c d e f g → Option Slot × Bool × Option Slot
-loan_slots (Enclave part) = (part_slot (Some part), false, None)
-loan_slots (Region head body tail) = (part_slot head, true, part_slot tail)
+-- the words behind a part's loan, and where the part lies in them
+abbrev pub part_loan : {R O : Type 0} {a b c d e f g : _} → PartialElementMut R O a b c d e f g → Loan R Slot
+part_loan part = record { words = (memory_of part).now; place = slot_in part }
 
 -- the word and the bounds of a part
 abbrev pub lent_part : {R O : Type 0} {a b c d e f g : _} → (R → ℕ) → PartialElementMut R O a b c d e f g → Part
-lent_part number part = slot_part (slot_in part) (map number (memory_of part).now)
+lent_part number part = loan_part number (part_loan part)
 
--- the same, if there is one
-abbrev pub lent_part_if : {R O : Type 0} {a b c d e f g : _} → (R → ℕ) → Option (PartialElementMut R O a b c d e f g) → Option Part
-lent_part_if number (Some part) = Some (lent_part number part)
-lent_part_if number None = None
+-- the loans before, in and behind the body; an enclave's is before it
+abbrev pub loans_of : {R O : Type 0} {a b c d e f g : _} → DomainMut R O a b c d e f g → Loans R
+loans_of (Enclave part) = (Some (part_loan part), None, None)
+loans_of (Region head body tail) = (option_map part_loan head, Some body.now, option_map part_loan tail)
 
 -- the parts of a domain
 abbrev pub lent_parts : {R O : Type 0} {a b c d e f g : _} → (R → ℕ) → DomainMut R O a b c d e f g → Parts
-lent_parts number (Enclave part) = enclave (lent_part number part)
-lent_parts number (Region head body tail) = region (lent_part_if number head) (map number body.now) (lent_part_if number tail)
+lent_parts number domain = loan_parts number (loans_of domain)

@@ -1,18 +1,29 @@
 -- What `Pieces` shows.
-use Rattle.std.specs.Prelude.{List, [], Option, Some, None}
-use Rattle.std.specs.Borrow.{GName, MutBor}
+use Rattle.std.specs.Prelude.{ℕ, nat_abs, ◌-◌, List, map, Option, option_map}
+use Rattle.std.specs.Borrow.{GName}
+use Rattle.bitvec_ptr.specs.Place.{words_met}
 use Rattle.bitvec_domain.specs.declared.lend.Pieces.{Pieces}
+use Rattle.bitvec_domain.specs.Span.{Span}
+use Rattle.bitvec_domain.specs.Slot.{slot_at}
+use Rattle.bitvec_domain.specs.Loans.{Loans}
 use Rattle.bitvec_domain.specs.Lending.{name_of}
 
 -- the names of the loans
 abbrev pub names_of : {X : Type 0} → Pieces X → Option GName × Option GName × Option GName
 names_of pieces = (name_of pieces.front, name_of pieces.body, name_of pieces.back)
 
--- the list behind a loan, and none where there is no loan
-abbrev pub piece_list : {X : Type 0} → Option (MutBor (List X)) → List X
-piece_list (Some r) = r.now
-piece_list None = []
+-- the lists behind the loans, by the numbers of their words
+abbrev pub numbers_of : {X : Type 0} → (X → ℕ) → Pieces X → Option (List ℕ) × Option (List ℕ) × Option (List ℕ)
+numbers_of number pieces = (
+  option_map (λ r. map number r.now) pieces.front,
+  option_map (λ r. map number r.now) pieces.body,
+  option_map (λ r. map number r.now) pieces.back,
+)
 
--- the lists behind the loans
-abbrev pub piece_lists : {X : Type 0} → Pieces X → List X × List X × List X
-piece_lists pieces = (piece_list pieces.front, piece_list pieces.body, piece_list pieces.back)
+-- the loans of a span's parts, where these are lent
+abbrev pub piece_loans : {X : Type 0} → ℕ → Span → Pieces X → Loans X
+piece_loans bits span pieces = (
+  option_map (λ r. record { words = r.now; place = slot_at bits span 0 (nat_abs span.word) }) pieces.front,
+  option_map (λ r. r.now) pieces.body,
+  option_map (λ r. record { words = r.now; place = slot_at bits span (words_met bits span.head span.len - 1) 0 }) pieces.back,
+)

@@ -1,5 +1,5 @@
 -- Bits that lie one behind another in some words of a memory.
-use Rattle.std.specs.Prelude.{ℕ, ◌+◌, ◌-◌, ◌*◌, List, Option, Some, None, slice_range}
+use Rattle.std.specs.Prelude.{ℕ, ◌+◌, ◌-◌, ◌*◌, List, slice_range}
 use Rattle.bitvec_domain.specs.Slot.{Slot}
 use Rattle.bitvec_domain.specs.BitParts.{WordBits}
 
@@ -22,11 +22,6 @@ no_stretch = record { first = 0; count = 0; head = 0; len = 0 }
 -- where the bits of a part of a word lie
 abbrev pub slot_stretch : Slot → Stretch
 slot_stretch slot = record { first = slot.word; count = 1; head = slot.head; len = slot.tail - slot.head }
-
--- where the bits of a part of a word lie, if there is one
-abbrev pub slot_stretch_if : Option Slot → Stretch
-slot_stretch_if (Some slot) = slot_stretch slot
-slot_stretch_if None = no_stretch
 
 -- all bits of so many words, from a memory's first on
 abbrev pub whole_stretch : ℕ → ℕ → Stretch

@@ -1,8 +1,12 @@
 -- Bits of a memory written from a list. A memory is the list of its words' numbers, `bits` is the width of a word.
-use Rattle.std.specs.Prelude.{◌≡◌, ℕ, ◌+◌, ◌-◌, ◌*◌, ◌<◌, ◌&&◌, if◌then◌else◌, Bool, List, Option, Some, None, length, nat_le, nat_lt}
+use Rattle.std.specs.Prelude.{◌≡◌, ℕ, ◌+◌, ◌-◌, ◌*◌, ◌<◌, ◌&&◌, if◌then◌else◌, Bool, List, IfSome, length, map, nat_le, nat_lt}
 use Rattle.bitvec_ptr.specs.Memory.{bit_of}
+use Rattle.std.specs.Borrow.{MutBor}
 use Rattle.bitvec_domain.specs.Span.{element}
-use Rattle.bitvec_domain.specs.Stretch.{Stretch, no_stretch}
+use Rattle.bitvec_domain.specs.Stretch.{Stretch}
+use Rattle.bitvec_domain.specs.Loans.{Loan}
+use Rattle.bitvec_domain.specs.BitLoans.{BitLoans}
+use Rattle.bitvec_domain.specs.declared.lend.Pieces.{Pieces}
 
 -- the `count` bits from a place on are the list's elements from `from` on, every other bit is as before, and there are
 -- as many words
@@ -14,11 +18,13 @@ pub record IsWritten (bits : ℕ) (at : ℕ → ℕ) (xs : List Bool) (from plac
 abbrev pub StretchIsWritten : ℕ → (ℕ → ℕ) → List Bool → ℕ → Stretch → List ℕ → List ℕ → Type 0
 StretchIsWritten bits at xs from stretch old new = IsWritten bits at xs from (stretch.first * bits + stretch.head) stretch.len old new
 
--- where the body's stretch and the tail's lie, and no bits for one stretch alone
-abbrev pub body_stretch : Stretch × Option (Stretch × Stretch) → Stretch
-body_stretch (first, None) = no_stretch
-body_stretch (first, Some (body, last)) = body
+-- the same of the stretch of a loan, and of the words that a reference has
+abbrev pub LoanIsWritten : {R : Type 0} → (R → ℕ) → ℕ → (ℕ → ℕ) → List Bool → ℕ → Loan R Stretch → MutBor (List R) → Type 0
+LoanIsWritten number bits at xs from loan r = StretchIsWritten bits at xs from loan.place (map number loan.words) (map number r.now)
 
-abbrev pub tail_stretch : Stretch × Option (Stretch × Stretch) → Stretch
-tail_stretch (first, None) = no_stretch
-tail_stretch (first, Some (body, last)) = last
+-- the bits of a domain's stretches are the list's, one stretch behind the other, in the words of the pieces that there are
+abbrev pub LoansAreWritten : {R : Type 0} → (R → ℕ) → ℕ → (ℕ → ℕ) → List Bool → BitLoans R → Pieces R → Type 0
+LoansAreWritten number bits at xs loans pieces =
+    IfSome pieces.front (LoanIsWritten number bits at xs 0 loans.0)
+    × IfSome loans.1 (λ rest. IfSome pieces.body (LoanIsWritten number bits at xs loans.0.place.len rest.0)
+    × IfSome pieces.back (LoanIsWritten number bits at xs (loans.0.place.len + rest.0.place.len) rest.1))

@@ -1,16 +1,15 @@
 //! The bits of a span by the words in which they lie, for writing.
 
-ghost use Rattle.std.specs.Prelude.{◌≡◌, ◌/◌, ◌≤◌, true, false, if◌then◌else◌, MatchOption, IfSome};
-ghost use Rattle.std.specs.Prelude.{Some, None, is_some, [], length, map};
+ghost use Rattle.std.specs.Prelude.{◌≡◌, ◌/◌, ◌≤◌, true, false, if◌then◌else◌, MatchOption};
+ghost use Rattle.std.specs.Prelude.{Some, None, is_some, length, map, option_map};
 ghost use Rattle.std.specs.Borrow.{sem};
 ghost use Rattle.bitvec_domain.specs.Span.{region_max_bits, Fits};
 ghost use Rattle.bitvec_domain.specs.Parts.{HasShortBody, parts_of};
-ghost use Rattle.bitvec_domain.specs.Loans.{has_head, has_tail, words_before, body_words, slots_of};
-ghost use Rattle.bitvec_domain.specs.Loans.{lists_of};
+ghost use Rattle.bitvec_domain.specs.Loans.{has_head, has_tail, words_before, body_words};
+ghost use Rattle.bitvec_domain.specs.Loans.{span_loans};
 ghost use Rattle.bitvec_domain.specs.BitParts.{optional_bits, body_bits, bit_enclave, bit_region};
 ghost use Rattle.bitvec_domain.specs.BitParts.{bit_parts_of, is_bit_enclave};
-ghost use Rattle.bitvec_domain.specs.Stretch.{slot_stretch_if, whole_stretch};
-ghost use Rattle.bitvec_domain.specs.BitLoans.{names_if, stretches_of};
+ghost use Rattle.bitvec_domain.specs.BitLoans.{names_if, stretch_loan, whole_loan, stretch_loans};
 
 use crate::domain::{BitWordsMut, DomainMut, PartialElementMut};
 use crate::ptr::span::BitSpan;
@@ -80,23 +79,14 @@ impl<'a, R: BitRegister, O> Default for BitDomainMut<'a, R, O> {
 }
 
 impl<'a, R: BitRegister, O> BitDomainMut<'a, R, O> {
-    ghost use Rattle.bitvec_domain.specs.BitWordsMut.{words_memory, stretch_in};
-    ghost use Rattle.bitvec_domain.specs.BitDomainMut.{lent_word_bits, lent_bits, bit_loan_names};
-    ghost use Rattle.bitvec_domain.specs.BitDomainMut.{bit_loan_stretches, bit_loan_words};
+    ghost use Rattle.bitvec_domain.specs.BitDomainMut.{Enclave, Region, lent_bits};
 
     /// The bits of one word, where the domain is those alone.
     ///
     /// The stretch keeps its loan. The Rust crate gives a bit slice.
     pub fn enclave(self) -> Option<BitWordsMut<'a, R, O>>
-        ensures bits { MatchOption result (is_bit_enclave (lent_bits R.number self.entry) ≡ false)
-            (λ stretch. lent_bits R.number self.entry
-            ≡ bit_enclave (lent_word_bits R.number stretch)) }
-        ensures names { IfSome result (λ stretch. bit_loan_names self.entry
-            ≡ ((words_memory stretch).ghost_name, None)) }
-        ensures places { IfSome result (λ stretch. bit_loan_stretches self.entry
-            ≡ (stretch_in stretch, None)) }
-        ensures words { IfSome result (λ stretch. bit_loan_words self.entry
-            ≡ ((words_memory stretch).now, [], [])) }
+        ensures { MatchOption result (is_bit_enclave (lent_bits R.number self.entry) ≡ false)
+            (λ stretch. self.entry ≡ Enclave stretch) }
     {
         match self {
             BitDomainMut::Enclave(stretch) => Some(stretch),
@@ -120,20 +110,8 @@ impl<'a, R: BitRegister, O> BitDomainMut<'a, R, O> {
             BitWordsMut<'a, R, O>,
         ),
     >
-        ensures bits { MatchOption result (is_bit_enclave (lent_bits R.number self.entry) ≡ true)
-            (λ all. lent_bits R.number self.entry
-            ≡ bit_region (lent_word_bits R.number all.0) (lent_word_bits R.number all.1)
-            (lent_word_bits R.number all.2)) }
-        ensures names { IfSome result (λ all. bit_loan_names self.entry
-            ≡ (
-              (words_memory all.0).ghost_name,
-              Some
-                  ((words_memory all.1).ghost_name, (words_memory all.2).ghost_name),
-            )) }
-        ensures places { IfSome result (λ all. bit_loan_stretches self.entry
-            ≡ (stretch_in all.0, Some (stretch_in all.1, stretch_in all.2))) }
-        ensures words { IfSome result (λ all. bit_loan_words self.entry
-            ≡ ((words_memory all.0).now, (words_memory all.1).now, (words_memory all.2).now)) }
+        ensures { MatchOption result (is_bit_enclave (lent_bits R.number self.entry) ≡ true)
+            (λ all. self.entry ≡ Region all.0 all.1 all.2) }
     {
         match self {
             BitDomainMut::Enclave(_) => None,
@@ -143,18 +121,18 @@ impl<'a, R: BitRegister, O> BitDomainMut<'a, R, O> {
 }
 
 impl<'a, R: BitRegister, O> BitWordsMut<'a, R, O> {
-    ghost use Rattle.bitvec_domain.specs.BitWordsMut.{words_memory, stretch_in};
-    ghost use Rattle.bitvec_domain.specs.DomainMut.{part_name, part_words, part_slot, lent_part_if};
-    ghost use Rattle.bitvec_domain.specs.BitDomainMut.{lent_word_bits};
+    ghost use Rattle.bitvec_domain.specs.BitWordsMut.{words_memory};
+    ghost use Rattle.bitvec_domain.specs.Loans.{loan_part};
+    ghost use Rattle.bitvec_domain.specs.DomainMut.{part_name, part_loan};
+    ghost use Rattle.bitvec_domain.specs.BitDomainMut.{words_loan, lent_word_bits};
 
     // The bits of a part, or none.
     fn of_part(part: Option<PartialElementMut<'a, R, O>>) -> Self
         ensures name { (if is_some (part_name part.entry) then Some (words_memory result).ghost_name
             else None) ≡ part_name part.entry }
-        ensures words { (words_memory result).now ≡ part_words part.entry }
-        ensures place { stretch_in result ≡ slot_stretch_if (part_slot part.entry) }
+        ensures loan { words_loan result ≡ stretch_loan (option_map part_loan part.entry) }
         ensures bits { lent_word_bits R.number result
-            ≡ optional_bits (lent_part_if R.number part.entry) }
+            ≡ optional_bits (option_map (loan_part R.number) (option_map part_loan part.entry)) }
     {
         let stretch = match part {
             Some(part) => Some(part.into_bitslice()),
@@ -167,8 +145,7 @@ impl<'a, R: BitRegister, O> BitWordsMut<'a, R, O> {
     fn of_body(body: &'a mut [R]) -> Self
         requires { length body.old ≤ region_max_bits / R.BITS }
         ensures name { (words_memory result).ghost_name ≡ body.entry.ghost_name }
-        ensures words { (words_memory result).now ≡ body.old }
-        ensures place { stretch_in result ≡ whole_stretch R.BITS (length body.old) }
+        ensures loan { words_loan result ≡ whole_loan R.BITS body.old }
         ensures bits { lent_word_bits R.number result ≡ body_bits R.BITS (map R.number body.old) }
     {
         let count = body.len();
@@ -184,9 +161,8 @@ impl<'a, R: BitRegister, O> BitWordsMut<'a, R, O> {
 }
 
 impl<'a, R: BitRegister, O> DomainMut<'a, R, O> {
-    ghost use Rattle.bitvec_domain.specs.DomainMut.{loan_names, loan_words, loan_slots, lent_parts};
-    ghost use Rattle.bitvec_domain.specs.BitDomainMut.{lent_bits, bit_loan_names};
-    ghost use Rattle.bitvec_domain.specs.BitDomainMut.{bit_loan_stretches, bit_loan_words};
+    ghost use Rattle.bitvec_domain.specs.DomainMut.{loan_names, loans_of, lent_parts};
+    ghost use Rattle.bitvec_domain.specs.BitDomainMut.{lent_bits, bit_loan_names, bit_loans_of};
 
     /// The bits of the parts: each part's as its
     /// [`into_bitslice`](PartialElementMut::into_bitslice) has them, and all bits of the body.
@@ -201,9 +177,7 @@ impl<'a, R: BitRegister, O> DomainMut<'a, R, O> {
             ≡ bit_parts_of R.BITS (lent_parts R.number self.entry) }
         ensures names { names_if (is_some (loan_names self.entry).0)
             (is_some (loan_names self.entry).2) (bit_loan_names result) ≡ loan_names self.entry }
-        ensures places { bit_loan_stretches result
-            ≡ stretches_of R.BITS (loan_slots self.entry) (length (loan_words self.entry).1) }
-        ensures words { bit_loan_words result ≡ loan_words self.entry }
+        ensures loans { bit_loans_of result ≡ stretch_loans R.BITS (loans_of self.entry) }
     {
         match self {
             DomainMut::Enclave(part) => BitDomainMut::Enclave(part.into_bitslice()),
@@ -218,8 +192,7 @@ impl<'a, R: BitRegister, O> DomainMut<'a, R, O> {
 
 impl<R: BitRegister, O> BitSpan<R, O> {
     ghost use Rattle.bitvec_domain.specs.BitSpan.{span_of};
-    ghost use Rattle.bitvec_domain.specs.BitDomainMut.{lent_bits, bit_loan_stretches};
-    ghost use Rattle.bitvec_domain.specs.BitDomainMut.{bit_loan_words, LendsBits};
+    ghost use Rattle.bitvec_domain.specs.BitDomainMut.{lent_bits, bit_loans_of, LendsBits};
 
     /// The bits of the span in a memory, by the words in which they lie, each stretch for writing,
     /// all at once.
@@ -236,10 +209,8 @@ impl<R: BitRegister, O> BitSpan<R, O> {
             (has_tail R.BITS (span_of self)) result) }
         ensures bits { lent_bits R.number result
             ≡ bit_parts_of R.BITS (parts_of R.BITS (span_of self) (map R.number memory.old)) }
-        ensures places { bit_loan_stretches result
-            ≡ stretches_of R.BITS (slots_of R.BITS (span_of self))
-            (body_words R.BITS (span_of self)) }
-        ensures words { bit_loan_words result ≡ lists_of R.BITS (span_of self) memory.old }
+        ensures loans { bit_loans_of result
+            ≡ stretch_loans R.BITS (span_loans R.BITS (span_of self) memory.old) }
     {
         self.domain_mut(memory).into_bit_domain()
     }

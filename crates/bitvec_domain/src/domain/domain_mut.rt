@@ -1,21 +1,20 @@
 //! The words and parts of words that a span meets, for writing.
 
-ghost use Rattle.std.specs.Prelude.{◌≡◌, ℕ, pos, ◌+◌, ◌-◌, ◌<◌, ◌≤◌, ◌≤ℤ◌, nat_abs, if◌then◌else◌};
+ghost use Rattle.std.specs.Prelude.{◌≡◌, pos, ◌+◌, ◌-◌, ◌<◌, ◌≤◌, ◌≤ℤ◌, nat_abs};
 ghost use Rattle.std.specs.Prelude.{not, true, false, length, map, IfSome, MatchOption, is_some};
-ghost use Rattle.std.specs.Prelude.{Some, None, [], replicate};
+ghost use Rattle.std.specs.Prelude.{Some, None, [], replicate, option_map};
 ghost use Rattle.std.specs.Borrow.{sem};
 ghost use Rattle.bitvec_ptr.specs.Place.{words_met};
 ghost use Rattle.bitvec_domain.specs.Span.{Fits, list_of, KeepsOthers};
 ghost use Rattle.bitvec_domain.specs.Parts.{parts_of, enclave, region, is_enclave, HasShortBody};
 ghost use Rattle.bitvec_domain.specs.Loans.{is_inside, has_head, has_tail, words_before};
-ghost use Rattle.bitvec_domain.specs.Loans.{body_words, slots_of, slots_if, lists_of, word_of_bit};
-ghost use Rattle.bitvec_domain.specs.Loans.{filled_slot, filled_slot_if, filled_memory};
+ghost use Rattle.bitvec_domain.specs.Loans.{body_words, span_loans, word_of_bit, filled_loan};
+ghost use Rattle.bitvec_domain.specs.Loans.{filled_loans, filled_memory};
 ghost use Rattle.bitvec_domain.specs.Lending.{name_of};
-ghost use Rattle.bitvec_domain.specs.PartialElementMut.{memory_of, slot_in};
-ghost use Rattle.bitvec_domain.specs.Pieces.{names_of, piece_list, piece_lists};
-ghost use Rattle.bitvec_domain.specs.DomainMut.{part_name, part_slot, part_words, loan_names};
-ghost use Rattle.bitvec_domain.specs.DomainMut.{loan_slots, loan_words, lent_part, lent_part_if};
-ghost use Rattle.bitvec_domain.specs.DomainMut.{lent_parts, LendsDomain};
+ghost use Rattle.bitvec_domain.specs.PartialElementMut.{memory_of};
+ghost use Rattle.bitvec_domain.specs.Pieces.{names_of, numbers_of, piece_loans};
+ghost use Rattle.bitvec_domain.specs.DomainMut.{part_name, loan_names, part_loan, loans_of};
+ghost use Rattle.bitvec_domain.specs.DomainMut.{Enclave, Region, lent_parts, LendsDomain};
 
 use super::partial_element_mut::PartialElementMut;
 use crate::lend::{Pieces, pieces_mut};
@@ -74,15 +73,8 @@ impl<'a, R: BitRegister, O> Default for DomainMut<'a, R, O> {
 impl<'a, R: BitRegister, O> DomainMut<'a, R, O> {
     /// The part of one word, where the domain is that alone.
     pub fn enclave(self) -> Option<PartialElementMut<'a, R, O>>
-        ensures parts { MatchOption result
-            (is_enclave (lent_parts R.number self.entry) ≡ false)
-            (λ part. lent_parts R.number self.entry ≡ enclave (lent_part R.number part)) }
-        ensures names { IfSome result (λ part. loan_names self.entry
-            ≡ (part_name (Some part), None, None)) }
-        ensures words { IfSome result (λ part. loan_words self.entry
-            ≡ (part_words (Some part), [], [])) }
-        ensures slots { IfSome result (λ part. loan_slots self.entry
-            ≡ (part_slot (Some part), false, None)) }
+        ensures { MatchOption result (is_enclave (lent_parts R.number self.entry) ≡ false)
+            (λ part. self.entry ≡ Enclave part) }
     {
         match self {
             DomainMut::Enclave(part) => Some(part),
@@ -104,16 +96,8 @@ impl<'a, R: BitRegister, O> DomainMut<'a, R, O> {
             Option<PartialElementMut<'a, R, O>>,
         ),
     >
-        ensures parts { MatchOption result (is_enclave (lent_parts R.number self.entry) ≡ true)
-            (λ all. lent_parts R.number self.entry
-            ≡ region (lent_part_if R.number all.0) (map R.number all.1.now)
-            (lent_part_if R.number all.2)) }
-        ensures names { IfSome result (λ all. loan_names self.entry
-            ≡ (part_name all.0, Some all.1.ghost_name, part_name all.2)) }
-        ensures words { IfSome result (λ all. loan_words self.entry
-            ≡ (part_words all.0, all.1.now, part_words all.2)) }
-        ensures slots { IfSome result (λ all. loan_slots self.entry
-            ≡ (part_slot all.0, true, part_slot all.2)) }
+        ensures { MatchOption result (is_enclave (lent_parts R.number self.entry) ≡ true)
+            (λ all. self.entry ≡ Region all.0 all.1 all.2) }
     {
         match self {
             DomainMut::Enclave(_) => None,
@@ -185,9 +169,7 @@ impl<R: BitRegister, O> BitSpan<R, O> {
         requires enclave { is_some pieces.body ≡ false → (is_some pieces.front ≡ true)
             × (is_some pieces.back ≡ false) }
         ensures names { loan_names result ≡ names_of pieces.entry }
-        ensures words { loan_words result ≡ piece_lists pieces.entry }
-        ensures slots { loan_slots result ≡ slots_if R.BITS (span_of self)
-            (is_some pieces.entry.front) (is_some pieces.entry.body) (is_some pieces.entry.back) }
+        ensures loans { loans_of result ≡ piece_loans R.BITS (span_of self) pieces.entry }
     {
         let Pieces { front, body, back } = pieces;
         let head = match front {
@@ -220,8 +202,7 @@ impl<R: BitRegister, O> BitSpan<R, O> {
             (body_words R.BITS (span_of self)) result) }
         ensures parts { lent_parts R.number result
             ≡ parts_of R.BITS (span_of self) (map R.number memory.old) }
-        ensures slots { loan_slots result ≡ slots_of R.BITS (span_of self) }
-        ensures words { loan_words result ≡ lists_of R.BITS (span_of self) memory.old }
+        ensures loans { loans_of result ≡ span_loans R.BITS (span_of self) memory.old }
         ensures short { HasShortBody R.BITS (lent_parts R.number result) }
     {
         let before = self.words_before();
@@ -253,8 +234,7 @@ fn fill_part<'a, R: BitRegister, O: BitOrder<R>>(
 ) -> &'a mut [R]
     ensures reference { result.ghost_name ≡ (memory_of part.entry).ghost_name }
     ensures words { map R.number result.now
-        ≡ filled_slot R.BITS O.at_of bit (slot_in part.entry)
-        (map R.number (memory_of part.entry).now) }
+        ≡ filled_loan R.number R.BITS O.at_of bit (part_loan part.entry) }
 {
     let mut part = part;
     if bit {
@@ -271,9 +251,8 @@ fn fill_part_if<'a, R: BitRegister, O: BitOrder<R>>(
     bit: bool,
 ) -> Option<&'a mut [R]>
     ensures reference { name_of result ≡ part_name part.entry }
-    ensures words { map R.number (piece_list result)
-        ≡ filled_slot_if R.BITS O.at_of bit (part_slot part.entry)
-        (map R.number (part_words part.entry)) }
+    ensures words { option_map (λ r. map R.number r.now) result
+        ≡ option_map (filled_loan R.number R.BITS O.at_of bit) (option_map part_loan part.entry) }
 {
     match part {
         Some(part) => Some(fill_part(part, bit)),
@@ -287,14 +266,8 @@ fn fill_domain<'a, R: BitRegister, O: BitOrder<R>>(
     bit: bool,
 ) -> Pieces<'a, R>
     ensures names { names_of result ≡ loan_names domain.entry }
-    ensures front { map R.number (piece_list result.front)
-        ≡ filled_slot_if R.BITS O.at_of bit (loan_slots domain.entry).0
-        (map R.number (loan_words domain.entry).0) }
-    ensures body { map R.number (piece_list result.body)
-        ≡ replicate (length (loan_words domain.entry).1) (word_of_bit R.BITS bit) }
-    ensures back { map R.number (piece_list result.back)
-        ≡ filled_slot_if R.BITS O.at_of bit (loan_slots domain.entry).2
-        (map R.number (loan_words domain.entry).2) }
+    ensures words { numbers_of R.number result
+        ≡ filled_loans R.number R.BITS O.at_of bit (loans_of domain.entry) }
 {
     match domain {
         DomainMut::Enclave(part) => Pieces {

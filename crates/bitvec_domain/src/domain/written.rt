@@ -1,17 +1,16 @@
 //! Lists of bits written into spans, by the stretches of bits that a memory is lent as.
 
-ghost use Rattle.std.specs.Prelude.{◌≡◌, ℕ, pos, nat_abs, ◌+◌, ◌*◌, ◌≤◌, IfSome, Some, None};
+ghost use Rattle.std.specs.Prelude.{◌≡◌, nat_abs, ◌+◌, ◌*◌, ◌≤◌, IfSome, Some, None};
 ghost use Rattle.std.specs.Prelude.{if◌then◌else◌, length, map};
 ghost use Rattle.bitvec_domain.specs.Span.{Fits, list_of, KeepsOthers};
 ghost use Rattle.bitvec_domain.specs.Loans.{has_head, has_tail};
 ghost use Rattle.bitvec_domain.specs.Lending.{name_of};
 ghost use Rattle.bitvec_domain.specs.Pieces.{names_of};
-ghost use Rattle.bitvec_domain.specs.BitLoans.{names_if};
-ghost use Rattle.bitvec_domain.specs.Written.{IsWritten, StretchIsWritten, body_stretch};
-ghost use Rattle.bitvec_domain.specs.Written.{tail_stretch};
+ghost use Rattle.bitvec_domain.specs.BitLoans.{names_if, loans_len};
+ghost use Rattle.bitvec_domain.specs.Written.{IsWritten, StretchIsWritten, LoanIsWritten};
+ghost use Rattle.bitvec_domain.specs.Written.{LoansAreWritten};
 ghost use Rattle.bitvec_domain.specs.BitWordsMut.{words_memory, stretch_in};
-ghost use Rattle.bitvec_domain.specs.BitDomainMut.{bit_loan_names, bit_loan_stretches};
-ghost use Rattle.bitvec_domain.specs.BitDomainMut.{bit_loan_words};
+ghost use Rattle.bitvec_domain.specs.BitDomainMut.{words_loan, bit_loan_names, bit_loans_of};
 
 use crate::domain::{BitDomainMut, BitWordsMut};
 use crate::lend::Pieces;
@@ -44,8 +43,8 @@ fn write_stretch<'a, R: BitRegister, O: BitOrder<R>>(
 ) -> &'a mut [R]
     requires { from + (stretch_in stretch).len ≤ length bits.now }
     ensures reference { result.ghost_name ≡ (words_memory stretch.entry).ghost_name }
-    ensures written { StretchIsWritten R.BITS O.at_of bits.now from (stretch_in stretch.entry)
-        (map R.number (words_memory stretch.entry).now) (map R.number result.now) }
+    ensures written { LoanIsWritten R.number R.BITS O.at_of bits.now from (words_loan stretch.entry)
+        result }
 {
     let mut stretch = stretch;
     stretch.write_from(bits, from);
@@ -63,8 +62,7 @@ fn write_stretch_if<'a, R: BitRegister, O: BitOrder<R>>(
     ensures reference { name_of result
         ≡ (if present then Some (words_memory stretch.entry).ghost_name else None) }
     ensures written { IfSome result
-        (λ r. StretchIsWritten R.BITS O.at_of bits.now from (stretch_in stretch.entry)
-        (map R.number (words_memory stretch.entry).now) (map R.number r.now)) }
+        (LoanIsWritten R.number R.BITS O.at_of bits.now from (words_loan stretch.entry)) }
 {
     if present {
         Some(write_stretch(stretch, bits, from))
@@ -81,23 +79,10 @@ fn write_domain<'a, R: BitRegister, O: BitOrder<R>>(
     head: bool,
     tail: bool,
 ) -> Pieces<'a, R>
-    requires { (bit_loan_stretches domain).0.len +
-        ((body_stretch (bit_loan_stretches domain)).len +
-        (tail_stretch (bit_loan_stretches domain)).len) ≤ length bits.now }
+    requires { loans_len (bit_loans_of domain) ≤ length bits.now }
     ensures names { names_of result ≡ names_if head tail (bit_loan_names domain.entry) }
-    ensures front { IfSome result.front
-        (λ r. StretchIsWritten R.BITS O.at_of bits.now 0 (bit_loan_stretches domain.entry).0
-        (map R.number (bit_loan_words domain.entry).0) (map R.number r.now)) }
-    ensures body { IfSome result.body
-        (λ r. StretchIsWritten R.BITS O.at_of bits.now (bit_loan_stretches domain.entry).0.len
-        (body_stretch (bit_loan_stretches domain.entry))
-        (map R.number (bit_loan_words domain.entry).1) (map R.number r.now)) }
-    ensures back { IfSome result.back
-        (λ r. StretchIsWritten R.BITS O.at_of bits.now
-        ((bit_loan_stretches domain.entry).0.len +
-        (body_stretch (bit_loan_stretches domain.entry)).len)
-        (tail_stretch (bit_loan_stretches domain.entry))
-        (map R.number (bit_loan_words domain.entry).2) (map R.number r.now)) }
+    ensures written { LoansAreWritten R.number R.BITS O.at_of bits.now
+        (bit_loans_of domain.entry) result }
 {
     match domain {
         BitDomainMut::Enclave(stretch) => Pieces {

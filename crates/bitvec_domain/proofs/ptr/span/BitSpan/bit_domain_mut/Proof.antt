@@ -33,11 +33,11 @@ use Rattle.bitvec_domain.specs.BitSpan.{span_of}
 use Rattle.bitvec_domain.specs.Parts.{parts_of, HasShortBody}
 use Rattle.bitvec_domain.specs.Lending.{LendsNamed}
 use Rattle.bitvec_domain.specs.BitParts.{bit_parts_of}
-use Rattle.bitvec_domain.specs.Loans.{has_head, has_tail, words_before, body_words, slots_of, lists_of}
-use Rattle.bitvec_domain.specs.DomainMut.{loan_names, loan_words, loan_slots, lent_parts}
-use Rattle.bitvec_domain.specs.BitLoans.{names_if, stretches_of}
-use Rattle.bitvec_domain.specs.BitDomainMut.{lent_bits, bit_loan_names, bit_loan_stretches, bit_loan_words}
-use Rattle.bitvec_domain.proofs.StretchLemmas.{names-present, places-span}
+use Rattle.bitvec_domain.specs.Loans.{has_head, has_tail, words_before, body_words, span_loans}
+use Rattle.bitvec_domain.specs.DomainMut.{loan_names, loans_of, lent_parts}
+use Rattle.bitvec_domain.specs.BitLoans.{names_if, stretch_loans}
+use Rattle.bitvec_domain.specs.BitDomainMut.{lent_bits, bit_loan_names, bit_loans_of}
+use Rattle.bitvec_domain.proofs.StretchLemmas.{names-present}
 use Rattle.bitvec_domain.specs.contracts.ptr.span.BitSpan as S
 use Rattle.bitvec_domain.proofs.ptr.span.BitSpan.TheLaws.{the_told as span_told, the_row_laws as span_laws, the_plain as span_plain}
 use Rattle.bitvec_domain.specs.contracts.domain.domain_mut.DomainMut as D
@@ -90,9 +90,8 @@ bit_domain_mut_spec 𝓤 𝓛 𝓜 𝓡 wired X O L LO copy rb rbd rc rcd rd rdd
     use0 𝓛 (raw (fact 𝓤 (κs.1.0 ⊑ X.lives))) (fact_i 𝓤 _ (emp 𝓤) alive_in) $ join ! $ move ! (1 ∷ 0 ∷ []) $ join ! $ use1 𝓛 (raw (G.pre z)) (id⊢ 𝓤 _) $
     calls_at ! (framed 𝓤 H 𝓜 𝓣) G (met_g 𝓤 𝓛 𝓜 𝓡 (code.calls-bitvec_domain::ptr::span::BitSpan::domain_mut 𝓡.env wired) X O L LO copy rb rbd rc rcd rd rdd re red rp rpd ro rod rq rqd rh rhd rg rgd m1 m2 m3 m4 m5 m6 m7 m8 m9) z (and_then ! (get ! refl) (and_then ! (get ! refl) (no_more !))) (λ v.
     use1 𝓛 (later (some (λ (d : Dom.Denot). ((‵ (flft κ qs.0) ⊛ ‵ others) ⊛ ‵ (Dom.own_val d (v ∷ []))) ⊛ some (λ (ws : Lasts (g.ended X O rb rbd rc rcd rd rdd re red rp rpd ro rod rq rqd rh rhd rg rgd) κs (s, (m, tt))). ‵ (lasts (g.ended X O rb rbd rc rcd rd rdd re red rp rpd ro rod rq rqd rh rhd rg rgd) κs (s, (m, tt)) ws)
-    ⊛ ‵ (LendsNamed R m i n (loan_names d)) ⊛ raw (fact 𝓤 (lent_parts rb.number d ≡ parts_of rb.BITS span (map rb.number xs))) ⊛ raw (fact 𝓤 (loan_slots d ≡ slots_of rb.BITS span))
-    ⊛ raw (fact 𝓤 (loan_words d ≡ lists_of rb.BITS span xs)) ⊛ raw (fact 𝓤 (HasShortBody rb.BITS (lent_parts rb.number d))))))) (id⊢ 𝓤 _) $ await ! tt $ pick ! (λ d. split ! $ split ! $ move ! (2 ∷ []) $ pick ! (λ ws. split ! $ drop ! $
-    split ! $ move ! (1 ∷ []) $ split ! $ heard ! _ (λ parted. split ! $ heard ! _ (λ slotted. split ! $ heard ! _ (λ listed. heard ! _ (λ short.
+    ⊛ ‵ (LendsNamed R m i n (loan_names d)) ⊛ raw (fact 𝓤 (lent_parts rb.number d ≡ parts_of rb.BITS span (map rb.number xs))) ⊛ raw (fact 𝓤 (loans_of d ≡ span_loans rb.BITS span xs)) ⊛ raw (fact 𝓤 (HasShortBody rb.BITS (lent_parts rb.number d))))))) (id⊢ 𝓤 _) $ await ! tt $ pick ! (λ d. split ! $ split ! $ move ! (2 ∷ []) $ pick ! (λ ws. split ! $ drop ! $
+    split ! $ move ! (1 ∷ []) $ split ! $ heard ! _ (λ parted. split ! $ heard ! _ (λ lent. heard ! _ (λ short.
     -- [what the slice ends as; the tokens; the domain]
     move ! (2 ∷ []) $ peeks ! Dom (Is Dom) (shows 𝓛 Dom) d (v ∷ []) (λ as_domain. let good = ((LD.lawful 𝓛).typed d (v ∷ []) as_domain).0 in
     -- [the domain; what the slice ends as; the tokens]
@@ -106,18 +105,16 @@ bit_domain_mut_spec 𝓤 𝓛 𝓜 𝓡 wired X O L LO copy rb rbd rc rcd rd rdd
     calls_at ! (framed 𝓤 H 𝓜 𝓣) K (met_h 𝓤 𝓛 𝓜 𝓡 (code.calls-bitvec_domain::domain::domain_mut::DomainMut::into_bit_domain 𝓡.env wired) X O L LO copy rb rbd rc rcd rd rdd re red rp rpd ro rod rq rqd rh rhd rg rgd m1 m2 m3 m4 m5 m6 m7 m8 m9) z2 (and_then ! (get ! refl) (no_more !)) (λ w.
     use1 𝓛 (later (some (λ (e : Bits.Denot). ((‵ (flft κ qs.0) ⊛ ‵ others) ⊛ ‵ (Bits.own_val e (w ∷ []))) ⊛ some (λ (zs : Lasts (h.ended X O rb rbd rc rcd rd rdd re red rp rpd ro rod rq rqd rh rhd rg rgd) κs (d, tt)). ‵ (lasts (h.ended X O rb rbd rc rcd rd rdd re red rp rpd ro rod rq rqd rh rhd rg rgd) κs (d, tt) zs)
     ⊛ raw (fact 𝓤 (lent_bits rb.number e ≡ bit_parts_of rb.BITS (lent_parts rb.number d))) ⊛ raw (fact 𝓤 (names_if (is_some (loan_names d).0) (is_some (loan_names d).2) (bit_loan_names e) ≡ loan_names d))
-    ⊛ raw (fact 𝓤 (bit_loan_stretches e ≡ stretches_of rb.BITS (loan_slots d) (length (loan_words d).1))) ⊛ raw (fact 𝓤 (bit_loan_words e ≡ loan_words d)))))) (id⊢ 𝓤 _) $ await ! tt $ pick ! (λ e. split ! $ split ! $ move ! (2 ∷ []) $ pick ! (λ zs. split ! $ drop ! $
-    split ! $ heard ! _ (λ bitted. split ! $ heard ! _ (λ same. split ! $ heard ! _ (λ placed. heard ! _ (λ worded.
+    ⊛ raw (fact 𝓤 (bit_loans_of e ≡ stretch_loans rb.BITS (loans_of d))))))) (id⊢ 𝓤 _) $ await ! tt $ pick ! (λ e. split ! $ split ! $ move ! (2 ∷ []) $ pick ! (λ zs. split ! $ drop ! $
+    split ! $ heard ! _ (λ bitted. split ! $ heard ! _ (λ same. heard ! _ (λ placed.
     -- [the tokens; the bits; what the slice ends as]
-    rewrite ! 2 (λ (names : Option GName × Option GName × Option GName). ‵ (LendsNamed R m i n names)) (names-present rb.BITS span d (bit_loan_names e) slotted same) refl $
+    rewrite ! 2 (λ (names : Option GName × Option GName × Option GName). ‵ (LendsNamed R m i n names)) (names-present rb.BITS span xs d (bit_loan_names e) lent same) refl $
     move ! (1 ∷ []) $ peeks ! Bits (Is Bits) (shows 𝓛 Bits) e (w ∷ []) (λ as_bits. lands_as ! refl refl (((LB.lawful 𝓛).typed e (w ∷ []) as_bits).0) $
     returns ! (look_at ! 0 refl) $ free_all ! refl $
     -- [the bits; the tokens; what the slice ends as]
     let bits : lent_bits rb.number e ≡ bit_parts_of rb.BITS (parts_of rb.BITS span (map rb.number xs)) = bitted ∙ ap (bit_parts_of rb.BITS) parted in
-    let places : bit_loan_stretches e ≡ stretches_of rb.BITS (slots_of rb.BITS span) n = placed ∙ places-span rb.BITS span xs (loan_slots d) (loan_words d) fits.1 slotted listed in
-    let words : bit_loan_words e ≡ lists_of rb.BITS span xs = worded ∙ listed in
-    use0 𝓛 (raw (fact 𝓤 (bit_loan_words e ≡ lists_of rb.BITS span xs))) (fact_i 𝓤 _ (emp 𝓤) words) $ use0 𝓛 (raw (fact 𝓤 (bit_loan_stretches e ≡ stretches_of rb.BITS (slots_of rb.BITS span) n))) (fact_i 𝓤 _ (emp 𝓤) places) $ join ! $
-    use0 𝓛 (raw (fact 𝓤 (lent_bits rb.number e ≡ bit_parts_of rb.BITS (parts_of rb.BITS span (map rb.number xs))))) (fact_i 𝓤 _ (emp 𝓤) bits) $ join ! $ move ! (3 ∷ 0 ∷ []) $ join ! $
+    let loans : bit_loans_of e ≡ stretch_loans rb.BITS (span_loans rb.BITS span xs) = placed ∙ ap (stretch_loans rb.BITS) lent in
+    use0 𝓛 (raw (fact 𝓤 (bit_loans_of e ≡ stretch_loans rb.BITS (span_loans rb.BITS span xs)))) (fact_i 𝓤 _ (emp 𝓤) loans) $ use0 𝓛 (raw (fact 𝓤 (lent_bits rb.number e ≡ bit_parts_of rb.BITS (parts_of rb.BITS span (map rb.number xs))))) (fact_i 𝓤 _ (emp 𝓤) bits) $ join ! $ move ! (3 ∷ 0 ∷ []) $ join ! $
     -- [the `ensures`; the bits; the tokens]
     nothing ! $ nothing ! $ fjoin ! $ nothing ! $ fjoin ! $ keep ! (3 ∷ 0 ∷ 2 ∷ 1 ∷ []) $
-    by ! (leaves 𝓛 En hs c y w e (tt, (tt, tt)) (tt, (tt, tt))))))))))))))))))))))))
+    by ! (leaves 𝓛 En hs c y w e (tt, (tt, tt)) (tt, (tt, tt))))))))))))))))))))))

@@ -1,6 +1,6 @@
 -- `domain_mut` computes where the span's parts lie, and makes a domain of the pieces that `pieces_mut` lends. Assumes `Logic`.
-use Rattle.std.proofs.Common.{◌≡◌, ℕ, ◌+◌, ◌-◌, ◌^◌, ◌<◌, ◌≤◌, pos, ◌≤ℤ◌, List, [], ◌∷◌, Bool, true, false, not, if◌then◌else◌, refl, sym, ◌∙◌, arith, length, map, take, drop as drop_l, MutBor}
-use Rattle.std.specs.Prelude.{nat_abs, Option, Some, None, is_some, IfSome}
+use Rattle.std.proofs.Common.{◌≡◌, ℕ, ◌+◌, ◌-◌, ◌^◌, ◌<◌, ◌≤◌, pos, ◌≤ℤ◌, List, [], ◌∷◌, Bool, true, false, not, refl, sym, ap, ◌∙◌, arith, length, map, take, drop as drop_l, MutBor}
+use Rattle.std.specs.Prelude.{nat_abs, Option, is_some, IfSome}
 use Rattle.std.proofs.raw_atomic.Walks.{proved, leaves}
 use mir.Syntax.{dcons, dnil, a_type, named, w64}
 use mir.Val.{Val}
@@ -35,12 +35,12 @@ use Rattle.bitvec_ptr.specs.Place.{words_met}
 use Rattle.bitvec_domain.specs.Span.{Span, Fits}
 use Rattle.bitvec_domain.specs.BitSpan.{span_of}
 use Rattle.bitvec_domain.specs.Parts.{parts_of, HasShortBody}
-use Rattle.bitvec_domain.specs.Slot.{Slot, slot_at}
+use Rattle.bitvec_domain.specs.Slot.{slot_at}
 use Rattle.bitvec_domain.specs.Lending.{LendsNamed}
-use Rattle.bitvec_domain.specs.Pieces.{names_of, piece_lists}
-use Rattle.bitvec_domain.specs.Loans.{is_inside, has_head, has_tail, words_before, body_words, slots_of, lists_of}
-use Rattle.bitvec_domain.specs.DomainMut.{loan_names, loan_words, loan_slots, lent_parts}
-use Rattle.bitvec_domain.proofs.LoanLemmas.{loans-within, head-within, tail-within, inside-alone, lent_parts-of, loan_has, listed_if, listed_unless}
+use Rattle.bitvec_domain.specs.Pieces.{names_of, piece_loans}
+use Rattle.bitvec_domain.specs.Loans.{is_inside, has_head, has_tail, words_before, body_words, loan_parts, span_loans}
+use Rattle.bitvec_domain.specs.DomainMut.{loan_names, loans_of, lent_parts}
+use Rattle.bitvec_domain.proofs.LoanLemmas.{loans-within, head-within, tail-within, inside-alone, parts-from-loans, loan_has, lent_at, lent_unless}
 use Rattle.bitvec_domain.proofs.ItemLemmas.{short-words_of}
 use Rattle.bitvec_ptr.proofs.PlaceOrder.{bit_below}
 use Rattle.bitvec_domain.specs.contracts.ptr.span.BitSpan as S
@@ -177,21 +177,20 @@ domain_mut_spec 𝓤 𝓛 𝓜 𝓡 wired X O L LO copy rb rbd rc rcd rd rdd re 
     use0 𝓛 (raw (fact 𝓤 (κs.1.1.0 ⊑ O.lives))) (fact_i 𝓤 _ (emp 𝓤) alive_o) $ join ! $
     use0 𝓛 (raw (fact 𝓤 (κs.1.0 ⊑ X.lives))) (fact_i 𝓤 _ (emp 𝓤) alive_in) $ join ! $ move ! (1 ∷ 0 ∷ []) $ join ! $ use1 𝓛 (raw (K.pre z6)) (id⊢ 𝓤 _) $
     calls_at ! (framed 𝓤 H 𝓜 𝓣) K (met_h 𝓤 𝓛 𝓜 𝓡 (code.calls-bitvec_domain::ptr::span::BitSpan::assemble 𝓡.env wired) X O L LO copy rb rbd rc rcd rd rdd re red rp rpd ro rod rq rqd rh rhd rg rgd m1 m2 m3 m4 m5 m6 m7 m8 m9) z6 (and_then ! (get ! refl) (and_then ! (get ! refl) (no_more !))) (λ w.
-    let Slots : Option Slot × Bool × Option Slot = ((if is_some d.front then Some (slot_at rb.BITS span 0 (nat_abs span.word)) else None), is_some d.body, (if is_some d.back then Some (slot_at rb.BITS span (words_met rb.BITS span.head span.len - 1) 0) else None)) in
     use1 𝓛 (later (some (λ (e : Dom.Denot). ((‵ (flft κ qs.0) ⊛ ‵ others) ⊛ ‵ (Dom.own_val e (w ∷ []))) ⊛ some (λ (zs : Lasts (h.ended X O rb rbd rc rcd rd rdd re red rp rpd ro rod rq rqd rh rhd rg rgd) κs (s, (d, tt))). ‵ (lasts (h.ended X O rb rbd rc rcd rd rdd re red rp rpd ro rod rq rqd rh rhd rg rgd) κs (s, (d, tt)) zs)
-    ⊛ raw (fact 𝓤 (loan_names e ≡ names_of d)) ⊛ raw (fact 𝓤 (loan_words e ≡ piece_lists d)) ⊛ raw (fact 𝓤 (loan_slots e ≡ Slots)))))) (id⊢ 𝓤 _) $ await ! tt $ pick ! (λ e. split ! $ split ! $ move ! (2 ∷ []) $ pick ! (λ zs. split ! $ drop ! $ split ! $ heard ! _ (λ same. split ! $ heard ! _ (λ listed. heard ! _ (λ slotted.
+    ⊛ raw (fact 𝓤 (loan_names e ≡ names_of d)) ⊛ raw (fact 𝓤 (loans_of e ≡ piece_loans rb.BITS span d)))))) (id⊢ 𝓤 _) $ await ! tt $ pick ! (λ e. split ! $ split ! $ move ! (2 ∷ []) $ pick ! (λ zs. split ! $ drop ! $ split ! $ heard ! _ (λ same. heard ! _ (λ lent.
     -- [the tokens; the domain; what the slice ends as]
     rewrite ! 2 (λ (names : Option GName × Option GName × Option GName). ‵ (LendsNamed R m i n names)) (sym same) refl $
     move ! (1 ∷ []) $ peeks ! Dom (Is Dom) (shows 𝓛 Dom) e (w ∷ []) (λ as_domain. lands_as ! refl refl (((LD.lawful 𝓛).typed e (w ∷ []) as_domain).0) $
     returns ! (look_at ! 0 refl) $ free_all ! refl $
     -- [the domain; the tokens; what the slice ends as]
-    let l0 = listed_if d.front on0 (take i xs) fr.0 fr.1 in let l1 = listed_unless d.body (is_inside rb.BITS span) (take n (drop_l i xs)) bo.0 bo.1 in let l2 = listed_if d.back on2 (drop_l n (drop_l i xs)) ba.0 ba.1 in
-    let words : loan_words e ≡ lists_of rb.BITS span xs = listed ∙ (λ k. (l0 k, l1 k, l2 k)) in
-    let slots : loan_slots e ≡ slots_of rb.BITS span = slotted ∙ (λ k. ((if fr.0 k then Some (slot_at rb.BITS span 0 (nat_abs span.word)) else None), bo.0 k, (if ba.0 k then Some (slot_at rb.BITS span (words_met rb.BITS span.head span.len - 1) 0) else None))) in
-    let parts : lent_parts rb.number e ≡ parts_of rb.BITS span (map rb.number xs) = lent_parts-of rb.BITS span rb.number xs e slots words in
+    let l0 = lent_at d.front on0 (take i xs) (slot_at rb.BITS span 0 (nat_abs span.word)) fr.0 fr.1 in let l1 = lent_unless d.body (is_inside rb.BITS span) (take n (drop_l i xs)) bo.0 bo.1 in
+    let l2 = lent_at d.back on2 (drop_l n (drop_l i xs)) (slot_at rb.BITS span (words_met rb.BITS span.head span.len - 1) 0) ba.0 ba.1 in
+    let loans : loans_of e ≡ span_loans rb.BITS span xs = lent ∙ (λ k. (l0 k, l1 k, l2 k)) in
+    let parts : lent_parts rb.number e ≡ parts_of rb.BITS span (map rb.number xs) = ap (loan_parts rb.number) loans ∙ parts-from-loans rb.BITS span rb.number xs in
     let short : HasShortBody rb.BITS (lent_parts rb.number e) = short-words_of rb.BITS (λ k. k) span rb.number xs (lent_parts rb.number e) (bit_below rb.BITS s.head m1.width_at_least_8 s.in_word) s.short fits parts in
-    use0 𝓛 (raw (fact 𝓤 (HasShortBody rb.BITS (lent_parts rb.number e)))) (fact_i 𝓤 _ (emp 𝓤) short) $ use0 𝓛 (raw (fact 𝓤 (loan_words e ≡ lists_of rb.BITS span xs))) (fact_i 𝓤 _ (emp 𝓤) words) $ join ! $ use0 𝓛 (raw (fact 𝓤 (loan_slots e ≡ slots_of rb.BITS span))) (fact_i 𝓤 _ (emp 𝓤) slots) $ join ! $
+    use0 𝓛 (raw (fact 𝓤 (HasShortBody rb.BITS (lent_parts rb.number e)))) (fact_i 𝓤 _ (emp 𝓤) short) $ use0 𝓛 (raw (fact 𝓤 (loans_of e ≡ span_loans rb.BITS span xs))) (fact_i 𝓤 _ (emp 𝓤) loans) $ join ! $
     use0 𝓛 (raw (fact 𝓤 (lent_parts rb.number e ≡ parts_of rb.BITS span (map rb.number xs)))) (fact_i 𝓤 _ (emp 𝓤) parts) $ join ! $ move ! (3 ∷ 0 ∷ []) $ join ! $
     -- [the `ensures`; the domain; the tokens]
     nothing ! $ nothing ! $ fjoin ! $ nothing ! $ fjoin ! $ keep ! (3 ∷ 0 ∷ 2 ∷ 1 ∷ []) $
-    by ! (leaves 𝓛 En hs c y w e (tt, (tt, tt)) (tt, (tt, tt)))))))))))))))))))))))))))))))))))))))))))))))
+    by ! (leaves 𝓛 En hs c y w e (tt, (tt, tt)) (tt, (tt, tt))))))))))))))))))))))))))))))))))))))))))))))

@@ -1,5 +1,5 @@
 -- `fill_pieces` lends its memory to `domain_mut` for a lifetime of its own, and has it back at what the three loans left. Assumes `Logic`.
-use Rattle.std.proofs.Common.{◌≡◌, ℕ, ◌^◌, ◌<◌, List, [], ◌∷◌, ◌++◌, Bool, refl, sym, replicate, length, map, take, drop as drop_l, MutBor}
+use Rattle.std.proofs.Common.{◌≡◌, ℕ, ◌^◌, ◌<◌, List, [], ◌∷◌, ◌++◌, Bool, refl, sym, length, map, take, drop as drop_l, MutBor}
 use Rattle.std.specs.Prelude.{Option}
 use Rattle.std.proofs.raw_atomic.Walks.{proved, leaves}
 use mir.Syntax.{dcons, dnil, a_type, named}
@@ -41,12 +41,12 @@ use Rattle.bitvec_domain.specs.Span.{Span, Fits}
 use Rattle.bitvec_domain.specs.BitSpan.{span_of}
 use Rattle.bitvec_domain.specs.Parts.{parts_of, HasShortBody}
 use Rattle.bitvec_domain.specs.Lending.{LendsNamed}
-use Rattle.bitvec_domain.specs.Pieces.{names_of, piece_list}
-use Rattle.bitvec_domain.specs.Loans.{words_before, body_words, slots_of, lists_of, word_of_bit, filled_slot_if, filled_memory}
-use Rattle.bitvec_domain.specs.DomainMut.{loan_names, loan_words, loan_slots, lent_parts}
+use Rattle.bitvec_domain.specs.Pieces.{names_of, numbers_of}
+use Rattle.bitvec_domain.specs.Loans.{words_before, body_words, span_loans, filled_loans, filled_memory}
+use Rattle.bitvec_domain.specs.DomainMut.{loan_names, loans_of, lent_parts}
 use Rattle.bitvec_domain.proofs.LentSlices.{named_as, Kept, lends_whole, whole_back}
 use Rattle.bitvec_domain.proofs.LoanEnds.{last_of, AllEnd, whole_end, pieces_gone}
-use Rattle.bitvec_domain.proofs.FillLemmas.{filled-loans}
+use Rattle.bitvec_domain.proofs.FillLemmas.{filled-whole}
 use Rattle.bitvec_domain.specs.contracts.ptr.span.BitSpan as S
 use Rattle.bitvec_domain.proofs.ptr.span.BitSpan.TheLaws.{the_told as span_told, the_row_laws as span_laws, the_plain as span_plain}
 use Rattle.bitvec_domain.specs.contracts.lend.Pieces as P
@@ -110,8 +110,8 @@ fill_pieces_spec 𝓤 𝓛 𝓜 𝓡 wired X O L LO copy rb rbd rc rcd rd rdd re
     use1 𝓛 (raw (G.pre z)) (id⊢ 𝓤 _) $
     calls_at ! (framed 𝓤 H 𝓜 𝓣) G (met 𝓤 𝓛 𝓜 𝓡 (code.calls-bitvec_domain::ptr::span::BitSpan::domain_mut 𝓡.env wired) X O L LO copy rb rbd rc rcd rd rdd re red rp rpd ro rod rq rqd rh rhd rg rgd m1 m2 m3 m4 m5 m6 m7 m8 m9) z (and_then ! (get ! refl) (and_then ! (get ! refl) (no_more !))) (λ v.
     use1 𝓛 (later (some (λ (e : Dom.Denot). ((‵ (flft αs (left t)) ⊛ ‵ others') ⊛ ‵ (Dom.own_val e (v ∷ []))) ⊛ some (λ (ws : Lasts (g.ended X O rb rbd rc rcd rd rdd re red rp rpd ro rod rq rqd rh rhd rg rgd) κs' (s₀, (s, tt))). ‵ (lasts (g.ended X O rb rbd rc rcd rd rdd re red rp rpd ro rod rq rqd rh rhd rg rgd) κs' (s₀, (s, tt)) ws)
-    ⊛ ‵ (LendsNamed R s i n (loan_names e)) ⊛ raw (fact 𝓤 (lent_parts rb.number e ≡ parts_of rb.BITS span (map rb.number xs))) ⊛ raw (fact 𝓤 (loan_slots e ≡ slots_of rb.BITS span)) ⊛ raw (fact 𝓤 (loan_words e ≡ lists_of rb.BITS span xs)) ⊛ raw (fact 𝓤 (HasShortBody rb.BITS (lent_parts rb.number e))))))) (id⊢ 𝓤 _) $ await ! tt $ pick ! (λ e. split ! $ split ! $ move ! (2 ∷ []) $ pick ! (λ ws. split ! $ drop ! $
-    split ! $ move ! (1 ∷ []) $ split ! $ drop ! $ split ! $ heard ! _ (λ slots. split ! $ heard ! _ (λ listed. heard ! _ (λ short. move ! (2 ∷ []) $ peeks ! Dom (Is Dom) (shows 𝓛 Dom) e (v ∷ []) (λ as_domain. let good = ((LD.lawful 𝓛).typed e (v ∷ []) as_domain).0 in
+    ⊛ ‵ (LendsNamed R s i n (loan_names e)) ⊛ raw (fact 𝓤 (lent_parts rb.number e ≡ parts_of rb.BITS span (map rb.number xs))) ⊛ raw (fact 𝓤 (loans_of e ≡ span_loans rb.BITS span xs)) ⊛ raw (fact 𝓤 (HasShortBody rb.BITS (lent_parts rb.number e))))))) (id⊢ 𝓤 _) $ await ! tt $ pick ! (λ e. split ! $ split ! $ move ! (2 ∷ []) $ pick ! (λ ws. split ! $ drop ! $
+    split ! $ move ! (1 ∷ []) $ split ! $ drop ! $ split ! $ heard ! _ (λ lent. heard ! _ (λ short. move ! (2 ∷ []) $ peeks ! Dom (Is Dom) (shows 𝓛 Dom) e (v ∷ []) (λ as_domain. let good = ((LD.lawful 𝓛).typed e (v ∷ []) as_domain).0 in
     -- [the domain; what the loan ends as; the tokens; what the lender keeps; the way back]
     lands_as ! refl refl good $ sets ! (of_opd ! (get ! refl)) refl good $
     let J = triple_of 𝓛 (h.signature X O rb rbd rc rcd rd rdd re red rp rpd ro rod rq rqd rh rhd rg rgd obo obod ooc oocd oba obad) (h.spec X O rb rbd rc rcd rd rdd re red rp rpd ro rod rq rqd rh rhd rg rgd obo obod ooc oocd oba obad 𝓛 𝓜.mem 𝓡.returns) in
@@ -119,11 +119,8 @@ fill_pieces_spec 𝓤 𝓛 𝓜 𝓡 wired X O L LO copy rb rbd rc rcd rd rdd re
     nothing ! $ owned ! bool _ (bool_Makes 𝓛) bit _ refl $ fjoin ! $ move ! (1 ∷ 0 ∷ []) $ fjoin ! $ move ! (2 ∷ 0 ∷ []) $ join ! $ nothing ! $ use0 𝓛 (raw (fact 𝓤 (κs.1.1.0 ⊑ O.lives))) (fact_i 𝓤 _ (emp 𝓤) alive_o) $ join ! $ use0 𝓛 (raw (fact 𝓤 (αs ⊑ X.lives))) (fact_i 𝓤 _ (emp 𝓤) alive') $ join ! $ move ! (1 ∷ 0 ∷ []) $ join ! $
     use1 𝓛 (raw (J.pre z2)) (id⊢ 𝓤 _) $
     calls_at ! (framed 𝓤 H 𝓜 𝓣) J (met_h 𝓤 𝓛 𝓜 𝓡 (code.calls-bitvec_domain::domain::domain_mut::fill_domain 𝓡.env wired) X O L LO copy rb rbd rc rcd rd rdd re red rp rpd ro rod rq rqd rh rhd rg rgd obo obod ooc oocd oba obad m1 m2 m3 m4 m5 m6 m7 m8 m9 m10 m11 m12) z2 (and_then ! (get ! refl) (and_then ! (get ! refl) (no_more !))) (λ w.
-    let Front : Row.Denot → Type 0 = λ p. map rb.number (piece_list p.front) ≡ filled_slot_if rb.BITS oba.at_of bit (loan_slots e).0 (map rb.number (loan_words e).0) in
-    let Body : Row.Denot → Type 0 = λ p. map rb.number (piece_list p.body) ≡ replicate (length (loan_words e).1) (word_of_bit rb.BITS bit) in
-    let Back : Row.Denot → Type 0 = λ p. map rb.number (piece_list p.back) ≡ filled_slot_if rb.BITS oba.at_of bit (loan_slots e).2 (map rb.number (loan_words e).2) in
     use1 𝓛 (later (some (λ (p : Row.Denot). ((‵ (flft αs (left t)) ⊛ ‵ others') ⊛ ‵ (Row.own_val p (w ∷ []))) ⊛ some (λ (zs : Lasts (h.ended X O rb rbd rc rcd rd rdd re red rp rpd ro rod rq rqd rh rhd rg rgd obo obod ooc oocd oba obad) κs' (e, (bit, tt))). ‵ (lasts (h.ended X O rb rbd rc rcd rd rdd re red rp rpd ro rod rq rqd rh rhd rg rgd obo obod ooc oocd oba obad) κs' (e, (bit, tt)) zs)
-    ⊛ raw (fact 𝓤 (names_of p ≡ loan_names e)) ⊛ raw (fact 𝓤 (Front p)) ⊛ raw (fact 𝓤 (Body p)) ⊛ raw (fact 𝓤 (Back p)))))) (id⊢ 𝓤 _) $ await ! tt $ pick ! (λ p. split ! $ split ! $ move ! (2 ∷ []) $ pick ! (λ zs. split ! $ drop ! $ split ! $ heard ! _ (λ nm. split ! $ heard ! _ (λ pf. split ! $ heard ! _ (λ pb. heard ! _ (λ pk.
+    ⊛ raw (fact 𝓤 (names_of p ≡ loan_names e)) ⊛ raw (fact 𝓤 (numbers_of rb.number p ≡ filled_loans rb.number rb.BITS oba.at_of bit (loans_of e))))))) (id⊢ 𝓤 _) $ await ! tt $ pick ! (λ p. split ! $ split ! $ move ! (2 ∷ []) $ pick ! (λ zs. split ! $ drop ! $ split ! $ heard ! _ (λ nm. heard ! _ (λ filled.
     move ! (1 ∷ []) $ peeks ! Row (Is Row) (shows 𝓛 Row) p (w ∷ []) (λ as_pieces. lands_as ! refl refl (((LP.lawful 𝓛).typed p (w ∷ []) as_pieces).0) $ sets ! (of_opd ! (unit_lit !)) refl (tt, tt) $
     -- [the pieces; the tokens; what the loan ends as; what the lender keeps; the way back]
     let v0 : List X.Denot = take i xs in let v1 : List X.Denot = take n (drop_l i xs) in let v2 : List X.Denot = drop_l n (drop_l i xs) in
@@ -141,7 +138,7 @@ fill_pieces_spec 𝓤 𝓛 𝓜 𝓡 wired X O L LO copy rb rbd rc rcd rd rdd re
     -- [the slice; the token of κ; that of R's; that of O's]
     returns ! (look_at ! 0 refl) $ free_all ! refl $
     move ! (2 ∷ 3 ∷ []) $ fjoin ! $ move ! (2 ∷ 0 ∷ []) $ join ! $ nothing ! $ nothing ! $ fjoin ! $ move ! (2 ∷ 0 ∷ []) $ fjoin ! $ nothing ! $ fjoin ! $
-    use0 𝓛 (raw (fact 𝓤 (map rb.number all ≡ filled_memory rb.BITS oba.at_of bit span (map rb.number xs)))) (fact_i 𝓤 _ (emp 𝓤) (filled-loans rb.number rb.BITS oba.at_of bit span xs fits.1 e p slots listed nm pf pb pk)) $
+    use0 𝓛 (raw (fact 𝓤 (map rb.number all ≡ filled_memory rb.BITS oba.at_of bit span (map rb.number xs)))) (fact_i 𝓤 _ (emp 𝓤) (filled-whole rb.number rb.BITS oba.at_of bit span xs fits.1 (loans_of e) p lent filled)) $
     feq_i ! (List Val) (vunit ∷ []) (vunit ∷ []) refl $
     -- [the result; the `ensures`; the slice; the tokens]
-    keep ! (3 ∷ 2 ∷ 0 ∷ 1 ∷ []) $ by ! (leaves 𝓛 En hs c y vunit tt (tt, (all, (tt, tt))) (tt, (as_long, (tt, tt))))))))))))))))))))))))))))
+    keep ! (3 ∷ 2 ∷ 0 ∷ 1 ∷ []) $ by ! (leaves 𝓛 En hs c y vunit tt (tt, (all, (tt, tt))) (tt, (as_long, (tt, tt)))))))))))))))))))))))))

@@ -1,6 +1,6 @@
 -- `write_pieces` lends its memory to `bit_domain_mut` for a lifetime of its own, and has it back at what the loans of the stretches left. Assumes `Logic`.
-use Rattle.std.proofs.Common.{◌≡◌, ℕ, ◌^◌, ◌<◌, List, [], ◌∷◌, ◌++◌, Bool, refl, sym, ◌∙◌, ◌+◌, ◌*◌, ◌≤◌, arith, length, map, take, drop as drop_l, MutBor}
-use Rattle.std.specs.Prelude.{Option, nat_abs, IfSome}
+use Rattle.std.proofs.Common.{◌≡◌, ℕ, ◌^◌, ◌<◌, List, [], ◌∷◌, ◌++◌, Bool, refl, sym, ap, ◌∙◌, ◌+◌, ◌*◌, ◌≤◌, arith, length, map, take, drop as drop_l, MutBor}
+use Rattle.std.specs.Prelude.{Option, nat_abs}
 use Rattle.std.proofs.raw_atomic.Walks.{proved, leaves}
 use mir.Syntax.{dcons, dnil, a_type, named}
 use mir.Val.{Val, vunit, vbool}
@@ -41,12 +41,12 @@ use Rattle.bitvec_domain.specs.Span.{Span, Fits}
 use Rattle.bitvec_domain.specs.BitSpan.{span_of}
 use Rattle.bitvec_domain.specs.Parts.{parts_of}
 use Rattle.bitvec_domain.specs.BitParts.{bit_parts_of}
-use Rattle.bitvec_domain.specs.Written.{IsWritten, StretchIsWritten, body_stretch, tail_stretch}
+use Rattle.bitvec_domain.specs.Written.{IsWritten, LoansAreWritten}
 use Rattle.bitvec_domain.specs.Lending.{LendsNamed}
 use Rattle.bitvec_domain.specs.Pieces.{names_of}
-use Rattle.bitvec_domain.specs.Loans.{has_head, has_tail, words_before, body_words, slots_of, lists_of}
-use Rattle.bitvec_domain.specs.BitLoans.{names_if, stretches_of}
-use Rattle.bitvec_domain.specs.BitDomainMut.{lent_bits, bit_loan_names, bit_loan_stretches, bit_loan_words}
+use Rattle.bitvec_domain.specs.Loans.{has_head, has_tail, words_before, body_words, span_loans}
+use Rattle.bitvec_domain.specs.BitLoans.{names_if, stretch_loans, loans_len}
+use Rattle.bitvec_domain.specs.BitDomainMut.{lent_bits, bit_loan_names, bit_loans_of}
 use Rattle.bitvec_domain.proofs.LentSlices.{named_as, Kept, lends_whole, whole_back}
 use Rattle.bitvec_domain.proofs.LoanEnds.{last_of, AllEnd, whole_end, pieces_gone}
 use Rattle.bitvec_ptr.proofs.PlaceOrder.{bit_below}
@@ -115,24 +115,21 @@ write_pieces_spec 𝓤 𝓛 𝓜 𝓡 wired X O L LO copy rb rbd rc rcd rd rdd r
     use1 𝓛 (raw (G.pre z)) (id⊢ 𝓤 _) $
     calls_at ! (framed 𝓤 H 𝓜 𝓣) G (met 𝓤 𝓛 𝓜 𝓡 (code.calls-bitvec_domain::ptr::span::BitSpan::bit_domain_mut 𝓡.env wired) X O L LO copy rb rbd rc rcd rd rdd re red rp rpd ro rod rq rqd rh rhd rg rgd m1 m2 m3 m4 m5 m6 m7 m8 m9) z (and_then ! (get ! refl) (and_then ! (get ! refl) (no_more !))) (λ v.
     use1 𝓛 (later (some (λ (e : Dom.Denot). ((‵ (flft αs (left t)) ⊛ ‵ others') ⊛ ‵ (Dom.own_val e (v ∷ []))) ⊛ some (λ (ws : Lasts (g.ended X O rb rbd rc rcd rd rdd re red rp rpd ro rod rq rqd rh rhd rg rgd) κs' (s₀, (s, tt))). ‵ (lasts (g.ended X O rb rbd rc rcd rd rdd re red rp rpd ro rod rq rqd rh rhd rg rgd) κs' (s₀, (s, tt)) ws)
-    ⊛ ‵ (LendsNamed R s i n (names_if (has_head span) (has_tail rb.BITS span) (bit_loan_names e))) ⊛ raw (fact 𝓤 (lent_bits rb.number e ≡ bit_parts_of rb.BITS (parts_of rb.BITS span (map rb.number xs)))) ⊛ raw (fact 𝓤 (bit_loan_stretches e ≡ stretches_of rb.BITS (slots_of rb.BITS span) n)) ⊛ raw (fact 𝓤 (bit_loan_words e ≡ lists_of rb.BITS span xs)))))) (id⊢ 𝓤 _) $ await ! tt $ pick ! (λ e. split ! $ split ! $ move ! (2 ∷ []) $ pick ! (λ ws. split ! $ drop ! $
-    split ! $ move ! (1 ∷ []) $ split ! $ drop ! $ split ! $ heard ! _ (λ placed. heard ! _ (λ listed. move ! (2 ∷ []) $ peeks ! Dom (Is Dom) (shows 𝓛 Dom) e (v ∷ []) (λ as_domain. let good = ((LD.lawful 𝓛).typed e (v ∷ []) as_domain).0 in
+    ⊛ ‵ (LendsNamed R s i n (names_if (has_head span) (has_tail rb.BITS span) (bit_loan_names e))) ⊛ raw (fact 𝓤 (lent_bits rb.number e ≡ bit_parts_of rb.BITS (parts_of rb.BITS span (map rb.number xs)))) ⊛ raw (fact 𝓤 (bit_loans_of e ≡ stretch_loans rb.BITS (span_loans rb.BITS span xs))))))) (id⊢ 𝓤 _) $ await ! tt $ pick ! (λ e. split ! $ split ! $ move ! (2 ∷ []) $ pick ! (λ ws. split ! $ drop ! $
+    split ! $ move ! (1 ∷ []) $ split ! $ drop ! $ heard ! _ (λ lent. move ! (2 ∷ []) $ peeks ! Dom (Is Dom) (shows 𝓛 Dom) e (v ∷ []) (λ as_domain. let good = ((LD.lawful 𝓛).typed e (v ∷ []) as_domain).0 in
     -- [the domain; what the loan ends as; the tokens; what the lender keeps; the way back; the token of the list's; the list]
     lands_as ! refl refl good $ sets ! (of_opd ! (get ! refl)) refl good $
     let J = triple_of 𝓛 (h.signature X O rb rbd rc rcd rd rdd re red rp rpd ro rod rq rqd rh rhd rg rgd obo obod ooc oocd oba obad) (h.spec X O rb rbd rc rcd rd rdd re red rp rpd ro rod rq rqd rh rhd rg rgd obo obod ooc oocd oba obad 𝓛 𝓜.mem 𝓡.returns) in
     let z2 : J.Ghost = ((κs'', qs'', (bounds', tt), (e, (bs, (hd, (tl, tt)))), (v ∷ [], (shr_slice_vals bs, (bool_vals hd, (bool_vals tl, tt))))), tt) in
-    let in_head = bit_below rb.BITS s₀.head m1.width_at_least_8 s₀.in_word in let Enough : Type 0 = (bit_loan_stretches e).0.len + ((body_stretch (bit_loan_stretches e)).len + (tail_stretch (bit_loan_stretches e)).len) ≤ length bs.now in
-    let enough : Enough = (let total = total-len rb.BITS span in_head (bit_loan_stretches e) placed in let as_many = asked.1.0 in omega (arith, total, as_many)) in
+    let in_head = bit_below rb.BITS s₀.head m1.width_at_least_8 s₀.in_word in let Enough : Type 0 = loans_len (bit_loans_of e) ≤ length bs.now in
+    let enough : Enough = (let total : loans_len (bit_loans_of e) ≡ span.len = ap loans_len lent ∙ total-len rb.BITS span in_head xs fits.1 in let as_many = asked.1.0 in omega (arith, total, as_many)) in
     nothing ! $ owned ! bool _ (bool_Makes 𝓛) tl _ refl $ fjoin ! $ owned ! bool _ (bool_Makes 𝓛) hd _ refl $ fjoin ! $ move ! (7 ∷ 0 ∷ []) $ fjoin ! $ move ! (1 ∷ 0 ∷ []) $ fjoin ! $
     -- [the arguments; what the loan ends as; the tokens; what the lender keeps; the way back; the token of the list's]
     move ! (2 ∷ []) $ split ! $ move ! (6 ∷ 1 ∷ []) $ fjoin ! $ move ! (1 ∷ 0 ∷ []) $ join ! $ join ! $ use0 𝓛 (raw (fact 𝓤 Enough)) (fact_i 𝓤 _ (emp 𝓤) enough) $ use0 𝓛 (raw (fact 𝓤 (ω ⊑ O.lives))) (fact_i 𝓤 _ (emp 𝓤) alive_o) $ join ! $ use0 𝓛 (raw (fact 𝓤 (αs ⊑ X.lives))) (fact_i 𝓤 _ (emp 𝓤) alive') $ join ! $ move ! (1 ∷ 0 ∷ []) $ join ! $
     use1 𝓛 (raw (J.pre z2)) (id⊢ 𝓤 _) $
     calls_at ! (framed 𝓤 H 𝓜 𝓣) J (met_h 𝓤 𝓛 𝓜 𝓡 (code.calls-bitvec_domain::domain::written::write_domain 𝓡.env wired) X O L LO copy rb rbd rc rcd rd rdd re red rp rpd ro rod rq rqd rh rhd rg rgd obo obod ooc oocd oba obad m1 m2 m3 m4 m5 m6 m7 m8 m9 m10 m11 m12) z2 (and_then ! (get ! refl) (and_then ! (get ! refl) (and_then ! (get ! refl) (and_then ! (get ! refl) (no_more !))))) (λ w.
-    let Front : Row.Denot → Type 0 = λ p. IfSome p.front (λ (r : MutBor (List X.Denot)). StretchIsWritten rb.BITS oba.at_of bs.now 0 (bit_loan_stretches e).0 (map rb.number (bit_loan_words e).0) (map rb.number r.now)) in
-    let Body : Row.Denot → Type 0 = λ p. IfSome p.body (λ (r : MutBor (List X.Denot)). StretchIsWritten rb.BITS oba.at_of bs.now (bit_loan_stretches e).0.len (body_stretch (bit_loan_stretches e)) (map rb.number (bit_loan_words e).1) (map rb.number r.now)) in
-    let Back : Row.Denot → Type 0 = λ p. IfSome p.back (λ (r : MutBor (List X.Denot)). StretchIsWritten rb.BITS oba.at_of bs.now ((bit_loan_stretches e).0.len + (body_stretch (bit_loan_stretches e)).len) (tail_stretch (bit_loan_stretches e)) (map rb.number (bit_loan_words e).2) (map rb.number r.now)) in
     use1 𝓛 (later (some (λ (p : Row.Denot). ((‵ (flft αs (left t)) ⊛ ‵ others'') ⊛ ‵ (Row.own_val p (w ∷ []))) ⊛ some (λ (zs : Lasts (h.ended X O rb rbd rc rcd rd rdd re red rp rpd ro rod rq rqd rh rhd rg rgd obo obod ooc oocd oba obad) κs'' (e, (bs, (hd, (tl, tt))))). ‵ (lasts (h.ended X O rb rbd rc rcd rd rdd re red rp rpd ro rod rq rqd rh rhd rg rgd obo obod ooc oocd oba obad) κs'' (e, (bs, (hd, (tl, tt)))) zs)
-    ⊛ raw (fact 𝓤 (names_of p ≡ names_if hd tl (bit_loan_names e))) ⊛ raw (fact 𝓤 (Front p)) ⊛ raw (fact 𝓤 (Body p)) ⊛ raw (fact 𝓤 (Back p)))))) (id⊢ 𝓤 _) $ await ! tt $ pick ! (λ p. split ! $ split ! $ move ! (2 ∷ []) $ pick ! (λ zs. split ! $ drop ! $ split ! $ heard ! _ (λ put. let nm : names_of p ≡ names_if (has_head span) (has_tail rb.BITS span) (bit_loan_names e) = put ∙ (λ k. names_if (asked.1.1.0 k) (asked.1.1.1 k) (bit_loan_names e)) in split ! $ heard ! _ (λ pf. split ! $ heard ! _ (λ pb. heard ! _ (λ pk.
+    ⊛ raw (fact 𝓤 (names_of p ≡ names_if hd tl (bit_loan_names e))) ⊛ raw (fact 𝓤 (LoansAreWritten rb.number rb.BITS oba.at_of bs.now (bit_loans_of e) p)))))) (id⊢ 𝓤 _) $ await ! tt $ pick ! (λ p. split ! $ split ! $ move ! (2 ∷ []) $ pick ! (λ zs. split ! $ drop ! $ split ! $ heard ! _ (λ put. let nm : names_of p ≡ names_if (has_head span) (has_tail rb.BITS span) (bit_loan_names e) = put ∙ (λ k. names_if (asked.1.1.0 k) (asked.1.1.1 k) (bit_loan_names e)) in heard ! _ (λ written.
     move ! (1 ∷ []) $ peeks ! Row (Is Row) (shows 𝓛 Row) p (w ∷ []) (λ as_pieces. lands_as ! refl refl (((LP.lawful 𝓛).typed p (w ∷ []) as_pieces).0) $ sets ! (of_opd ! (unit_lit !)) refl (tt, tt) $
     -- [the pieces; the tokens; what the loan ends as; what the lender keeps; the way back]
     let v0 : List X.Denot = take i xs in let v1 : List X.Denot = take n (drop_l i xs) in let v2 : List X.Denot = drop_l n (drop_l i xs) in
@@ -151,7 +148,7 @@ write_pieces_spec 𝓤 𝓛 𝓜 𝓡 wired X O L LO copy rb rbd rc rcd rd rdd r
     returns ! (look_at ! 0 refl) $ free_all ! refl $
     move ! (2 ∷ 3 ∷ []) $ fjoin ! $ move ! (3 ∷ 0 ∷ []) $ fjoin ! $ move ! (2 ∷ 0 ∷ []) $ join ! $ nothing ! $ nothing ! $ fjoin ! $ nothing ! $ fjoin ! $ nothing ! $ fjoin ! $ move ! (2 ∷ 0 ∷ []) $ fjoin ! $ nothing ! $ fjoin ! $
     let Done : Type 0 = IsWritten rb.BITS oba.at_of bs.now 0 (nat_abs span.word * rb.BITS + span.head) span.len (map rb.number xs) (map rb.number all) in
-    use0 𝓛 (raw (fact 𝓤 Done)) (fact_i 𝓤 _ (emp 𝓤) (written-loans rb.number rb.BITS oba.at_of bs.now span xs in_head fits.1 e p placed listed nm pf pb pk)) $
+    use0 𝓛 (raw (fact 𝓤 Done)) (fact_i 𝓤 _ (emp 𝓤) (written-loans rb.number rb.BITS oba.at_of bs.now span xs in_head fits.1 e p lent nm written)) $
     feq_i ! (List Val) (vunit ∷ []) (vunit ∷ []) refl $
     -- [the result; the `ensures`; the slice; the tokens]
-    keep ! (3 ∷ 2 ∷ 0 ∷ 1 ∷ []) $ by ! (leaves 𝓛 En hs c y vunit tt (tt, (all, (tt, (tt, (tt, tt))))) (tt, (as_long, (tt, (tt, (tt, tt)))))))))))))))))))))))))))))
+    keep ! (3 ∷ 2 ∷ 0 ∷ 1 ∷ []) $ by ! (leaves 𝓛 En hs c y vunit tt (tt, (all, (tt, (tt, (tt, tt))))) (tt, (as_long, (tt, (tt, (tt, tt))))))))))))))))))))))))))
