@@ -1,5 +1,5 @@
 -- One command through a span, from what the edit of one part does, or from the bits at places.
-use Rattle.std.proofs.Common.{◌≡◌, ℕ, ◌+◌, ◌%◌, ◌<◌, ◌≤◌, Bool, true, false, not, nat_le, List, length, arith, sym, ◌∙◌, ap, refl}
+use Rattle.std.proofs.Common.{◌≡◌, ℕ, ◌+◌, ◌%◌, ◌<◌, ◌≤◌, Bool, true, false, not, nat_le, List, length, arith, sym, ◌∙◌, ap, refl, subst}
 use Rattle.std.specs.Prelude.{pos, nat_abs, slice_index}
 use Rattle.std.proofs.lemmas.Bool.{le-leb, lt-leb, cond-true, cond-false}
 use Rattle.bitvec_mem.specs.Digit.{digit}
@@ -26,6 +26,11 @@ step-past bits at span memory command past = record {
   others = λ place out. refl;
   as_many_words = refl;
 }
+
+-- the same, where the memory is shown to be as before
+pub step-kept : (bits : ℕ) (at : ℕ → ℕ) (span : Span) (old new : List ℕ) (command : Command ℕ)
+    → is_past_end bits span.head command (list_of bits at span old) ≡ true → new ≡ old → IsStep bits at span old command PastEnd new
+step-kept bits at span old new command past kept = subst (λ m. IsStep bits at span old command PastEnd m) (sym kept) (step-past bits at span old command past)
 
 -- a command that is not
 pub step-within : (bits : ℕ) (at : ℕ → ℕ) (span : Span) (old new : List ℕ) (command : Command ℕ) (reply : Reply ℕ)

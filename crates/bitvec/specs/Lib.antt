@@ -1,6 +1,7 @@
 pub mod Commands
 pub mod Laws
 pub mod Run
+pub mod Words
 pub use Rattle.bitvec_mem.specs.Digit
 pub use Rattle.bitvec_mem.specs.Numeral
 pub use Rattle.bitvec_mem.specs.SameDigits

@@ -71,8 +71,8 @@ impl<'a, R: BitRegister, O> Copy for PartialElement<'a, R, O> {}
 impl<'a, R: BitRegister, O> PartialElement<'a, R, O> {
     ghost use Rattle.bitvec_domain.specs.Domain.{element_part};
 
-    // The bits of a word of a memory with indices from `head` to before `tail`.
-    fn of_word(memory: &'a [R], at: usize, head: BitIdx<R>, tail: BitEnd<R>) -> Self
+    /// The bits of the word `at` of a memory with indices from `head` to before `tail`. Our own.
+    pub fn new(memory: &'a [R], at: usize, head: BitIdx<R>, tail: BitEnd<R>) -> Self
         requires at { at < length memory.now }
         requires ordered { head ≤ tail }
         ensures { element_part R.number result
@@ -262,13 +262,9 @@ impl<R: BitRegister, O: BitOrder<R>> BitSpan<R, O> {
             (list_of R.BITS O.at_of (span_of self) (map R.number memory.now)) k }
     {
         let at = self.address() as usize + k;
-        let head = if k == 0 { self.head() } else { BitIdx::MIN };
-        let tail = if k + 1 == self.elements() {
-            self.tail()
-        } else {
-            BitEnd::MAX
-        };
-        PartialElement::of_word(memory, at, head, tail)
+        let (elements, tail) = self.extent();
+        let (head, tail) = self.bounds_among(k, elements, tail);
+        PartialElement::new(memory, at, head, tail)
     }
 
     // The part of the first word, where the span does not begin with the word's first bit.

@@ -22,10 +22,9 @@ fn load<R: BitRegister, O: BitOrder<R>>(span: BitSpan<R, O>, memory: &[R], k: us
     ensures { IsStep R.BITS O.at_of (span_of span) (map R.number memory.now) (Load k)
         (reply_number R.number result) (map R.number memory.now) }
 {
-    if k < span.elements() {
-        Reply::Word(span.part(memory, k).load_value())
-    } else {
-        Reply::PastEnd
+    match word::load(span, memory, k) {
+        Some(word) => Reply::Word(word),
+        None => Reply::PastEnd,
     }
 }
 
@@ -40,10 +39,9 @@ fn store<R: BitRegister, O: BitOrder<R>>(
     ensures { IsStep R.BITS O.at_of (span_of span) (map R.number memory.old)
         (Store k (R.number value)) (reply_number R.number result) (map R.number memory.new) }
 {
-    if k < span.elements() {
-        Reply::Word(word::store(span, memory, k, value))
-    } else {
-        Reply::PastEnd
+    match word::store(span, memory, k, value) {
+        Some(word) => Reply::Word(word),
+        None => Reply::PastEnd,
     }
 }
 
@@ -53,10 +51,9 @@ fn set<R: BitRegister, O: BitOrder<R>>(span: BitSpan<R, O>, memory: &mut [R], k:
     ensures { IsStep R.BITS O.at_of (span_of span) (map R.number memory.old) (Set k)
         (reply_number R.number result) (map R.number memory.new) }
 {
-    if k < span.elements() {
-        Reply::Word(word::set(span, memory, k))
-    } else {
-        Reply::PastEnd
+    match word::set(span, memory, k) {
+        Some(word) => Reply::Word(word),
+        None => Reply::PastEnd,
     }
 }
 
@@ -70,10 +67,9 @@ fn clear<R: BitRegister, O: BitOrder<R>>(
     ensures { IsStep R.BITS O.at_of (span_of span) (map R.number memory.old) (Clear k)
         (reply_number R.number result) (map R.number memory.new) }
 {
-    if k < span.elements() {
-        Reply::Word(word::clear(span, memory, k))
-    } else {
-        Reply::PastEnd
+    match word::clear(span, memory, k) {
+        Some(word) => Reply::Word(word),
+        None => Reply::PastEnd,
     }
 }
 
@@ -87,10 +83,9 @@ fn invert<R: BitRegister, O: BitOrder<R>>(
     ensures { IsStep R.BITS O.at_of (span_of span) (map R.number memory.old) (Invert k)
         (reply_number R.number result) (map R.number memory.new) }
 {
-    if k < span.elements() {
-        Reply::Word(word::invert(span, memory, k))
-    } else {
-        Reply::PastEnd
+    match word::invert(span, memory, k) {
+        Some(word) => Reply::Word(word),
+        None => Reply::PastEnd,
     }
 }
 

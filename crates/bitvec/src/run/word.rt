@@ -1,32 +1,47 @@
-//! The edits of one word through a span, with what the whole memory is when the loan has ended.
+//! The commands to one word of a span, each with what the whole memory is when the loan has ended.
 
-ghost use Rattle.std.specs.Prelude.{◌≡◌, ℕ, ◌<◌, ◌≤◌, Bool, true, false, not, length, map};
-ghost use Rattle.std.specs.Prelude.{slice_index};
+ghost use Rattle.std.specs.Prelude.{ℕ, true, false, not, length, map};
+ghost use Rattle.std.specs.Option.{option_map};
 ghost use Rattle.bitvec_mem.specs.Digit.{digit};
-ghost use Rattle.bitvec_ptr.specs.Place.{words_met};
 ghost use Rattle.bitvec_domain.specs.Span.{Fits};
-ghost use Rattle.bitvec_domain.specs.Slot.{slot_of, EditsPart};
 ghost use Rattle.bitvec_domain.specs.BitSpan.{span_of};
+ghost use Rattle.bitvec.specs.Words.{LoadsWord, EditsWord};
 
+use crate::domain::{PartialElement, PartialElementMut};
 use crate::mem::BitRegister;
 use crate::order::BitOrder;
 use crate::ptr::span::BitSpan;
 
-// Puts the digits of a number in place into the `k`-th word that the span meets.
+// Returns the span's bits in the `k`-th word that it meets.
+pub(crate) fn load<R: BitRegister, O: BitOrder<R>>(
+    span: BitSpan<R, O>,
+    memory: &[R],
+    k: usize,
+) -> Option<R>
+    requires { Fits R.BITS (span_of span) (length memory.now) }
+    ensures { LoadsWord R.BITS O.at_of (span_of span) k (map R.number memory.now)
+        (option_map R.number result) }
+{
+    let (head, tail) = span.part_bounds(k)?;
+    let at = span.address() as usize + k;
+    Some(PartialElement::<R, O>::new(memory, at, head, tail).load_value())
+}
+
+// Puts the digits of a number in place into that word.
 pub(crate) fn store<R: BitRegister, O: BitOrder<R>>(
     span: BitSpan<R, O>,
     memory: &mut [R],
     k: usize,
     value: R,
-) -> R
-    requires fits { Fits R.BITS (span_of span) (length memory.old) }
-    requires met { k < words_met R.BITS (span_of span).head (span_of span).len }
-    ensures { EditsPart R.BITS O.at_of (slot_of R.BITS (span_of span) k)
-        (λ i. digit (R.number value) (O.at_of i)) (map R.number memory.old)
-        (map R.number memory.new) (R.number result) }
+) -> Option<R>
+    requires { Fits R.BITS (span_of span) (length memory.old) }
+    ensures { EditsWord R.BITS O.at_of (span_of span) k (λ word i. digit (R.number value) (O.at_of i))
+        (map R.number memory.old) (map R.number memory.new) (option_map R.number result) }
 {
-    let mut part = span.part_mut(memory, k);
-    part.store_value(value)
+    let (head, tail) = span.part_bounds(k)?;
+    let at = span.address() as usize + k;
+    let mut part = PartialElementMut::<R, O>::new(memory, at, head, tail);
+    Some(part.store_value(value))
 }
 
 // Turns the span's bits in that word over.
@@ -34,16 +49,15 @@ pub(crate) fn invert<R: BitRegister, O: BitOrder<R>>(
     span: BitSpan<R, O>,
     memory: &mut [R],
     k: usize,
-) -> R
-    requires fits { Fits R.BITS (span_of span) (length memory.old) }
-    requires met { k < words_met R.BITS (span_of span).head (span_of span).len }
-    ensures { EditsPart R.BITS O.at_of (slot_of R.BITS (span_of span) k)
-        (λ i. not
-        (digit (slice_index (map R.number memory.old) (slot_of R.BITS (span_of span) k).word)
-        (O.at_of i))) (map R.number memory.old) (map R.number memory.new) (R.number result) }
+) -> Option<R>
+    requires { Fits R.BITS (span_of span) (length memory.old) }
+    ensures { EditsWord R.BITS O.at_of (span_of span) k (λ word i. not (digit word (O.at_of i)))
+        (map R.number memory.old) (map R.number memory.new) (option_map R.number result) }
 {
-    let mut part = span.part_mut(memory, k);
-    part.invert()
+    let (head, tail) = span.part_bounds(k)?;
+    let at = span.address() as usize + k;
+    let mut part = PartialElementMut::<R, O>::new(memory, at, head, tail);
+    Some(part.invert())
 }
 
 // Makes the span's bits in that word zero.
@@ -51,14 +65,15 @@ pub(crate) fn clear<R: BitRegister, O: BitOrder<R>>(
     span: BitSpan<R, O>,
     memory: &mut [R],
     k: usize,
-) -> R
-    requires fits { Fits R.BITS (span_of span) (length memory.old) }
-    requires met { k < words_met R.BITS (span_of span).head (span_of span).len }
-    ensures { EditsPart R.BITS O.at_of (slot_of R.BITS (span_of span) k) (λ i. false)
-        (map R.number memory.old) (map R.number memory.new) (R.number result) }
+) -> Option<R>
+    requires { Fits R.BITS (span_of span) (length memory.old) }
+    ensures { EditsWord R.BITS O.at_of (span_of span) k (λ word i. false)
+        (map R.number memory.old) (map R.number memory.new) (option_map R.number result) }
 {
-    let mut part = span.part_mut(memory, k);
-    part.clear()
+    let (head, tail) = span.part_bounds(k)?;
+    let at = span.address() as usize + k;
+    let mut part = PartialElementMut::<R, O>::new(memory, at, head, tail);
+    Some(part.clear())
 }
 
 // Makes the span's bits in that word one.
@@ -66,12 +81,13 @@ pub(crate) fn set<R: BitRegister, O: BitOrder<R>>(
     span: BitSpan<R, O>,
     memory: &mut [R],
     k: usize,
-) -> R
-    requires fits { Fits R.BITS (span_of span) (length memory.old) }
-    requires met { k < words_met R.BITS (span_of span).head (span_of span).len }
-    ensures { EditsPart R.BITS O.at_of (slot_of R.BITS (span_of span) k) (λ i. true)
-        (map R.number memory.old) (map R.number memory.new) (R.number result) }
+) -> Option<R>
+    requires { Fits R.BITS (span_of span) (length memory.old) }
+    ensures { EditsWord R.BITS O.at_of (span_of span) k (λ word i. true)
+        (map R.number memory.old) (map R.number memory.new) (option_map R.number result) }
 {
-    let mut part = span.part_mut(memory, k);
-    part.set()
+    let (head, tail) = span.part_bounds(k)?;
+    let at = span.address() as usize + k;
+    let mut part = PartialElementMut::<R, O>::new(memory, at, head, tail);
+    Some(part.set())
 }

@@ -74,6 +74,24 @@ fn stored<R: BitRegister>(old: R, mask: R, value: R) -> R
 impl<'a, R: BitRegister, O> PartialElementMut<'a, R, O> {
     ghost use Rattle.bitvec_domain.specs.PartialElementMut.{memory_of, slot_in};
 
+    /// The bits of the word `word` of a memory with indices from `head` to before `tail`, for
+    /// writing. Our own.
+    pub fn new(memory: &'a mut [R], word: usize, head: BitIdx<R>, tail: BitEnd<R>) -> Self
+        requires word { word < length memory.old }
+        requires ordered { head ≤ tail }
+        ensures reference { (memory_of result).ghost_name ≡ memory.entry.ghost_name }
+        ensures memory { (memory_of result).now ≡ memory.old }
+        ensures slot { slot_in result ≡ record { word = word; head = head; tail = tail } }
+    {
+        PartialElementMut {
+            memory,
+            word,
+            head: head.into_inner(),
+            tail: tail.into_inner(),
+            order: PhantomData,
+        }
+    }
+
     // The memory that it borrows, as the edits left it: the whole loan, past the part's word.
     pub(super) fn into_memory(self) -> &'a mut [R]
         ensures reference { result.ghost_name ≡ (memory_of self.entry).ghost_name }
@@ -267,18 +285,8 @@ impl<R: BitRegister, O> BitSpan<R, O> {
         ensures memory { (memory_of result).now ≡ memory.old }
         ensures slot { slot_in result ≡ slot_at R.BITS (span_of self) k word }
     {
-        let head = if k == 0 { self.head() } else { BitIdx::MIN };
-        let tail = if k + 1 == self.elements() {
-            self.tail()
-        } else {
-            BitEnd::MAX
-        };
-        PartialElementMut {
-            memory,
-            word,
-            head: head.into_inner(),
-            tail: tail.into_inner(),
-            order: PhantomData,
-        }
+        let (elements, tail) = self.extent();
+        let (head, tail) = self.bounds_among(k, elements, tail);
+        PartialElementMut::new(memory, word, head, tail)
     }
 }

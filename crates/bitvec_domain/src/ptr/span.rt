@@ -2,20 +2,21 @@
 
 ghost use Rattle.std.specs.Prelude.{◌≡◌, ⊤, ℕ, ℤ, pos, ◌+◌, ◌-◌, ◌*◌, ◌/◌, ◌%◌, ◌==◌};
 ghost use Rattle.std.specs.Prelude.{if◌then◌else◌, ◌+ℤ◌, ◌≤ℤ◌, ◌<ℤ◌, ◌<◌, ◌≤◌, ◌↔◌, IsTrue, IsOk};
-ghost use Rattle.std.specs.Prelude.{IfOk, List, ◌++◌, codes, Some};
+ghost use Rattle.std.specs.Prelude.{IfOk, IfSome, MatchOption, List, ◌++◌, codes, Some};
 ghost use Rattle.std.specs.Int.{int_div_euclid};
 ghost use Rattle.std.specs.Fmt.{DisplaysOnOk, WritesStyledOnOk};
 ghost use Rattle.bitvec_ptr.specs.Place.{place_at, place_of, words_met, tail_of, greatest_isize};
 ghost use Rattle.bitvec_ptr.specs.Steps.{CanOffset, IsIn};
 ghost use Rattle.bitvec_domain.specs.Span.{region_max_bits, Span, Fits, AreDisjoint};
 ghost use Rattle.bitvec_domain.specs.Span.{span_places, list_of};
+ghost use Rattle.bitvec_domain.specs.Parts.{part_head, part_tail};
 ghost use Rattle.bitvec_domain.specs.SpanText.{case_text};
 ghost use Rattle.bitvec_domain.specs.Refusals.{signed_text, too_long_text, too_high_text};
 ghost use Rattle.bitvec_domain.specs.Refusals.{error_name, too_long_case, too_high_case};
 
 use bitvec_mem::mem::{BitRegister, elts};
 use bitvec_mem::numeral::write_numeral;
-use bitvec_order::index::{BitEnd, BitIdx};
+use bitvec_order::index::{BitEnd, BitIdx, Limits};
 use bitvec_order::order::Lsb0;
 use bitvec_ptr::ptr::range::BitPtrRange;
 use bitvec_ptr::ptr::single::BitPtr;
@@ -453,14 +454,66 @@ impl<R: BitRegister, O> BitSpan<R, O> {
         ensures value { result ≡ words_met R.BITS (span_of self.now).head (span_of self.now).len }
         ensures short { result ≤ region_max_bits }
     {
-        self.head().span(self.len).0
+        self.extent().0
     }
 
     /// One past the index of the last bit in its word; for an empty span its head.
     pub fn tail(&self) -> BitEnd<R>
         ensures { result ≡ tail_of R.BITS (span_of self.now).head (span_of self.now).len }
     {
-        self.head().span(self.len).1
+        self.extent().1
+    }
+
+    // How many words the span meets, and one past the index of its last bit in the last of them.
+    pub(crate) fn extent(&self) -> (usize, BitEnd<R>)
+        ensures elements { result.0
+            ≡ words_met R.BITS (span_of self.now).head (span_of self.now).len }
+        ensures short { result.0 ≤ region_max_bits }
+        ensures tail { result.1 ≡ tail_of R.BITS (span_of self.now).head (span_of self.now).len }
+    {
+        self.head().span(self.len)
+    }
+
+    /// The bounds of the span's bits in the `k`-th word that it meets, counted from 0: the index of
+    /// the first of them, and one past that of the last. `None` where the span meets no such word.
+    ///
+    /// They are those of [`part`](BitSpan::part), which wants a word that is met: both tests, and
+    /// the way to the span's end, are made once. Our own.
+    pub fn part_bounds(&self, k: usize) -> Option<(BitIdx<R>, BitEnd<R>)>
+        ensures bounds { let span = span_of self.now in MatchOption result
+            (words_met R.BITS span.head span.len ≤ k)
+            (λ bounds. (k < words_met R.BITS span.head span.len)
+            × (bounds.0 ≡ part_head span.head k)
+            × (bounds.1 ≡ part_tail R.BITS span.head span.len k)) }
+        ensures ordered { IfSome result (λ bounds. bounds.0 ≤ bounds.1) }
+    {
+        let (elements, tail) = self.extent();
+        if k < elements {
+            Some(self.bounds_among(k, elements, tail))
+        } else {
+            None
+        }
+    }
+
+    // The bounds of the span's bits in the `k`-th word, of those that it meets, where it ends
+    // before the index `tail` of the last.
+    pub(crate) fn bounds_among(
+        &self,
+        k: usize,
+        elements: usize,
+        tail: BitEnd<R>,
+    ) -> (BitIdx<R>, BitEnd<R>)
+        requires met { k < elements }
+        requires elements { elements
+            ≡ words_met R.BITS (span_of self.now).head (span_of self.now).len }
+        requires tail { tail ≡ tail_of R.BITS (span_of self.now).head (span_of self.now).len }
+        ensures head { result.0 ≡ part_head (span_of self.now).head k }
+        ensures tail { result.1
+            ≡ part_tail R.BITS (span_of self.now).head (span_of self.now).len k }
+    {
+        let head = if k == 0 { self.head() } else { BitIdx::MIN };
+        let end = if k + 1 == elements { tail } else { BitEnd::MAX };
+        (head, end)
     }
 
     /// Whether the words that the span meets are among the first `words` of a memory. For an empty

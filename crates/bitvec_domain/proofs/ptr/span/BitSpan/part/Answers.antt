@@ -4,11 +4,10 @@ use Rattle.std.specs.Prelude.{slice_index, nat_abs}
 use Rattle.std.specs.Int.{w64}
 use mir.Val.{to_z, of_z}
 use Rattle.bitvec_ptr.proofs.PlaceOrder.{bit_below}
-use Rattle.bitvec_domain.specs.Parts.{value_of, part_head, part_tail}
+use Rattle.bitvec_domain.specs.Parts.{value_of}
 use Rattle.bitvec_domain.specs.BitSpan.{span_of}
 use Rattle.bitvec_domain.proofs.PartLemmas.{part_same, value_of-part_of}
 use Rattle.bitvec_domain.proofs.ptr.span.BitSpan.part.Goals as goal
-use Rattle.bitvec_domain.proofs.ptr.span.BitSpan.part.Goals.{then-k-eq0, else-k-eq0, then-k-elements, else-k-elements}
 
 pub returns-clause-part : goal.returns-clause-part
 returns-clause-part g c =
@@ -16,9 +15,7 @@ returns-clause-part g c =
     let span = span_of c.args.self in
     let words = map g.R.BitRegister.number c.args.memory.now in
     let first : nat_abs (to_z w64 (of_z w64 c.address.result)) ≡ nat_abs c.args.self.word = ap nat_abs (let same : to_z w64 (of_z w64 c.address.result) ≡ c.args.self.word = omega (arith, ints) in same) in
-    let head : c.if-k-eq0.head ≡ part_head c.args.self.head c.args.k = elim c.if-k-eq0.branch [ then-k-eq0 w ↦ search rules | else-k-eq0 w ↦ search rules ] in
-    let tail : c.if-k-elements.tail ≡ part_tail width c.args.self.head c.args.self.len c.args.k = elim c.if-k-elements.branch [ then-k-elements w ↦ search rules | else-k-elements w ↦ search rules ] in
-    c.of_word.ensures ∙ part_same _ _ _ _ _ _ (ap (λ n. slice_index words (n + c.args.k)) first) head tail
+    c.new.ensures ∙ part_same _ _ _ _ _ _ (ap (λ n. slice_index words (n + c.args.k)) first) c.bounds_among-head.ensures.head c.bounds_among-head.ensures.tail
 
 pub returns-clause-word : goal.returns-clause-word
 returns-clause-word g c =

@@ -1,7 +1,0 @@
-use Rattle.std.proofs.Common.{arith}
-use Rattle.bitvec_ptr.proofs.PlaceLemmas.{words_met-from_span}
-use Rattle.bitvec_domain.proofs.ptr.span.BitSpan.elements.Goals as goal
-
-pub returns-clause-value : goal.returns-clause-value
-returns-clause-value g c =
-    words_met-from_span g.R.BitRegister.BITS c.head.result c.args.self.now.head c.args.self.now.len c.span.result.0 (omega (arith, g.met.R.BitRegister.width_at_least_8)) c.head.ensures (λ e. (c.span.ensures.empty e).0) c.span.ensures.elements
