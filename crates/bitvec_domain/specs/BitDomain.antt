@@ -2,7 +2,7 @@
 use Rattle.std.specs.Prelude.{ℕ, map}
 use Rattle.bitvec_domain.specs.declared.domain.bit_words.BitWords.{BitWords}
 use Rattle.bitvec_domain.specs.declared.domain.bit_domain.BitDomain.{BitDomain}
-use Rattle.bitvec_domain.specs.declared.domain.bit_domain.BitDomain.TheVariants.{Enclave, Region}
+pub use Rattle.bitvec_domain.specs.declared.domain.bit_domain.BitDomain.TheVariants.{Enclave, Region}
 use Rattle.bitvec_domain.specs.BitParts.{WordBits, BitParts, bit_enclave, bit_region}
 
 -- its words, its head and its length

@@ -1,11 +1,12 @@
 -- What a `BitDomainMut` shows.
-use Rattle.std.specs.Prelude.{ℕ, Bool, List, Option, Some, None, map}
+use Rattle.std.specs.Prelude.{ℕ, List, Option, Some, None, map}
 use Rattle.std.specs.Borrow.{Fml, GName, RattleType, MutBor}
 use Rattle.bitvec_domain.specs.declared.domain.bit_words_mut.BitWordsMut.{BitWordsMut}
 use Rattle.bitvec_domain.specs.declared.domain.bit_domain_mut.BitDomainMut.{BitDomainMut}
 pub use Rattle.bitvec_domain.specs.declared.domain.bit_domain_mut.BitDomainMut.TheVariants.{Enclave, Region}
 use Rattle.bitvec_domain.specs.Lending.{LendsNamed}
-use Rattle.bitvec_domain.specs.Loans.{Loan}
+use Rattle.bitvec_domain.specs.Span.{Span}
+use Rattle.bitvec_domain.specs.Loans.{Loan, has_head, has_tail, words_before, body_words}
 use Rattle.bitvec_domain.specs.BitLoans.{BitLoans, names_if}
 use Rattle.bitvec_domain.specs.BitParts.{WordBits, BitParts, bit_enclave, bit_region}
 use Rattle.bitvec_domain.specs.Stretch.{Stretch, stretch_bits}
@@ -34,6 +35,6 @@ abbrev pub bit_loans_of : {R O : Type 0} {a b c d e f g : _} → BitDomainMut R 
 bit_loans_of (Enclave stretch) = (words_loan stretch, None)
 bit_loans_of (Region head body tail) = (words_loan head, Some (words_loan body, words_loan tail))
 
--- s ends as the last words behind the loans of the domain's stretches, one behind the other, and where there is no head or no tail its words are as they were
-abbrev pub LendsBits : (R : RattleType) {O : Type 0} {a b c d e f g : _} → MutBor (List R.Denot) → ℕ → ℕ → Bool → Bool → BitDomainMut R.Denot O a b c d e f g → Fml
-LendsBits R s i n head tail domain = LendsNamed R s i n (names_if head tail (bit_loan_names domain))
+-- s ends as the last words behind the loans of the stretches of a span's domain, one behind the other, and where there is no head or no tail its words are as they were
+abbrev pub LendsBits : (R : RattleType) {O : Type 0} {a b c d e f g : _} → ℕ → Span → MutBor (List R.Denot) → BitDomainMut R.Denot O a b c d e f g → Fml
+LendsBits R bits span s domain = LendsNamed R s (words_before span) (body_words bits span) (names_if (has_head span) (has_tail bits span) (bit_loan_names domain))

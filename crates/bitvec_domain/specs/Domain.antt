@@ -2,7 +2,7 @@
 use Rattle.std.specs.Prelude.{ℕ, Option, Some, None, map, slice_index}
 use Rattle.bitvec_domain.specs.declared.domain.PartialElement.{PartialElement}
 use Rattle.bitvec_domain.specs.declared.domain.Domain.{Domain}
-use Rattle.bitvec_domain.specs.declared.domain.Domain.TheVariants.{Enclave, Region}
+pub use Rattle.bitvec_domain.specs.declared.domain.Domain.TheVariants.{Enclave, Region}
 use Rattle.bitvec_domain.specs.Parts.{Part, Parts, enclave, region}
 
 -- the word and the bounds of a partial element

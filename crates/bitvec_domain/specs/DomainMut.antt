@@ -4,9 +4,10 @@ use Rattle.std.specs.Borrow.{Fml, GName, RattleType, MutBor}
 use Rattle.bitvec_domain.specs.declared.domain.partial_element_mut.PartialElementMut.{PartialElementMut}
 use Rattle.bitvec_domain.specs.declared.domain.domain_mut.DomainMut.{DomainMut}
 pub use Rattle.bitvec_domain.specs.declared.domain.domain_mut.DomainMut.TheVariants.{Enclave, Region}
+use Rattle.bitvec_domain.specs.Span.{Span}
 use Rattle.bitvec_domain.specs.Parts.{Part, Parts}
 use Rattle.bitvec_domain.specs.Slot.{Slot}
-use Rattle.bitvec_domain.specs.Loans.{Loan, Loans, loan_part, loan_parts}
+use Rattle.bitvec_domain.specs.Loans.{Loan, Loans, loan_part, loan_parts, words_before, body_words}
 use Rattle.bitvec_domain.specs.PartialElementMut.{memory_of, slot_in}
 use Rattle.bitvec_domain.specs.Lending.{LendsNamed}
 
@@ -20,9 +21,9 @@ abbrev pub loan_names : {R O : Type 0} {a b c d e f g : _} → DomainMut R O a b
 loan_names (Enclave part) = (part_name (Some part), None, None)
 loan_names (Region head body tail) = (part_name head, Some body.ghost_name, part_name tail)
 
--- s ends as the last words behind the domain's loans, one behind the other, and the words of an absent part are as they were
-abbrev pub LendsDomain : (R : RattleType) {O : Type 0} {a b c d e f g : _} → MutBor (List R.Denot) → ℕ → ℕ → DomainMut R.Denot O a b c d e f g → Fml
-LendsDomain R s i n domain = LendsNamed R s i n (loan_names domain)
+-- s ends as the last words behind the loans of a span's domain, one behind the other, and the words of an absent part are as they were
+abbrev pub LendsDomain : (R : RattleType) {O : Type 0} {a b c d e f g : _} → ℕ → Span → MutBor (List R.Denot) → DomainMut R.Denot O a b c d e f g → Fml
+LendsDomain R bits span s domain = LendsNamed R s (words_before span) (body_words bits span) (loan_names domain)
 
 -- the words behind a part's loan, and where the part lies in them
 abbrev pub part_loan : {R O : Type 0} {a b c d e f g : _} → PartialElementMut R O a b c d e f g → Loan R Slot

@@ -1,6 +1,6 @@
 -- Spans as intervals of places, and their lists in a memory. `bits` is the width of a word, and a memory is the list of
 -- its words' numbers.
-use Rattle.std.specs.Prelude.{◌≡◌, ℕ, ℤ, pos, nat_abs, ◌+◌, ◌-◌, ◌*◌, ◌≤◌, ◌+ℤ◌, ◌≤ℤ◌, ◌<ℤ◌, ◌&&◌, Bool, false, List, length, slice_index_or, nat_le}
+use Rattle.std.specs.Prelude.{◌≡◌, ℕ, ℤ, pos, nat_abs, ◌+◌, ◌-◌, ◌*◌, ◌/◌, ◌%◌, ◌≤◌, ◌+ℤ◌, ◌≤ℤ◌, ◌<ℤ◌, ◌&&◌, Bool, false, List, length, slice_index_or, nat_le}
 use Rattle.bitvec_order.specs.Order.{number_of}
 use Rattle.bitvec_ptr.specs.Memory.{bit_of, tabulate}
 use Rattle.bitvec_ptr.specs.Place.{place_at, words_met}
@@ -15,6 +15,14 @@ pub record Span : Type 0 where
 -- the span lies within a memory of so many words
 abbrev pub Fits : ℕ → Span → ℕ → Type 0
 Fits bits span words = (pos 0 ≤ℤ span.word) × (nat_abs span.word + words_met bits span.head span.len ≤ words)
+
+-- the first `mid` bits of a span
+abbrev pub span_upto : Span → ℕ → Span
+span_upto span mid = record { word = span.word; head = span.head; len = mid }
+
+-- the bits of a span from its bit `mid` on
+abbrev pub span_from : ℕ → Span → ℕ → Span
+span_from bits span mid = record { word = span.word +ℤ pos ((span.head + mid) / bits); head = (span.head + mid) % bits; len = span.len - mid }
 
 -- the places of a span, in order
 abbrev pub span_places : ℕ → Span → List ℤ

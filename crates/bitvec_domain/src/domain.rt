@@ -6,7 +6,7 @@ ghost use Rattle.std.specs.Prelude.{slice_index, slice_range};
 ghost use Rattle.bitvec_order.specs.Order.{IsMaskOf};
 ghost use Rattle.bitvec_ptr.specs.Place.{words_met, tail_of};
 ghost use Rattle.bitvec_domain.specs.Span.{Fits, list_of, word_of, words_of};
-ghost use Rattle.bitvec_domain.specs.Parts.{part_of, parts_of, value_of, items, enclave, region};
+ghost use Rattle.bitvec_domain.specs.Parts.{part_of, parts_of, value_of, items};
 ghost use Rattle.bitvec_domain.specs.Parts.{is_enclave, HasShortBody};
 
 use crate::ptr::span::BitSpan;
@@ -172,13 +172,12 @@ impl<'a, R: BitRegister, O> Clone for Domain<'a, R, O> {
 impl<'a, R: BitRegister, O> Copy for Domain<'a, R, O> {}
 
 impl<'a, R: BitRegister, O> Domain<'a, R, O> {
-    ghost use Rattle.bitvec_domain.specs.Domain.{element_part, optional_part, domain_parts};
+    ghost use Rattle.bitvec_domain.specs.Domain.{Enclave, Region, domain_parts};
 
     /// The part of one word, where the domain is that alone.
     pub fn enclave(self) -> Option<PartialElement<'a, R, O>>
-        ensures { MatchOption result
-            (is_enclave (domain_parts R.number self.entry) ≡ false)
-            (λ part. domain_parts R.number self.entry ≡ enclave (element_part R.number part)) }
+        ensures { MatchOption result (is_enclave (domain_parts R.number self.entry) ≡ false)
+            (λ part. self.entry ≡ Enclave part) }
     {
         match self {
             Domain::Enclave(part) => Some(part),
@@ -197,9 +196,7 @@ impl<'a, R: BitRegister, O> Domain<'a, R, O> {
         ),
     >
         ensures { MatchOption result (is_enclave (domain_parts R.number self.entry) ≡ true)
-            (λ parts. domain_parts R.number self.entry
-            ≡ region (optional_part R.number parts.0) (map R.number parts.1.now)
-            (optional_part R.number parts.2)) }
+            (λ all. self.entry ≡ Region all.0 all.1 all.2) }
     {
         match self {
             Domain::Enclave(_) => None,

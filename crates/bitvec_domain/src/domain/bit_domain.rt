@@ -2,7 +2,7 @@
 
 ghost use Rattle.std.specs.Prelude.{◌≡◌, ⊤, true, false, MatchOption, length, map};
 ghost use Rattle.bitvec_domain.specs.Span.{Fits, list_of};
-ghost use Rattle.bitvec_domain.specs.BitParts.{bit_enclave, bit_region, bit_parts_of};
+ghost use Rattle.bitvec_domain.specs.BitParts.{bit_parts_of};
 ghost use Rattle.bitvec_domain.specs.BitParts.{is_bit_enclave, joined_bits};
 ghost use Rattle.bitvec_domain.specs.Parts.{HasShortBody, parts_of};
 
@@ -81,13 +81,12 @@ impl<'a, R: BitRegister, O> Default for BitDomain<'a, R, O> {
 }
 
 impl<'a, R: BitRegister, O> BitDomain<'a, R, O> {
-    ghost use Rattle.bitvec_domain.specs.BitDomain.{word_bits, bit_parts};
+    ghost use Rattle.bitvec_domain.specs.BitDomain.{Enclave, Region, bit_parts};
 
     /// The bits of one word, where the domain is those alone.
     pub fn enclave(self) -> Option<BitWords<'a, R, O>>
-        ensures { MatchOption result
-            (is_bit_enclave (bit_parts R.number self.entry) ≡ false)
-            (λ words. bit_parts R.number self.entry ≡ bit_enclave (word_bits R.number words)) }
+        ensures { MatchOption result (is_bit_enclave (bit_parts R.number self.entry) ≡ false)
+            (λ words. self.entry ≡ Enclave words) }
     {
         match self {
             BitDomain::Enclave(words) => Some(words),
@@ -98,9 +97,7 @@ impl<'a, R: BitRegister, O> BitDomain<'a, R, O> {
     /// The head, the body and the tail, where the domain is not one stretch alone.
     pub fn region(self) -> Option<(BitWords<'a, R, O>, BitWords<'a, R, O>, BitWords<'a, R, O>)>
         ensures { MatchOption result (is_bit_enclave (bit_parts R.number self.entry) ≡ true)
-            (λ parts. bit_parts R.number self.entry
-            ≡ bit_region (word_bits R.number parts.0) (word_bits R.number parts.1)
-            (word_bits R.number parts.2)) }
+            (λ all. self.entry ≡ Region all.0 all.1 all.2) }
     {
         match self {
             BitDomain::Enclave(_) => None,

@@ -5,9 +5,8 @@ ghost use Rattle.std.specs.Prelude.{Some, None, is_some, length, map, option_map
 ghost use Rattle.std.specs.Borrow.{sem};
 ghost use Rattle.bitvec_domain.specs.Span.{region_max_bits, Fits};
 ghost use Rattle.bitvec_domain.specs.Parts.{HasShortBody, parts_of};
-ghost use Rattle.bitvec_domain.specs.Loans.{has_head, has_tail, words_before, body_words};
 ghost use Rattle.bitvec_domain.specs.Loans.{span_loans};
-ghost use Rattle.bitvec_domain.specs.BitParts.{optional_bits, body_bits, bit_enclave, bit_region};
+ghost use Rattle.bitvec_domain.specs.BitParts.{optional_bits, body_bits};
 ghost use Rattle.bitvec_domain.specs.BitParts.{bit_parts_of, is_bit_enclave};
 ghost use Rattle.bitvec_domain.specs.BitLoans.{names_if, stretch_loan, whole_loan, stretch_loans};
 
@@ -204,9 +203,7 @@ impl<R: BitRegister, O> BitSpan<R, O> {
     /// for the Rust crate's `bit_domain_mut`.
     pub fn bit_domain_mut<'a>(self, memory: &'a mut [R]) -> BitDomainMut<'a, R, O>
         requires { Fits R.BITS (span_of self) (length memory.old) }
-        ensures* ends { sem 𝓛 (LendsBits R.row memory.entry (words_before (span_of self))
-            (body_words R.BITS (span_of self)) (has_head (span_of self))
-            (has_tail R.BITS (span_of self)) result) }
+        ensures* ends { sem 𝓛 (LendsBits R.row R.BITS (span_of self) memory.entry result) }
         ensures bits { lent_bits R.number result
             ≡ bit_parts_of R.BITS (parts_of R.BITS (span_of self) (map R.number memory.old)) }
         ensures loans { bit_loans_of result

@@ -134,7 +134,8 @@ impl<'a, R: BitRegister, O> BitWordsMut<'a, R, O> {
 }
 
 impl<'a, R: BitRegister, O: BitOrder<R>> BitWordsMut<'a, R, O> {
-    ghost use Rattle.bitvec_domain.specs.BitWordsMut.{words_memory, stretch_in};
+    ghost use Rattle.bitvec_domain.specs.BitWordsMut.{words_memory, memory_numbers, stretch_in};
+    ghost use Rattle.bitvec_domain.specs.BitWordsMut.{bit_number};
 
     /// The bit `i` places after the first.
     pub fn read(&self, i: usize) -> bool
@@ -157,9 +158,9 @@ impl<'a, R: BitRegister, O: BitOrder<R>> BitWordsMut<'a, R, O> {
             (bits_list R.BITS O.at_of
             (stretch_bits (stretch_in self.old) (map R.number (words_memory self.old).now))) i
             ≡ Some result }
-        ensures bits { memory_bits R.BITS O.at_of (map R.number (words_memory self.new).now)
-            ≡ slice_set (memory_bits R.BITS O.at_of (map R.number (words_memory self.old).now))
-            ((stretch_in self.old).first * R.BITS + ((stretch_in self.old).head + i)) bit }
+        ensures bits { memory_bits R.BITS O.at_of (memory_numbers R.number self.new)
+            ≡ slice_set (memory_bits R.BITS O.at_of (memory_numbers R.number self.old))
+            (bit_number R.BITS self.old i) bit }
         ensures words { length (words_memory self.new).now ≡ length (words_memory self.old).now }
     {
         let pointer = word_pointer::<R, O>(self.head, i);

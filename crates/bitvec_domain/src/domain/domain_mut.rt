@@ -6,7 +6,7 @@ ghost use Rattle.std.specs.Prelude.{Some, None, [], replicate, option_map};
 ghost use Rattle.std.specs.Borrow.{sem};
 ghost use Rattle.bitvec_ptr.specs.Place.{words_met};
 ghost use Rattle.bitvec_domain.specs.Span.{Fits, list_of, KeepsOthers};
-ghost use Rattle.bitvec_domain.specs.Parts.{parts_of, enclave, region, is_enclave, HasShortBody};
+ghost use Rattle.bitvec_domain.specs.Parts.{parts_of, is_enclave, HasShortBody};
 ghost use Rattle.bitvec_domain.specs.Loans.{is_inside, has_head, has_tail, words_before};
 ghost use Rattle.bitvec_domain.specs.Loans.{body_words, span_loans, word_of_bit, filled_loan};
 ghost use Rattle.bitvec_domain.specs.Loans.{filled_loans, filled_memory};
@@ -198,8 +198,7 @@ impl<R: BitRegister, O> BitSpan<R, O> {
     /// span's can be. Our own, for the Rust crate's domains over a mutable memory.
     pub fn domain_mut<'a>(self, memory: &'a mut [R]) -> DomainMut<'a, R, O>
         requires { Fits R.BITS (span_of self) (length memory.old) }
-        ensures* ends { sem 𝓛 (LendsDomain R.row memory.entry (words_before (span_of self))
-            (body_words R.BITS (span_of self)) result) }
+        ensures* ends { sem 𝓛 (LendsDomain R.row R.BITS (span_of self) memory.entry result) }
         ensures parts { lent_parts R.number result
             ≡ parts_of R.BITS (span_of self) (map R.number memory.old) }
         ensures loans { loans_of result ≡ span_loans R.BITS (span_of self) memory.old }

@@ -7,7 +7,7 @@ ghost use Rattle.bitvec_order.specs.Order.{IsMaskOf};
 ghost use Rattle.bitvec_ptr.specs.Place.{words_met};
 ghost use Rattle.bitvec_domain.specs.Span.{Fits};
 ghost use Rattle.bitvec_domain.specs.Parts.{value_of};
-ghost use Rattle.bitvec_domain.specs.Slot.{slot_part, slot_at, slot_of, EditsPart};
+ghost use Rattle.bitvec_domain.specs.Slot.{slot_at, slot_of};
 ghost use Rattle.bitvec_domain.specs.BitParts.{part_bits};
 ghost use Rattle.bitvec_domain.specs.Stretch.{slot_stretch};
 
@@ -151,7 +151,8 @@ impl<'a, R: BitRegister, O> PartialElementMut<'a, R, O> {
 }
 
 impl<'a, R: BitRegister, O: BitOrder<R>> PartialElementMut<'a, R, O> {
-    ghost use Rattle.bitvec_domain.specs.PartialElementMut.{memory_of, slot_in};
+    ghost use Rattle.bitvec_domain.specs.PartialElementMut.{memory_of, slot_in, PartIsEdited};
+    ghost use Rattle.bitvec_domain.specs.DomainMut.{lent_part};
 
     /// The positions of the bits.
     pub fn mask(&self) -> BitMask<R>
@@ -163,8 +164,7 @@ impl<'a, R: BitRegister, O: BitOrder<R>> PartialElementMut<'a, R, O> {
     /// The digits of the word at the positions of the bits, where they stand in it, and all others
     /// zero.
     pub fn load_value(&self) -> R
-        ensures { R.number result ≡ value_of R.BITS O.at_of
-            (slot_part (slot_in self.now) (map R.number (memory_of self.now).now)) }
+        ensures { R.number result ≡ value_of R.BITS O.at_of (lent_part R.number self.now) }
     {
         self.word().and(self.mask().into_inner())
     }
@@ -176,9 +176,8 @@ impl<'a, R: BitRegister, O: BitOrder<R>> PartialElementMut<'a, R, O> {
     pub fn store_value(&mut self, value: R) -> R
         ensures reference { (memory_of self.new).ghost_name ≡ (memory_of self.old).ghost_name }
         ensures slot { slot_in self.new ≡ slot_in self.old }
-        ensures edit { EditsPart R.BITS O.at_of (slot_in self.old)
-            (λ i. digit (R.number value) (O.at_of i)) (map R.number (memory_of self.old).now)
-            (map R.number (memory_of self.new).now) (R.number result) }
+        ensures edit { PartIsEdited R.number R.BITS O.at_of
+            (λ i. digit (R.number value) (O.at_of i)) self.old self.new (R.number result) }
     {
         let old = self.word();
         let mask = self.mask().into_inner();
@@ -190,11 +189,9 @@ impl<'a, R: BitRegister, O: BitOrder<R>> PartialElementMut<'a, R, O> {
     pub fn invert(&mut self) -> R
         ensures reference { (memory_of self.new).ghost_name ≡ (memory_of self.old).ghost_name }
         ensures slot { slot_in self.new ≡ slot_in self.old }
-        ensures edit { EditsPart R.BITS O.at_of (slot_in self.old)
-            (λ i. not
-            (digit (slice_index (map R.number (memory_of self.old).now) (slot_in self.old).word)
-            (O.at_of i))) (map R.number (memory_of self.old).now)
-            (map R.number (memory_of self.new).now) (R.number result) }
+        ensures edit { PartIsEdited R.number R.BITS O.at_of
+            (λ i. not (digit (lent_part R.number self.old).word (O.at_of i))) self.old self.new
+            (R.number result) }
     {
         let turned = self.word().not();
         self.store_value(turned)
@@ -204,8 +201,7 @@ impl<'a, R: BitRegister, O: BitOrder<R>> PartialElementMut<'a, R, O> {
     pub fn clear(&mut self) -> R
         ensures reference { (memory_of self.new).ghost_name ≡ (memory_of self.old).ghost_name }
         ensures slot { slot_in self.new ≡ slot_in self.old }
-        ensures edit { EditsPart R.BITS O.at_of (slot_in self.old) (λ i. false)
-            (map R.number (memory_of self.old).now) (map R.number (memory_of self.new).now)
+        ensures edit { PartIsEdited R.number R.BITS O.at_of (λ i. false) self.old self.new
             (R.number result) }
     {
         self.store_value(R::ZERO)
@@ -215,8 +211,7 @@ impl<'a, R: BitRegister, O: BitOrder<R>> PartialElementMut<'a, R, O> {
     pub fn set(&mut self) -> R
         ensures reference { (memory_of self.new).ghost_name ≡ (memory_of self.old).ghost_name }
         ensures slot { slot_in self.new ≡ slot_in self.old }
-        ensures edit { EditsPart R.BITS O.at_of (slot_in self.old) (λ i. true)
-            (map R.number (memory_of self.old).now) (map R.number (memory_of self.new).now)
+        ensures edit { PartIsEdited R.number R.BITS O.at_of (λ i. true) self.old self.new
             (R.number result) }
     {
         self.store_value(R::ALL)

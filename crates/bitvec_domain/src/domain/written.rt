@@ -9,7 +9,7 @@ ghost use Rattle.bitvec_domain.specs.Pieces.{names_of};
 ghost use Rattle.bitvec_domain.specs.BitLoans.{names_if, loans_len};
 ghost use Rattle.bitvec_domain.specs.Written.{IsWritten, StretchIsWritten, LoanIsWritten};
 ghost use Rattle.bitvec_domain.specs.Written.{LoansAreWritten};
-ghost use Rattle.bitvec_domain.specs.BitWordsMut.{words_memory, stretch_in};
+ghost use Rattle.bitvec_domain.specs.BitWordsMut.{words_memory, memory_numbers, stretch_in};
 ghost use Rattle.bitvec_domain.specs.BitDomainMut.{words_loan, bit_loan_names, bit_loans_of};
 
 use crate::domain::{BitDomainMut, BitWordsMut};
@@ -26,7 +26,7 @@ impl<'a, R: BitRegister, O: BitOrder<R>> BitWordsMut<'a, R, O> {
             ≡ (words_memory self.old).ghost_name }
         ensures stretch { stretch_in self.new ≡ stretch_in self.old }
         ensures written { StretchIsWritten R.BITS O.at_of bits.now from (stretch_in self.old)
-            (map R.number (words_memory self.old).now) (map R.number (words_memory self.new).now) }
+            (memory_numbers R.number self.old) (memory_numbers R.number self.new) }
     {
         for i in 0..self.len() {
             self.replace(i, bits[from + i]);

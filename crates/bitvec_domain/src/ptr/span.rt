@@ -8,7 +8,7 @@ ghost use Rattle.std.specs.Fmt.{DisplaysOnOk, WritesStyledOnOk};
 ghost use Rattle.bitvec_ptr.specs.Place.{place_at, place_of, words_met, tail_of, greatest_isize};
 ghost use Rattle.bitvec_ptr.specs.Steps.{CanOffset, IsIn};
 ghost use Rattle.bitvec_domain.specs.Span.{region_max_bits, Span, Fits, AreDisjoint};
-ghost use Rattle.bitvec_domain.specs.Span.{span_places, list_of};
+ghost use Rattle.bitvec_domain.specs.Span.{span_places, span_upto, span_from, list_of};
 ghost use Rattle.bitvec_domain.specs.Parts.{part_head, part_tail};
 ghost use Rattle.bitvec_domain.specs.SpanText.{case_text};
 ghost use Rattle.bitvec_domain.specs.Refusals.{signed_text, too_long_text, too_high_text};
@@ -382,8 +382,7 @@ impl<R: BitRegister, O> BitSpan<R, O> {
     // The first `mid` bits of the span.
     fn bits_before(self, mid: usize) -> Self
         requires { mid ≤ (span_of self).len }
-        ensures { span_of result
-            ≡ record { word = (span_of self).word; head = (span_of self).head; len = mid } }
+        ensures { span_of result ≡ span_upto (span_of self) mid }
     {
         BitSpan {
             word: self.word,
@@ -396,13 +395,7 @@ impl<R: BitRegister, O> BitSpan<R, O> {
     // The bits of the span from its bit `mid` on; none where that is its end.
     fn bits_from(self, mid: usize) -> Self
         requires { mid ≤ (span_of self).len }
-        ensures { span_of result
-            ≡ record {
-              word = (span_of self).word +ℤ pos (((span_of self).head + mid) / R.BITS);
-              head =
-                  ((span_of self).head + mid) % R.BITS;
-              len = (span_of self).len - mid;
-            } }
+        ensures { span_of result ≡ span_from R.BITS (span_of self) mid }
     {
         let start = self.to_bitptr().add(mid);
         BitSpan {
@@ -422,15 +415,8 @@ impl<R: BitRegister, O> BitSpan<R, O> {
     /// Our own.
     pub fn split_at(self, mid: usize) -> (Self, Self)
         requires { mid ≤ (span_of self).len }
-        ensures first { span_of result.0
-            ≡ record { word = (span_of self).word; head = (span_of self).head; len = mid } }
-        ensures second { span_of result.1
-            ≡ record {
-              word = (span_of self).word +ℤ pos (((span_of self).head + mid) / R.BITS);
-              head =
-                  ((span_of self).head + mid) % R.BITS;
-              len = (span_of self).len - mid;
-            } }
+        ensures first { span_of result.0 ≡ span_upto (span_of self) mid }
+        ensures second { span_of result.1 ≡ span_from R.BITS (span_of self) mid }
         ensures disjoint { AreDisjoint R.BITS (span_of result.0) (span_of result.1) }
         ensures fit { (words : ℕ) → Fits R.BITS (span_of self) words
             → Fits R.BITS (span_of result.0) words × Fits R.BITS (span_of result.1) words }
