@@ -1,14 +1,11 @@
 //! Copies by their words: what is put, how often, and where the mark ends.
 
-ghost use Rattle.std.specs.Prelude.{◌≡◌, ◌<◌, pos};
-ghost use Rattle.bitvec_ptr.specs.BitPtr.{ptr_of};
-
+use crate::common::{bit_at, same};
 use bitvec_mem::mem::BitRegister;
 use bitvec_order::index::BitIdx;
 use bitvec_order::order::{BitOrder, Lsb0, Msb0};
 use bitvec_ptr::ptr::single::BitPtr;
 use bitvec_ptr::ptr::writer::WordWriter;
-use std::test::Fail;
 
 // The pointer at a place from 0 on.
 fn at<R: BitRegister, O>(place: u16) -> BitPtr<R, O> {
@@ -23,59 +20,61 @@ fn progress<R: Copy>(writer: &WordWriter<R>) -> (usize, usize) {
 }
 
 #[test]
-fn counts_a_copy_between_registers_and_orders(rt: HostRuntime) -> Result<(), Fail> {
-    let source = [0x8001u16];
+fn counts_a_copy_between_registers_and_orders(rt: HostRuntime) {
     let mut target = [0u8; 2];
-    let (from, dest) = (at::<u16, Msb0>(0), at::<u8, Lsb0>(0));
-    assert!(rt; from.run_in(source.len(), 16) && dest.run_in(target.len(), 16));
+    let (from, dest) = (bit_at::<u16, Msb0>(0, 0), bit_at::<u8, Lsb0>(0, 0));
     let mut writer = WordWriter::rising(&mut target);
-    from.copy_through(&source, dest, &mut writer, 16);
-    assert_eq!(rt; progress(&writer), (2, 2));
-    assert_eq!(rt; target, [0x01, 0x80]);
+    from.copy_through(&[0x8001], dest, &mut writer, 16);
+    same(&rt, progress(&writer), (2, 2));
+    same(&rt, target, [0x01, 0x80]);
+}
+
+#[test]
+fn counts_a_copy_from_the_last_word_on(rt: HostRuntime) {
+    let mut target = [0u8; 2];
+    let (from, dest) = (bit_at::<u16, Msb0>(0, 0), bit_at::<u8, Lsb0>(0, 0));
     let mut writer = WordWriter::falling(&mut target);
-    from.copy_through(&source, dest, &mut writer, 16);
-    assert_eq!(rt; progress(&writer), (2, 0));
-    assert_eq!(rt; target, [0x01, 0x80]);
-    Ok(())
+    from.copy_through(&[0x8001], dest, &mut writer, 16);
+    same(&rt, progress(&writer), (2, 0));
+    same(&rt, target, [0x01, 0x80]);
 }
 
 #[test]
 fn copies_no_bit_behind_the_last_word(rt: HostRuntime) {
     let source = [1u8, 2, 3];
     let mut memory = [4u8, 5, 6];
-    let end = at::<u8, Lsb0>(24);
-    assert!(rt; end.run_in(source.len(), 0) && end.run_in(memory.len(), 0));
+    let end = bit_at::<u8, Lsb0>(3, 0);
     end.copy_to(&source, end, &mut memory, 0);
     end.copy_to_nonoverlapping(&source, end, &mut memory, 0);
     end.copy_from(&mut memory, end, &source, 0);
     end.copy_from_nonoverlapping(&mut memory, end, &source, 0);
-    assert_eq!(rt; memory, [4, 5, 6]);
+    same(&rt, memory, [4, 5, 6]);
 }
 
 #[test]
 fn copies_no_bit_within_behind_the_last_word(rt: HostRuntime) {
     let mut memory = [4u8, 5, 6];
-    let end = at::<u8, Lsb0>(24);
-    assert!(rt; end.run_in(memory.len(), 0));
+    let end = bit_at::<u8, Lsb0>(3, 0);
     end.copy_within(&mut memory, end, 0);
     end.copy_from_within(&mut memory, end, 0);
     end.copy_within_nonoverlapping(&mut memory, end, 0);
-    assert_eq!(rt; memory, [4, 5, 6]);
+    same(&rt, memory, [4, 5, 6]);
 }
 
 #[test]
 fn counts_no_copy_of_no_bits(rt: HostRuntime) {
-    let source = [1u8, 2, 3];
     let mut memory = [4u8, 5, 6];
-    let end = at::<u8, Lsb0>(24);
-    assert!(rt; end.run_in(source.len(), 0) && end.run_in(memory.len(), 0));
+    let end = bit_at::<u8, Lsb0>(3, 0);
     let mut writer = WordWriter::falling(&mut memory);
     writer.skip_to(1);
-    end.copy_through(&source, end, &mut writer, 0);
+    end.copy_through(&[1, 2, 3], end, &mut writer, 0);
     end.copy_within_through(end, &mut writer, 0);
-    assert!(rt; !writer.is_rising());
-    assert_eq!(rt; progress(&writer), (0, 1));
-    assert_eq!(rt; memory, [4, 5, 6]);
+    same(
+        &rt,
+        (progress(&writer), writer.is_rising()),
+        ((0, 1), false),
+    );
+    same(&rt, memory, [4, 5, 6]);
 }
 
 // Sixteen bits copied from place `from` of two words to place `to` of two words.
@@ -100,94 +99,88 @@ fn copied_each_way<O: BitOrder<u16>, O2: BitOrder<u16>>() -> [[u16; 2]; 3] {
 
 #[test]
 fn copies_words_in_each_way(rt: HostRuntime) {
-    assert_eq!(rt;
+    same(
+        &rt,
         copied_each_way::<Lsb0, Lsb0>(),
-        [[0x1230, 0x000D], [0x2300, 0x00D1], [0xD120, 0x000C]]
+        [[0x1230, 0x000D], [0x2300, 0x00D1], [0xD120, 0x000C]],
     );
-    assert_eq!(rt;
+    same(
+        &rt,
         copied_each_way::<Msb0, Msb0>(),
-        [[0x0234, 0xA000], [0x0023, 0x4A00], [0x034A, 0xB000]]
+        [[0x0234, 0xA000], [0x0023, 0x4A00], [0x034A, 0xB000]],
     );
-    assert_eq!(rt;
+    same(
+        &rt,
         copied_each_way::<Lsb0, Msb0>(),
-        [[0x0C48, 0xB000], [0x00C4, 0x8B00], [0x048B, 0x3000]]
+        [[0x0C48, 0xB000], [0x00C4, 0x8B00], [0x048B, 0x3000]],
     );
-    assert_eq!(rt;
+    same(
+        &rt,
         copied_each_way::<Msb0, Lsb0>(),
-        [[0x2C40, 0x0005], [0xC400, 0x0052], [0x52C0, 0x000D]]
+        [[0x2C40, 0x0005], [0xC400, 0x0052], [0x52C0, 0x000D]],
     );
-}
-
-// The pointer to a bit of the first word.
-fn in_first<O>(bit: u8) -> BitPtr<u8, O>
-    requires { bit < 8 }
-    ensures word { (ptr_of result).word ≡ pos 0 }
-    ensures bit { (ptr_of result).bit ≡ bit }
-{
-    BitPtr::new(0, BitIdx::new_unchecked(bit))
 }
 
 #[test]
-fn counts_a_copy_up_in_one_word(rt: HostRuntime) -> Result<(), Fail> {
+fn counts_a_copy_up_in_one_word(rt: HostRuntime) {
     let mut memory = [0x0Du8];
     let mut writer = WordWriter::falling(&mut memory);
-    in_first::<Lsb0>(0).copy_within_through(in_first(2), &mut writer, 6);
-    assert_eq!(rt; progress(&writer), (1, 0));
-    assert_eq!(rt; memory, [0x35]);
-    Ok(())
+    bit_at::<u8, Lsb0>(0, 0).copy_within_through(bit_at(0, 2), &mut writer, 6);
+    same(&rt, progress(&writer), (1, 0));
+    same(&rt, memory, [0x35]);
 }
 
 #[test]
-fn counts_a_copy_of_nibbles_down(rt: HostRuntime) -> Result<(), Fail> {
+fn counts_a_copy_of_nibbles_down(rt: HostRuntime) {
     let mut memory = [0x12u8, 0x34, 0x56];
     let mut writer = WordWriter::rising(&mut memory);
-    in_first::<Msb0>(4).copy_within_through(in_first(0), &mut writer, 16);
-    assert_eq!(rt; progress(&writer), (2, 2));
-    assert_eq!(rt; memory, [0x23, 0x45, 0x56]);
-    Ok(())
+    bit_at::<u8, Msb0>(0, 4).copy_within_through(bit_at(0, 0), &mut writer, 16);
+    same(&rt, progress(&writer), (2, 2));
+    same(&rt, memory, [0x23, 0x45, 0x56]);
 }
 
 #[test]
-fn counts_a_copy_up_over_three_words(rt: HostRuntime) -> Result<(), Fail> {
+fn counts_a_copy_up_over_three_words(rt: HostRuntime) {
     let mut memory = [0x12u8, 0x34, 0x56];
     let mut writer = WordWriter::falling(&mut memory);
-    in_first::<Lsb0>(0).copy_within_through(in_first(4), &mut writer, 16);
-    assert_eq!(rt; progress(&writer), (3, 0));
-    assert_eq!(rt; memory, [0x22, 0x41, 0x53]);
-    Ok(())
+    bit_at::<u8, Lsb0>(0, 0).copy_within_through(bit_at(0, 4), &mut writer, 16);
+    same(&rt, progress(&writer), (3, 0));
+    same(&rt, memory, [0x22, 0x41, 0x53]);
 }
 
 #[test]
-fn counts_two_copies_through_one_writer(rt: HostRuntime) -> Result<(), Fail> {
-    let source = [0xFFu8, 0xFF];
+fn counts_two_copies_through_one_writer(rt: HostRuntime) {
     let mut memory = [0u8; 3];
-    let from = in_first::<Lsb0>(0);
+    let from = bit_at::<u8, Lsb0>(0, 0);
     let mut writer = WordWriter::rising(&mut memory);
-    from.copy_through(&source, in_first::<Lsb0>(4), &mut writer, 8);
-    assert_eq!(rt; progress(&writer), (2, 2));
-    let third: BitPtr<u8, Lsb0> = BitPtr::new(2, BitIdx::new_unchecked(0));
-    assert!(rt; writer.mark() == 2);
-    from.copy_through(&source, third, &mut writer, 8);
-    assert_eq!(rt; progress(&writer), (3, 3));
-    assert_eq!(rt; memory, [0xF0, 0x0F, 0xFF]);
-    Ok(())
+    from.copy_through(&[0xFF], bit_at::<u8, Lsb0>(0, 4), &mut writer, 8);
+    same(&rt, progress(&writer), (2, 2));
+    from.copy_through(&[0xFF], bit_at::<u8, Lsb0>(2, 0), &mut writer, 8);
+    same(&rt, progress(&writer), (3, 3));
+    same(&rt, memory, [0xF0, 0x0F, 0xFF]);
 }
 
-// A word of the sixth register to bytes of the other order, and back.
+// A word of the sixth register, and its bits as bytes of the other order.
+const WORD: [u128; 1] = [0x8000_0000_0000_0000_0000_0000_0000_0001];
+
+const BYTES: [u8; 16] = [1, 0, 0, 0, 0, 0, 0, 0, 0, 0, 0, 0, 0, 0, 0, 0x80];
+
 #[test]
-fn copies_a_word_of_128_bits(rt: HostRuntime) -> Result<(), Fail> {
-    let source = [0x8000_0000_0000_0000_0000_0000_0000_0001u128];
+fn copies_a_word_of_128_bits(rt: HostRuntime) {
     let mut bytes = [0xFFu8; 16];
-    let (word, first) = (at::<u128, Msb0>(0), at::<u8, Lsb0>(0));
-    assert!(rt; word.run_in(1, 128) && first.run_in(16, 128));
     let mut writer = WordWriter::rising(&mut bytes);
-    word.copy_through(&source, first, &mut writer, 128);
-    assert_eq!(rt; progress(&writer), (16, 16));
-    assert_eq!(rt; bytes, [1, 0, 0, 0, 0, 0, 0, 0, 0, 0, 0, 0, 0, 0, 0, 0x80]);
+    let (word, first) = (bit_at::<u128, Msb0>(0, 0), bit_at::<u8, Lsb0>(0, 0));
+    word.copy_through(&WORD, first, &mut writer, 128);
+    same(&rt, progress(&writer), (16, 16));
+    same(&rt, bytes, BYTES);
+}
+
+#[test]
+fn copies_bytes_to_a_word_of_128_bits(rt: HostRuntime) {
     let mut words = [0u128];
-    first.copy_to(&bytes, word, &mut words, 128);
-    assert_eq!(rt; words, source);
-    Ok(())
+    let (first, word) = (bit_at::<u8, Lsb0>(0, 0), bit_at::<u128, Msb0>(0, 0));
+    first.copy_to(&BYTES, word, &mut words, 128);
+    same(&rt, words, WORD);
 }
 
 // The bits of three words in a list, each at its index, or with the indices of a word turned round.
@@ -219,13 +212,19 @@ fn moves_as_in_a_list<O: BitOrder<u64>>(turned: bool, from: u16, to: u16) -> boo
     list_of(memory, turned) == list
 }
 
+// The same at so many places up and down, under both orders.
+fn moves_up_and_down(distance: u16) -> [bool; 4] {
+    [
+        moves_as_in_a_list::<Lsb0>(false, 0, distance),
+        moves_as_in_a_list::<Lsb0>(false, distance, 0),
+        moves_as_in_a_list::<Msb0>(true, 0, distance),
+        moves_as_in_a_list::<Msb0>(true, distance, 0),
+    ]
+}
+
 #[test]
-fn moves_bits_every_distance(rt: HostRuntime) -> Result<(), Fail> {
+fn moves_bits_every_distance(rt: HostRuntime) {
     for distance in 0..131 {
-        assert!(rt; moves_as_in_a_list::<Lsb0>(false, 0, distance));
-        assert!(rt; moves_as_in_a_list::<Lsb0>(false, distance, 0));
-        assert!(rt; moves_as_in_a_list::<Msb0>(true, 0, distance));
-        assert!(rt; moves_as_in_a_list::<Msb0>(true, distance, 0));
+        same(&rt, moves_up_and_down(distance), [true; 4]);
     }
-    Ok(())
 }

@@ -3,28 +3,16 @@
 //! Each condition at its edge is first known from the contracts alone, by a function that calls
 //! without a test or says what the test returns.
 
-ghost use Rattle.std.specs.Prelude.{◌≡◌, pos, ◌-ℤ◌, ◌<◌, IsTrue};
+ghost use Rattle.std.specs.Prelude.{◌≡◌, pos, ◌-ℤ◌, IsTrue};
 ghost use Rattle.bitvec_ptr.specs.BitPtr.{ptr_of};
 ghost use Rattle.bitvec_ptr.specs.BitPtrRange.{range_of};
 ghost use Rattle.bitvec_ptr.specs.PtrRange.{count_of};
 
-use bitvec_order::index::{BitIdx, Limits};
+use crate::common::{bit_at, holds, parts, same};
 use bitvec_order::order::Lsb0;
 use bitvec_ptr::ptr::range::BitPtrRange;
 use bitvec_ptr::ptr::single::BitPtr;
-
-// The pointer to a bit of a word of eight.
-fn at(word: isize, bit: u8) -> BitPtr<u8, Lsb0>
-    requires { bit < 8 }
-    ensures { ptr_of result ≡ record { word = word; bit = bit } }
-{
-    BitPtr::new(word, BitIdx::new_unchecked(bit))
-}
-
-// Its word and its bit.
-fn parts(pointer: BitPtr<u8, Lsb0>) -> (isize, u8) {
-    (pointer.address(), pointer.bit().into_inner())
-}
+use std::process::Abort;
 
 // The greatest word that a pointer a distance of an `isize` from place 0 has.
 const FAR: isize = 1152921504606846975;
@@ -39,14 +27,17 @@ fn steps_back(lowest: BitPtr<u8, Lsb0>) -> bool
 
 #[test]
 fn no_step_leaves_the_word_index(rt: HostRuntime) {
-    let first = at(isize::MIN, 0);
-    assert!(rt; !steps_back(first));
-    assert!(rt; first.can_offset(0) && first.can_offset(1));
-    assert_eq!(rt; parts(first.wrapping_sub(1)), (isize::MAX, 7));
-    let last: BitPtr<u8, Lsb0> = BitPtr::new(isize::MAX, BitIdx::MAX);
-    assert!(rt; !last.can_offset(1));
-    assert!(rt; last.can_offset(-1));
-    assert_eq!(rt; parts(last.wrapping_add(1)), (isize::MIN, 0));
+    let first = bit_at(isize::MIN, 0);
+    let can = [steps_back(first), first.can_offset(0), first.can_offset(1)];
+    same(&rt, can, [false, true, true]);
+    same(&rt, parts(first.wrapping_sub(1)), (isize::MAX, 7));
+    let last = bit_at::<u8, Lsb0>(isize::MAX, 7);
+    same(
+        &rt,
+        [last.can_offset(1), last.can_offset(-1)],
+        [false, true],
+    );
+    same(&rt, parts(last.wrapping_add(1)), (isize::MIN, 0));
 }
 
 // The greatest distance, measured without a test.
@@ -78,13 +69,11 @@ fn measures_past(far: BitPtr<u8, Lsb0>, origin: BitPtr<u8, Lsb0>) -> bool
 
 #[test]
 fn a_distance_is_an_isize(rt: HostRuntime) {
-    let origin = at(0, 0);
-    assert_eq!(rt; greatest_distance(at(FAR, 7), origin), isize::MAX);
-    assert_eq!(rt;
-        least_distance(at(-1152921504606846976, 0), origin),
-        isize::MIN
-    );
-    assert!(rt; !measures_past(at(1152921504606846976, 0), origin));
+    let origin = bit_at(0, 0);
+    let (greatest, least) = (bit_at(FAR, 7), bit_at(-1152921504606846976, 0));
+    same(&rt, greatest_distance(greatest, origin), isize::MAX);
+    same(&rt, least_distance(least, origin), isize::MIN);
+    holds(&rt, !measures_past(bit_at(1152921504606846976, 0), origin));
 }
 
 // The greatest range, made without a test.
@@ -103,37 +92,45 @@ fn ends(range: &BitPtrRange<u8, Lsb0>) -> [(isize, u8); 2] {
 
 #[test]
 fn takes_the_last_place_of_the_greatest_range(rt: HostRuntime) {
-    let mut range = greatest_range(at(0, 0), at(FAR, 7));
-    assert_eq!(rt; range.len(), 9223372036854775807);
-    assert_eq!(rt; range.nth(9223372036854775806).map(parts), Some((FAR, 6)));
-    assert!(rt; range.is_empty());
-    assert_eq!(rt; ends(&range), [(FAR, 7), (FAR, 7)]);
+    let mut range = greatest_range(bit_at(0, 0), bit_at(FAR, 7));
+    same(&rt, range.len(), 9223372036854775807);
+    let last = range.nth(9223372036854775806).map(parts::<u8, Lsb0>);
+    same(&rt, last, Some((FAR, 6)));
+    holds(&rt, range.is_empty());
+    same(&rt, ends(&range), [(FAR, 7), (FAR, 7)]);
 }
 
 #[test]
 fn takes_no_place_past_the_greatest_range(rt: HostRuntime) {
-    let mut range = greatest_range(at(0, 0), at(FAR, 7));
-    assert!(rt; range.nth_back(usize::MAX).is_none());
-    assert!(rt; range.is_empty());
-    assert_eq!(rt; ends(&range), [(0, 0), (0, 0)]);
-    let ends = at(0, 0)..at(FAR + 1, 0);
-    assert!(rt; !BitPtrRange::can_range(&ends));
+    let mut range = greatest_range(bit_at(0, 0), bit_at(FAR, 7));
+    holds(&rt, range.nth_back(usize::MAX).is_none());
+    holds(&rt, range.is_empty());
+    same(&rt, ends(&range), [(0, 0), (0, 0)]);
+    let past = bit_at::<u8, Lsb0>(0, 0)..bit_at(FAR + 1, 0);
+    holds(&rt, !BitPtrRange::can_range(&past));
+}
+
+// The range of the last place that has a place behind it, where the test lets it be made.
+fn last_range(rt: &impl Abort) -> BitPtrRange<u8, Lsb0> {
+    let ends = bit_at(isize::MAX, 6)..bit_at(isize::MAX, 7);
+    holds(rt, BitPtrRange::can_range(&ends));
+    BitPtrRange::from_range(ends)
 }
 
 #[test]
 fn takes_the_last_place_from_the_front(rt: HostRuntime) {
-    let ends = at(isize::MAX, 6)..at(isize::MAX, 7);
-    assert!(rt; BitPtrRange::can_range(&ends));
-    let mut range = BitPtrRange::from_range(ends);
-    assert_eq!(rt; range.next().map(parts), Some((isize::MAX, 6)));
-    assert!(rt; range.next().is_none() && range.next_back().is_none());
+    let mut range = last_range(&rt);
+    let last = range.next().map(parts::<u8, Lsb0>);
+    same(&rt, last, Some((isize::MAX, 6)));
+    holds(&rt, range.next().is_none());
+    holds(&rt, range.next_back().is_none());
 }
 
 #[test]
 fn takes_the_last_place_from_the_back(rt: HostRuntime) {
-    let ends = at(isize::MAX, 6)..at(isize::MAX, 7);
-    assert!(rt; BitPtrRange::can_range(&ends));
-    let mut range = BitPtrRange::from_range(ends);
-    assert_eq!(rt; range.next_back().map(parts), Some((isize::MAX, 6)));
-    assert!(rt; range.next_back().is_none() && range.next().is_none());
+    let mut range = last_range(&rt);
+    let last = range.next_back().map(parts::<u8, Lsb0>);
+    same(&rt, last, Some((isize::MAX, 6)));
+    holds(&rt, range.next_back().is_none());
+    holds(&rt, range.next().is_none());
 }

@@ -7,8 +7,8 @@ ghost use Rattle.bitvec_ptr.specs.BitPtr.{ptr_of};
 ghost use Rattle.bitvec_ptr.specs.Place.{Ptr, place_of};
 ghost use Rattle.bitvec_ptr.specs.Steps.{CanOffset, distance, wrapped_ptr};
 
+use crate::common::{bit_at, holds, parts, same};
 use bitvec_mem::mem::BitRegister;
-use bitvec_order::index::BitIdx;
 use bitvec_order::order::Lsb0;
 use bitvec_ptr::ptr::single::BitPtr;
 use std::cmp::Ordering;
@@ -65,10 +65,15 @@ fn pointers_are_equal_at_one_place<R: BitRegister, O>(
 
 #[test]
 fn steps_and_places_of_pointers(rt: HostRuntime) {
-    let pointer: BitPtr<u8, Lsb0> = BitPtr::new(2, BitIdx::new_unchecked(5));
-    assert_eq!(rt; offset_from_undoes_offset(pointer, -30), -30);
-    assert!(rt; wrapping_sub_undoes_wrapping_add(pointer, 100) == pointer);
+    let pointer = bit_at::<u8, Lsb0>(2, 5);
+    same(&rt, offset_from_undoes_offset(pointer, -30), -30);
+    let back = wrapping_sub_undoes_wrapping_add(pointer, 100);
+    same(&rt, parts(back), (2, 5));
     let next = pointer.add(1);
-    assert_eq!(rt; pointers_compare_as_places(pointer, next), Ordering::Less);
-    assert!(rt; !pointers_are_equal_at_one_place(pointer, next));
+    same(
+        &rt,
+        pointers_compare_as_places(pointer, next),
+        Ordering::Less,
+    );
+    holds(&rt, !pointers_are_equal_at_one_place(pointer, next));
 }
