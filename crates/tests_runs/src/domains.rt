@@ -1,8 +1,10 @@
 //! Domains of worked examples, from both ends, as texts, as bits and for writing.
 
-use crate::spans::span_at;
-use bitvec::domain::{BitDomain, BitDomainMut, BitWords, Domain, DomainMut, PartialElement};
-use bitvec::index::BitIdx;
+use crate::spans::{shape, span_at};
+use bitvec::domain::{
+    BitDomain, BitDomainMut, BitWords, BitWordsMut, Domain, DomainMut, PartialElement,
+    PartialElementMut,
+};
 use bitvec::mem::BitRegister;
 use bitvec::order::{BitOrder, Lsb0, Msb0};
 use bitvec::ptr::span::BitSpan;
@@ -10,24 +12,7 @@ use std::alloc::{AllocError, Global};
 use std::fmt;
 use std::test::Fail;
 
-// The first item of the eight bits from place 4 on.
-fn middle(memory: &[u8]) -> Option<u8> {
-    let head = BitIdx::new(4).ok()?;
-    let span: BitSpan<u8, Lsb0> = BitSpan::new(0, head, 8).ok()?;
-    if span.fits(memory.len()) {
-        span.domain(memory).next()
-    } else {
-        None
-    }
-}
-
-#[test]
-fn reads_through_a_span(rt: HostRuntime) {
-    assert_eq!(rt; middle(&[0x12, 0x34, 0x56]), Some(0x10));
-    assert_eq!(rt; middle(&[0x12]), None);
-}
-
-// The domain of that span in a memory.
+// The domain of the span of `len` bits from a place on in a memory, where it fits.
 fn domain_at<R: BitRegister, O: BitOrder<R>>(
     memory: &[R],
     start: u32,
@@ -41,7 +26,123 @@ fn domain_at<R: BitRegister, O: BitOrder<R>>(
     }
 }
 
-// A domain in a base other than ten, for format texts.
+// What a domain gives at six calls, from the front where a step is true, and else from the back.
+fn taken<R: BitRegister, O: BitOrder<R>>(domain: Domain<R, O>, steps: [bool; 6]) -> [Option<R>; 6] {
+    let mut domain = domain;
+    let mut items = [None; 6];
+    for i in 0..6 {
+        items[i] = if steps[i] {
+            domain.next()
+        } else {
+            domain.next_back()
+        };
+    }
+    items
+}
+
+// How many items a span's domain has, and how many once the first and the last are taken.
+fn counts(memory: &[u8], start: u32, len: usize) -> Option<(usize, usize)> {
+    let span = span_at::<u8, Lsb0>(start, len)?;
+    if !span.fits(memory.len()) {
+        return None;
+    }
+    let mut domain = span.domain(memory);
+    let all = domain.len();
+    let _first = domain.next();
+    let _last = domain.next_back();
+    Some((all, domain.len()))
+}
+
+#[test]
+fn takes_items_from_both_ends(rt: HostRuntime) -> Result<(), Fail> {
+    let memory = [0x12u8, 0x34, 0x56];
+    let (front, back) = (true, false);
+    for (start, len, steps, want) in [
+        (
+            4,
+            8,
+            [front, back, front, back, back, front],
+            [Some(0x10), Some(0x04), None, None, None, None],
+        ),
+        (
+            4,
+            16,
+            [back, back, back, back, front, front],
+            [Some(0x06), Some(0x34), Some(0x10), None, None, None],
+        ),
+        (
+            4,
+            16,
+            [front, back, front, front, back, front],
+            [Some(0x10), Some(0x06), Some(0x34), None, None, None],
+        ),
+        (
+            18,
+            4,
+            [back, front, back, front, back, back],
+            [Some(0x14), None, None, None, None, None],
+        ),
+    ] {
+        let domain = domain_at::<u8, Lsb0>(&memory, start, len).ok_or("does not fit")?;
+        assert_eq!(rt; taken(domain, steps), want, "at {start}+{len}");
+    }
+    Ok(())
+}
+
+#[test]
+fn counts_its_items(rt: HostRuntime) {
+    let memory = [0x12u8, 0x34, 0x56];
+    for (start, len, want) in [
+        (4, 8, (2, 0)),
+        (4, 16, (3, 1)),
+        (0, 24, (3, 1)),
+        (2, 4, (1, 0)),
+        (18, 4, (1, 0)),
+        (3, 0, (0, 0)),
+        (0, 0, (0, 0)),
+    ] {
+        assert_eq!(rt; counts(&memory, start, len), Some(want), "at {start}+{len}");
+    }
+}
+
+// The number of items of a region whose head and whose tail are the last four bits of a byte, round
+// one whole word, and these items from either end.
+fn twice_round(byte: &[u8], body: &[u8]) -> Option<(usize, [[Option<u8>; 6]; 2])> {
+    let span = span_at::<u8, Lsb0>(4, 4)?;
+    if !span.fits(byte.len()) || body.len() != 1 {
+        return None;
+    }
+    let (head, _, _) = span.domain(byte).region()?;
+    let domain = Domain::Region {
+        head,
+        body,
+        tail: head,
+    };
+    let items = [taken(domain, [true; 6]), taken(domain, [false; 6])];
+    Some((domain.len(), items))
+}
+
+#[test]
+fn gives_the_items_of_a_region_of_ones_own(rt: HostRuntime) {
+    let items = [Some(0x10), Some(0xFF), Some(0x10), None, None, None];
+    assert_eq!(rt; twice_round(&[0x12], &[0xFF]), Some((3, [items; 2])));
+}
+
+// Which parts the domain for writing of no span has.
+fn default_shape() -> Option<(bool, usize, bool)> {
+    let none: DomainMut<u16, Msb0> = DomainMut::default();
+    let (head, body, tail) = none.region()?;
+    Some((head.is_some(), body.len(), tail.is_some()))
+}
+
+#[test]
+fn is_empty_by_default(rt: HostRuntime) {
+    let none: Domain<u16, Msb0> = Domain::default();
+    let shapes = [shape(none), default_shape()];
+    assert_eq!(rt; shapes, [Some((false, 0, false)); 2]);
+}
+
+// A domain in a base, for format texts.
 #[derive(Drop)]
 struct InBase<'a, R: BitRegister, O> {
     domain: Domain<'a, R, O>,
@@ -53,127 +154,10 @@ impl<'a, R: BitRegister, O: BitOrder<R>> fmt::Display for InBase<'a, R, O> {
         match self.base {
             2 => fmt::Binary::fmt(&self.domain, f),
             8 => fmt::Octal::fmt(&self.domain, f),
+            10 => fmt::Display::fmt(&self.domain, f),
             16 => fmt::LowerHex::fmt(&self.domain, f),
             _ => fmt::UpperHex::fmt(&self.domain, f),
         }
-    }
-}
-
-#[test]
-fn takes_items_from_both_ends(rt: HostRuntime) -> Result<(), Fail> {
-    let memory = [0x12u8, 0x34, 0x56];
-    let mut domain = domain_at::<u8, Lsb0>(&memory, 4, 8).ok_or("does not fit")?;
-    assert_eq!(rt; domain.next(), Some(0x10));
-    assert_eq!(rt; domain.next_back(), Some(0x04));
-    assert_eq!(rt; (domain.next(), domain.next_back()), (None, None));
-    Ok(())
-}
-
-#[test]
-fn takes_items_from_the_back(rt: HostRuntime) -> Result<(), Fail> {
-    let memory = [0x12u8, 0x34, 0x56];
-    let mut domain = domain_at::<u8, Lsb0>(&memory, 4, 16).ok_or("does not fit")?;
-    assert_eq!(rt; domain.next_back(), Some(0x06));
-    assert_eq!(rt; domain.next_back(), Some(0x34));
-    assert_eq!(rt; domain.next_back(), Some(0x10));
-    assert_eq!(rt; domain.next_back(), None);
-    let mut domain = domain_at::<u8, Lsb0>(&memory, 18, 4).ok_or("does not fit")?;
-    assert_eq!(rt; domain.next_back(), Some(0x14));
-    assert_eq!(rt; domain.next(), None);
-    Ok(())
-}
-
-// How many items are left of a span's domain, once the first and the last are taken.
-fn count_inner<R: BitRegister, O: BitOrder<R>>(span: BitSpan<R, O>, memory: &[R]) -> Option<usize> {
-    if !span.fits(memory.len()) {
-        return None;
-    }
-    let mut domain = span.domain(memory);
-    let _first = domain.next();
-    let _last = domain.next_back();
-    Some(domain.len())
-}
-
-#[test]
-fn counts_what_is_left(rt: HostRuntime) -> Result<(), Fail> {
-    let memory = [0x12u8, 0x34, 0x56];
-    for (start, len, want) in [(4, 16, 1), (0, 24, 1), (4, 8, 0), (18, 4, 0), (3, 0, 0)] {
-        let span: BitSpan<u8, Lsb0> = span_at(start, len).ok_or("refused")?;
-        assert_eq!(rt; count_inner(span, &memory), Some(want), "at {start}+{len}");
-    }
-    Ok(())
-}
-
-#[test]
-fn gives_none_for_good(rt: HostRuntime) -> Result<(), Fail> {
-    let memory = [0x12u8, 0x34, 0x56];
-    let mut domain = domain_at::<u8, Lsb0>(&memory, 4, 16).ok_or("does not fit")?;
-    assert_eq!(rt; domain.next(), Some(0x10));
-    assert_eq!(rt; domain.next_back(), Some(0x06));
-    assert_eq!(rt; domain.next(), Some(0x34));
-    for _ in 0..3 {
-        assert_eq!(rt; domain.next(), None);
-        assert_eq!(rt; domain.next_back(), None);
-    }
-    Ok(())
-}
-
-// A region whose head and whose tail are the last four bits of a byte, round one whole word, and
-// how many items it has.
-fn twice_round<'a>(byte: &'a [u8], body: &'a [u8]) -> Option<(Domain<'a, u8, Lsb0>, usize)> {
-    let span: BitSpan<u8, Lsb0> = span_at(4, 4)?;
-    if !span.fits(byte.len()) || body.len() != 1 {
-        return None;
-    }
-    let (head, _, _) = span.domain(byte).region()?;
-    let domain = Domain::Region {
-        head,
-        body,
-        tail: head,
-    };
-    let count = domain.len();
-    Some((domain, count))
-}
-
-#[test]
-fn gives_the_items_of_a_region_of_ones_own(rt: HostRuntime) -> Result<(), Fail> {
-    let (mut domain, count) = twice_round(&[0x12], &[0xFF]).ok_or("an enclave")?;
-    assert_eq!(rt; count, 3);
-    let mut again = domain;
-    for want in [0x10, 0xFF, 0x10] {
-        assert_eq!(rt; domain.next(), Some(want));
-        assert_eq!(rt; again.next_back(), Some(want));
-    }
-    assert_eq!(rt; domain.next(), None);
-    assert_eq!(rt; again.next_back(), None);
-    Ok(())
-}
-
-#[test]
-fn is_empty_by_default(rt: HostRuntime) -> Result<(), Fail> {
-    let none: Domain<u16, Msb0> = Domain::default();
-    let (head, body, tail) = none.region().ok_or("an enclave")?;
-    assert!(rt; head.is_none() && body.is_empty() && tail.is_none());
-    let none: DomainMut<u16, Msb0> = DomainMut::default();
-    let (head, body, tail) = none.region().ok_or("an enclave")?;
-    assert!(rt; head.is_none() && body.is_empty() && tail.is_none());
-    Ok(())
-}
-
-// The text of a span's domain in a base.
-fn text_in(
-    alloc: Global,
-    memory: &[u8],
-    start: u32,
-    len: usize,
-    base: u8,
-) -> Result<String, AllocError> {
-    match domain_at::<u8, Lsb0>(memory, start, len) {
-        Some(domain) => {
-            let shown = InBase { domain, base };
-            format!(in alloc; "{shown}")
-        }
-        None => Ok(String::new(alloc)),
     }
 }
 
@@ -184,37 +168,17 @@ fn is_a_text_in_five_bases(rt: HostRuntime) -> Result<(), Fail> {
         (4, 8, 16, "[10, 4]"),
         (4, 8, 2, "[10000, 100]"),
         (4, 8, 8, "[20, 4]"),
+        (4, 8, 10, "[16, 4]"),
         (24, 8, 16, "[ab]"),
         (24, 8, 0, "[AB]"),
         (3, 0, 16, "[]"),
     ] {
-        let text = text_in(rt.alloc(), &memory, start, len, base)?;
+        let domain = domain_at::<u8, Lsb0>(&memory, start, len).ok_or("does not fit")?;
+        let shown = InBase { domain, base };
+        let text = format!(in rt.alloc(); "{shown:>20}")?;
         assert_eq!(rt; text.as_str(), want, "at {start}+{len}");
     }
-    let domain = domain_at::<u8, Lsb0>(&memory, 4, 8).ok_or("does not fit")?;
-    let text = format!(in rt.alloc(); "{domain:>20}")?;
-    assert_eq!(rt; text.as_str(), "[16, 4]");
     Ok(())
-}
-
-// How many items a span's domain has.
-fn count(memory: &[u8], start: u32, len: usize) -> Option<usize> {
-    let span = span_at::<u8, Lsb0>(start, len)?;
-    if span.fits(memory.len()) {
-        let domain = span.domain(memory);
-        Some(domain.len())
-    } else {
-        None
-    }
-}
-
-#[test]
-fn counts_its_items(rt: HostRuntime) {
-    let memory = [0x12u8, 0x34, 0x56];
-    assert_eq!(rt; count(&memory, 4, 8), Some(2));
-    assert_eq!(rt; count(&memory, 4, 16), Some(3));
-    assert_eq!(rt; count(&memory, 2, 4), Some(1));
-    assert_eq!(rt; count(&memory, 0, 0), Some(0));
 }
 
 // The value of a part, if there is one.
@@ -225,31 +189,39 @@ fn value<R: BitRegister, O: BitOrder<R>>(part: Option<PartialElement<R, O>>) -> 
     }
 }
 
+// The values of a region's head and tail round its number of whole words.
+fn region_values(domain: Domain<u32, Msb0>) -> Option<(Option<u32>, usize, Option<u32>)> {
+    let (head, body, tail) = domain.region()?;
+    Some((value(head), body.len(), value(tail)))
+}
+
 #[test]
 fn has_parts_of_three_words(rt: HostRuntime) -> Result<(), Fail> {
     let memory = [0xffff_ffffu32; 3];
-    for (start, len, head, body, tail) in [
-        (0, 96, None, 3, None),
-        (2, 94, Some(0x3fff_ffff), 2, None),
-        (0, 94, None, 2, Some(0xffff_fffc)),
-        (2, 92, Some(0x3fff_ffff), 1, Some(0xffff_fffc)),
+    for (start, len, region, enclave) in [
+        (0, 96, Some((None, 3, None)), None),
+        (2, 94, Some((Some(0x3fff_ffff), 2, None)), None),
+        (0, 94, Some((None, 2, Some(0xffff_fffc))), None),
+        (2, 92, Some((Some(0x3fff_ffff), 1, Some(0xffff_fffc))), None),
+        (34, 28, None, Some(0x3fff_fffc)),
     ] {
         let domain = domain_at::<u32, Msb0>(&memory, start, len).ok_or("does not fit")?;
-        assert!(rt; domain.enclave().is_none(), "at {start}+{len}");
-        let (first, words, last) = domain.region().ok_or("an enclave")?;
-        assert_eq!(rt; value(first), head, "at {start}+{len}");
-        assert_eq!(rt; words.len(), body, "at {start}+{len}");
-        assert_eq!(rt; value(last), tail, "at {start}+{len}");
+        assert_eq!(rt;
+            (region_values(domain), value(domain.enclave())),
+            (region, enclave),
+            "at {start}+{len}"
+        );
     }
-    let domain = domain_at::<u32, Msb0>(&memory, 34, 28).ok_or("does not fit")?;
-    assert!(rt; domain.region().is_none());
-    assert_eq!(rt; value(domain.enclave()), Some(0x3fff_fffc));
     Ok(())
 }
 
-// The head, the length and the number of words of the parts of a span's bits, behind whether they
-// are one run alone.
-fn runs<R: BitRegister, O: BitOrder<R>>(
+// The head, the length and the number of words of a run of bits.
+fn size<R: BitRegister, O>(run: BitWords<R, O>) -> (u8, usize, usize) {
+    (run.head().into_inner(), run.len(), run.words().len())
+}
+
+// The sizes of the parts of a span's bits, behind whether they are one run alone.
+fn sizes<R: BitRegister, O: BitOrder<R>>(
     memory: &[R],
     start: u32,
     len: usize,
@@ -258,22 +230,15 @@ fn runs<R: BitRegister, O: BitOrder<R>>(
     if !span.fits(memory.len()) {
         return None;
     }
-    match span.bit_domain(memory) {
-        BitDomain::Enclave(all) => {
-            let one = (all.head().into_inner(), all.len(), all.words().len());
-            Some((true, [one, (0, 0, 0), (0, 0, 0)]))
-        }
-        BitDomain::Region { head, body, tail } => {
-            let first = (head.head().into_inner(), head.len(), head.words().len());
-            let middle = (body.head().into_inner(), body.len(), body.words().len());
-            let last = (tail.head().into_inner(), tail.len(), tail.words().len());
-            Some((false, [first, middle, last]))
-        }
-    }
+    let none = (0, 0, 0);
+    Some(match span.bit_domain(memory) {
+        BitDomain::Enclave(all) => (true, [size(all), none, none]),
+        BitDomain::Region { head, body, tail } => (false, [size(head), size(body), size(tail)]),
+    })
 }
 
 #[test]
-fn has_bits_of_three_words(rt: HostRuntime) -> Result<(), Fail> {
+fn has_bits_of_three_words(rt: HostRuntime) {
     let memory = [0xffff_ffffu32; 3];
     for (start, len, alone, want) in [
         (0, 96, false, [(0, 0, 0), (0, 96, 3), (0, 0, 0)]),
@@ -282,173 +247,183 @@ fn has_bits_of_three_words(rt: HostRuntime) -> Result<(), Fail> {
         (2, 92, false, [(2, 30, 1), (0, 32, 1), (0, 30, 1)]),
         (34, 28, true, [(2, 28, 1), (0, 0, 0), (0, 0, 0)]),
     ] {
-        assert_eq!(rt;
-            runs::<u32, Msb0>(&memory, start, len),
-            Some((alone, want)),
-            "at {start}+{len}"
-        );
+        let got = sizes::<u32, Msb0>(&memory, start, len);
+        assert_eq!(rt; got, Some((alone, want)), "at {start}+{len}");
     }
-    let (head, body, tail) = default_bits::<u32, Msb0>().ok_or("an enclave")?;
-    assert!(rt; head.is_empty() && body.is_empty() && tail.is_empty());
-    Ok(())
 }
 
-// The head, the body and the tail of the bits of no span.
-fn default_bits<'a, R: BitRegister, O>() -> Option<
-    (BitWords<'a, R, O>, BitWords<'a, R, O>, BitWords<'a, R, O>),
-> {
+// The lengths of the parts of the bits of no span.
+fn default_lens<R: BitRegister, O>() -> Option<[usize; 3]> {
     let none: BitDomain<R, O> = BitDomain::default();
-    none.region()
+    let (head, body, tail) = none.region()?;
+    Some([head.len(), body.len(), tail.len()])
 }
 
-// The head, the body and the tail of a span's bits, where they are not one run alone.
-fn bits_at<'a, R: BitRegister, O: BitOrder<R>>(
-    memory: &'a [R],
+// The same of those for writing.
+fn default_lens_mut<R: BitRegister, O>() -> Option<[usize; 3]> {
+    let none: BitDomainMut<R, O> = BitDomainMut::default();
+    let (head, body, tail) = none.region()?;
+    Some([head.len(), body.len(), tail.len()])
+}
+
+#[test]
+fn has_no_bits_by_default(rt: HostRuntime) {
+    assert_eq!(rt;
+        [default_lens::<u32, Msb0>(), default_lens_mut::<u8, Lsb0>()],
+        [Some([0; 3]); 2]
+    );
+}
+
+// The first word of a run, and a bit of it.
+fn word_and_bit<R: BitRegister, O: BitOrder<R>>(
+    run: BitWords<R, O>,
+    index: usize,
+) -> (Option<R>, Option<bool>) {
+    let bit = if index < run.len() {
+        Some(run.read(index))
+    } else {
+        None
+    };
+    (run.words().first().copied(), bit)
+}
+
+// These of the head, the body and the tail of a span's bits.
+fn words_and_bits<R: BitRegister, O: BitOrder<R>>(
+    memory: &[R],
     start: u32,
     len: usize,
-) -> Option<(BitWords<'a, R, O>, BitWords<'a, R, O>, BitWords<'a, R, O>)> {
+) -> Option<[(Option<R>, Option<bool>); 3]> {
     let span = span_at::<R, O>(start, len)?;
-    if span.fits(memory.len()) {
-        span.bit_domain(memory).region()
+    if !span.fits(memory.len()) {
+        return None;
+    }
+    let (head, body, tail) = span.bit_domain(memory).region()?;
+    Some([
+        word_and_bit(head, 0),
+        word_and_bit(body, 8),
+        word_and_bit(tail, 3),
+    ])
+}
+
+#[test]
+fn hands_on_the_words_of_its_bits(rt: HostRuntime) {
+    let want = [
+        (Some(0x12), Some(true)),
+        (Some(0x34), None),
+        (Some(0x56), Some(false)),
+    ];
+    let got = words_and_bits::<u8, Lsb0>(&[0x12, 0x34, 0x56], 4, 16);
+    assert_eq!(rt; got, Some(want));
+}
+
+// The part of the bits from 2 to 6 of a memory's first byte.
+fn middle(memory: &mut [u8]) -> Option<PartialElementMut<u8, Lsb0>> {
+    let span = span_at::<u8, Lsb0>(2, 4)?;
+    if span.fits(memory.len()) && span.elements() == 1 {
+        Some(span.part_mut(memory, 0))
     } else {
         None
     }
 }
 
-#[test]
-fn hands_on_the_words_of_its_bits(rt: HostRuntime) -> Result<(), Fail> {
-    let memory = [0x12u8, 0x34, 0x56];
-    let (head, body, tail) = bits_at::<u8, Lsb0>(&memory, 4, 16).ok_or("an enclave")?;
-    assert_eq!(rt; head.words(), [0x12].as_slice());
-    assert_eq!(rt; body.words(), [0x34].as_slice());
-    assert_eq!(rt; tail.words(), [0x56].as_slice());
-    assert!(rt; tail.len() == 4);
-    assert!(rt; tail.read(1));
-    assert!(rt; !tail.read(3));
-    Ok(())
-}
-
-// Stores a word in the part of the bits from 2 to 6 of a byte, and returns what stood there.
-fn stores(byte: &mut [u8], value: u8) -> Option<u8> {
-    let span: BitSpan<u8, Lsb0> = span_at(2, 4)?;
-    if !span.fits(byte.len()) || span.elements() == 0 {
-        return None;
-    }
-    Some(span.part_mut(byte, 0).store_value(value))
+// The value of that part of a byte before a word is stored there, and the byte afterwards.
+fn stored(byte: u8, value: u8) -> Option<(u8, [u8; 1])> {
+    let mut memory = [byte];
+    let before = middle(&mut memory)?.store_value(value);
+    Some((before, memory))
 }
 
 #[test]
 fn stores_in_the_governed_bits_alone(rt: HostRuntime) {
-    let mut byte = [0xFFu8];
-    assert_eq!(rt; stores(&mut byte, 0), Some(0x3C));
-    assert_eq!(rt; byte, [0xC3]);
-    assert_eq!(rt; stores(&mut byte, 0x3C), Some(0));
-    assert_eq!(rt; byte, [0xFF]);
-    let mut byte = [0u8];
-    assert_eq!(rt; stores(&mut byte, 0xFF), Some(0));
-    assert_eq!(rt; byte, [0x3C]);
+    assert_eq!(rt;
+        [stored(0xFF, 0), stored(0xC3, 0x3C), stored(0, 0xFF)],
+        [Some((0x3C, [0xC3])), Some((0, [0xFF])), Some((0, [0x3C]))]
+    );
+}
+
+// What the edits of that part of a byte of ones answer.
+fn edits() -> Option<[u8; 6]> {
+    let mut memory = [0xff];
+    let mut part = middle(&mut memory)?;
+    Some([
+        part.store_value(0),
+        part.load_value(),
+        part.store_value(0x3c),
+        part.invert(),
+        part.set(),
+        part.clear(),
+    ])
 }
 
 #[test]
-fn edits_one_word(rt: HostRuntime) -> Result<(), Fail> {
-    let mut memory = [0xffu8];
-    let span: BitSpan<u8, Lsb0> = span_at(2, 4).ok_or("refused")?;
-    assert!(rt; span.fits(memory.len()) && span.elements() == 1);
-    let mut part = span.part_mut(&mut memory, 0);
-    assert_eq!(rt; part.store_value(0), 0x3c);
-    assert_eq!(rt; part.load_value(), 0);
-    assert_eq!(rt; part.store_value(0x3c), 0);
-    assert_eq!(rt; part.invert(), 0x3c);
-    assert_eq!(rt; part.set(), 0);
-    assert_eq!(rt; part.clear(), 0x3c);
-    Ok(())
+fn edits_one_word(rt: HostRuntime) {
+    assert_eq!(rt; edits(), Some([0x3c, 0, 0, 0x3c, 0, 0x3c]));
 }
 
-#[test]
-fn hands_on_the_bits_of_one_word(rt: HostRuntime) -> Result<(), Fail> {
-    let mut memory = [0xc3u8];
-    let span: BitSpan<u8, Lsb0> = span_at(2, 4).ok_or("refused")?;
-    assert!(rt; span.fits(memory.len()) && span.elements() == 1);
-    let part = span.part_mut(&mut memory, 0);
-    assert_eq!(rt; part.mask().into_inner(), 0x3c);
+// The mask and the bounds of a part.
+fn bounds(part: &PartialElementMut<u8, Lsb0>) -> [u8; 3] {
     let (head, tail) = part.bounds();
-    assert_eq!(rt; (head.into_inner(), tail.into_inner()), (2, 6));
-    let mut bits = part.into_bitslice();
-    assert!(rt; bits.len() == 4);
-    assert_eq!(rt; bits.words(), [0xc3].as_slice());
-    assert!(rt; !bits.replace(1, true));
-    assert!(rt; bits.read(1));
-    Ok(())
+    [
+        part.mask().into_inner(),
+        head.into_inner(),
+        tail.into_inner(),
+    ]
 }
 
-// Makes a bit of each run of a span's bits one, and returns the bits before.
+// A bit of a run before it becomes one and afterwards, where the run has it.
+fn replaced<R: BitRegister, O: BitOrder<R>>(
+    run: &mut BitWordsMut<R, O>,
+    index: usize,
+) -> Option<[bool; 2]> {
+    if index >= run.len() {
+        return None;
+    }
+    let before = run.replace(index, true);
+    Some([before, run.read(index)])
+}
+
+// The mask and the bounds of that part of a byte, and what a change of its second bit answers.
+fn handed_on() -> Option<([u8; 3], Option<[bool; 2]>)> {
+    let mut memory = [0xc3];
+    let part = middle(&mut memory)?;
+    let bounds = bounds(&part);
+    let mut bits = part.into_bitslice();
+    Some((bounds, replaced(&mut bits, 1)))
+}
+
+#[test]
+fn hands_on_the_bits_of_one_word(rt: HostRuntime) {
+    let want = ([0x3c, 2, 6], Some([false, true]));
+    assert_eq!(rt; handed_on(), Some(want));
+}
+
+// The same of a bit of each run of a span's bits.
 fn replaces<R: BitRegister, O: BitOrder<R>>(
     memory: &mut [R],
     start: u32,
     len: usize,
-) -> Option<[bool; 3]> {
+) -> Option<[Option<[bool; 2]>; 3]> {
     let span = span_at::<R, O>(start, len)?;
     if !span.fits(memory.len()) {
         return None;
     }
-    let (head, body, tail) = span.bit_domain_mut(memory).region()?;
-    let mut head = head;
-    let mut body = body;
-    let mut tail = tail;
-    if head.is_empty() || body.len() <= 7 || tail.len() <= 3 {
-        return None;
-    }
-    let first = head.replace(0, true);
-    let middle = body.replace(7, true);
-    let last = tail.replace(3, true);
-    Some([first, middle, last])
-}
-
-// Makes the first bit of a span one, where the span is one run alone, and returns the bit before.
-fn replaces_first<R: BitRegister, O: BitOrder<R>>(
-    memory: &mut [R],
-    start: u32,
-    len: usize,
-) -> Option<bool> {
-    let span = span_at::<R, O>(start, len)?;
-    if !span.fits(memory.len()) {
-        return None;
-    }
-    let run = span.bit_domain_mut(memory).enclave()?;
-    let mut run = run;
-    if run.is_empty() {
-        return None;
-    }
-    Some(run.replace(0, true))
-}
-
-// Whether the bits of no span are three runs without bits.
-fn default_is_empty<R: BitRegister, O>() -> bool {
-    let none: BitDomainMut<R, O> = BitDomainMut::default();
-    match none.region() {
-        Some((head, body, tail)) => head.is_empty() && body.is_empty() && tail.is_empty(),
-        None => false,
-    }
+    let (mut head, mut body, mut tail) = span.bit_domain_mut(memory).region()?;
+    Some([
+        replaced(&mut head, 0),
+        replaced(&mut body, 7),
+        replaced(&mut tail, 3),
+    ])
 }
 
 #[test]
 fn replaces_bits_of_three_words(rt: HostRuntime) {
     let mut memory = [0u8; 3];
-    assert_eq!(rt; replaces::<u8, Lsb0>(&mut memory, 4, 16), Some([false; 3]));
+    let first = replaces::<u8, Lsb0>(&mut memory, 4, 16);
+    let second = replaces::<u8, Lsb0>(&mut memory, 4, 16);
+    let alone = replaces::<u8, Lsb0>(&mut memory, 2, 4);
+    let (was, is) = ([Some([false, true]); 3], [Some([true; 2]); 3]);
+    assert_eq!(rt; [first, second, alone], [Some(was), Some(is), None]);
     assert_eq!(rt; memory, [0x10, 0x80, 0x08]);
-    assert_eq!(rt; replaces::<u8, Lsb0>(&mut memory, 4, 16), Some([true; 3]));
-    assert_eq!(rt; memory, [0x10, 0x80, 0x08]);
-    assert!(rt; replaces::<u8, Lsb0>(&mut memory, 2, 4).is_none());
-    assert!(rt; replaces::<u8, Lsb0>(&mut memory, 4, 21).is_none());
-}
-
-#[test]
-fn replaces_a_bit_of_one_run(rt: HostRuntime) {
-    let mut memory = [0x10u8, 0x80, 0x08];
-    assert_eq!(rt; replaces_first::<u8, Lsb0>(&mut memory, 10, 4), Some(false));
-    assert_eq!(rt; memory, [0x10, 0x84, 0x08]);
-    assert!(rt; replaces_first::<u8, Lsb0>(&mut memory, 4, 16).is_none());
-    assert!(rt; default_is_empty::<u8, Lsb0>());
 }
 
 // Whether a value has a text for a programmer.
@@ -462,12 +437,14 @@ fn shows_spans_and_parts_to_a_programmer(rt: HostRuntime) -> Result<(), Fail> {
     let alloc = rt.alloc();
     let memory = [0x12u8, 0x34, 0x56];
     let span: BitSpan<u8, Lsb0> = span_at(4, 16).ok_or("refused")?;
-    assert!(rt; span.fits(memory.len()));
-    assert!(rt; is_shown(alloc, &span)?);
-    assert!(rt; is_shown(alloc, &span.to_bitptr_range())?);
-    assert!(rt; span.elements() == 3);
-    let part = span.part(&memory, 0);
-    assert!(rt; is_shown(alloc, &part)?);
-    assert!(rt; is_shown(alloc, &part.into_bitslice())?);
+    let domain = domain_at::<u8, Lsb0>(&memory, 18, 4).ok_or("does not fit")?;
+    let part = domain.enclave().ok_or("a region")?;
+    let shown = [
+        is_shown(alloc, &span)?,
+        is_shown(alloc, &span.to_bitptr_range())?,
+        is_shown(alloc, &part)?,
+        is_shown(alloc, &part.into_bitslice())?,
+    ];
+    assert_eq!(rt; shown, [true; 4]);
     Ok(())
 }

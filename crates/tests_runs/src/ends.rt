@@ -51,13 +51,22 @@ fn nothing_fits_nowhere(nothing: BitSpan<u8, Lsb0>) -> bool
     nothing.fits(0)
 }
 
+// Whether the two are apart either way round, and the lowest span fits no memory.
+fn ends_lie_in_no_memory() -> [bool; 6] {
+    let (lowest, highest) = (lowest(), highest());
+    [
+        ends_are_apart(lowest, highest),
+        highest.is_disjoint(&lowest),
+        !lowest_fits(lowest, 0),
+        !lowest_fits(lowest, 1),
+        !lowest_fits(lowest, 9223372036854775807),
+        !lowest_fits(lowest, usize::MAX),
+    ]
+}
+
 #[test]
 fn a_span_may_lie_in_no_memory(rt: HostRuntime) {
-    for words in [0, 1, 9223372036854775807, usize::MAX] {
-        assert!(rt; !lowest_fits(lowest(), words), "in {words}");
-    }
-    assert!(rt; ends_are_apart(lowest(), highest()));
-    assert!(rt; highest().is_disjoint(&lowest()));
+    assert_eq!(rt; ends_lie_in_no_memory(), [true; 6]);
     assert!(rt; nothing_fits_nowhere(BitSpan::EMPTY));
 }
 
@@ -85,25 +94,31 @@ fn copy(from: usize, to: usize, count: usize) -> Command<u8> {
     Command::Copy { from, to, count }
 }
 
+// Whether commands are all refused through a span, and change no bit.
+fn are_past_end(start: u32, len: usize, commands: &[Command<u8>]) -> bool {
+    for command in commands {
+        if replied(start, len, *command) != Some((Reply::PastEnd, [0xA5, 0x5A])) {
+            return false;
+        }
+    }
+    true
+}
+
 #[test]
 fn refuses_the_greatest_numbers(rt: HostRuntime) {
-    for command in [
+    let commands = [
         Command::Load(usize::MAX),
         Command::Read(usize::MAX),
         Command::Swap(0, usize::MAX),
         copy(usize::MAX, usize::MAX, 1),
         copy(0, 0, usize::MAX),
-    ] {
-        let got = replied(6, 4, command);
-        assert_eq!(rt; got, Some((Reply::PastEnd, [0xA5, 0x5A])), "at {command:?}");
-    }
+    ];
+    assert!(rt; are_past_end(6, 4, &commands));
 }
 
 #[test]
 fn an_empty_span_takes_empty_copies_alone(rt: HostRuntime) {
-    let got = replied(3, 0, copy(0, 0, 0));
-    assert_eq!(rt; got, Some((Reply::Done, [0xA5, 0x5A])));
-    for command in [
+    let commands = [
         Command::Load(0),
         Command::Store(0, 0xFF),
         Command::Set(0),
@@ -115,8 +130,8 @@ fn an_empty_span_takes_empty_copies_alone(rt: HostRuntime) {
         copy(0, 0, 1),
         copy(1, 0, 0),
         copy(0, 1, 0),
-    ] {
-        let got = replied(3, 0, command);
-        assert_eq!(rt; got, Some((Reply::PastEnd, [0xA5, 0x5A])), "at {command:?}");
-    }
+    ];
+    assert!(rt; are_past_end(3, 0, &commands));
+    let got = replied(3, 0, copy(0, 0, 0));
+    assert_eq!(rt; got, Some((Reply::Done, [0xA5, 0x5A])));
 }

@@ -30,6 +30,11 @@ fn ran<const S: usize, const N: usize>(
     Some((replies, memory))
 }
 
+// A copy inside a span.
+fn copy(from: usize, to: usize, count: usize) -> Command<u8> {
+    Command::Copy { from, to, count }
+}
+
 // A fill of a stretch of a span.
 fn fill(from: usize, to: usize, value: bool) -> Command<u8> {
     Command::Fill { from, to, value }
@@ -46,14 +51,7 @@ fn two_spans_of_one_word_go_their_own_ways(rt: HostRuntime) {
         to(1, Command::Swap(0, 3)),
         to(0, Command::Load(1)),
         to(1, Command::Read(4)),
-        to(
-            1,
-            Command::Copy {
-                from: usize::MAX,
-                to: 0,
-                count: 2,
-            },
-        ),
+        to(1, copy(usize::MAX, 0, 2)),
         to(2, Command::Load(0)),
     ];
     let want = [
@@ -71,34 +69,16 @@ fn two_spans_of_one_word_go_their_own_ways(rt: HostRuntime) {
 }
 
 #[test]
-fn bits_of_four_spans_are_replaced(rt: HostRuntime) {
-    let spans = [span_at(0, 4), span_at(4, 4), span_at(8, 4), span_at(12, 4)];
-    let requests = [
-        to(0, Command::Replace(0, true)),
-        to(1, Command::Replace(1, true)),
-        to(2, Command::Replace(2, true)),
-        to(3, Command::Replace(3, true)),
-    ];
-    let want = [Reply::Bit(false); 4];
-    assert_eq!(rt; ran(spans, requests), Some((want, [0x21, 0x84])));
-}
-
-#[test]
 fn bits_are_set_copied_and_cleared(rt: HostRuntime) {
     let requests = [
         to(0, Command::Set(0)),
         to(0, Command::Replace(1, false)),
-        to(
-            0,
-            Command::Copy {
-                from: 0,
-                to: 1,
-                count: 3,
-            },
-        ),
+        to(0, copy(0, 1, 3)),
         to(0, Command::Load(0)),
         to(0, Command::Clear(0)),
         to(0, Command::Read(0)),
+        to(0, copy(4, 0, 0)),
+        to(0, copy(5, 0, 0)),
     ];
     let want = [
         Reply::Word(0),
@@ -107,32 +87,10 @@ fn bits_are_set_copied_and_cleared(rt: HostRuntime) {
         Reply::Word(0x2C),
         Reply::Word(0x2C),
         Reply::Bit(false),
+        Reply::Done,
+        Reply::PastEnd,
     ];
     assert_eq!(rt; ran([span_at(2, 4)], requests), Some((want, [0, 0])));
-}
-
-#[test]
-fn no_bits_are_copied_up_to_the_end(rt: HostRuntime) {
-    let requests = [
-        to(
-            0,
-            Command::Copy {
-                from: 4,
-                to: 0,
-                count: 0,
-            },
-        ),
-        to(
-            0,
-            Command::Copy {
-                from: 5,
-                to: 0,
-                count: 0,
-            },
-        ),
-    ];
-    let want = [Reply::Done, Reply::PastEnd];
-    assert_eq!(rt; ran([span_at(0, 4)], requests), Some((want, [0, 0])));
 }
 
 #[test]
@@ -157,17 +115,13 @@ fn a_stretch_of_bits_is_filled(rt: HostRuntime) {
 }
 
 #[test]
-fn an_empty_span_meets_no_word(rt: HostRuntime) {
-    let requests = [to(0, Command::Load(0))];
-    assert_eq!(rt;
-        ran([span_at(3, 0)], requests),
-        Some(([Reply::PastEnd], [0, 0]))
-    );
-}
-
-#[test]
 fn only_empty_spans_may_meet_themselves(rt: HostRuntime) {
-    assert!(rt; can_run(&[span_at(3, 0), span_at(3, 0)], 2));
-    assert!(rt; !can_run(&[span_at(3, 1), span_at(3, 1)], 2));
-    assert!(rt; !can_run(&[span_at(14, 4)], 2));
+    assert_eq!(rt;
+        [
+            can_run(&[span_at(3, 0), span_at(3, 0)], 2),
+            can_run(&[span_at(3, 1), span_at(3, 1)], 2),
+            can_run(&[span_at(14, 4)], 2)
+        ],
+        [true, false, false]
+    );
 }
