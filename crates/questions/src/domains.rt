@@ -1,9 +1,12 @@
 //! Questions of the words and parts of words that a span meets in a memory.
 
+ghost use Rattle.std.specs.Prelude.{length};
+ghost use Rattle.bitvec.specs.BitSpan.{span_of};
+ghost use Rattle.bitvec.specs.Span.{Fits};
+
 use bitvec::mem::BitRegister;
 use bitvec::order::BitOrder;
 use bitvec::ptr::span::BitSpan;
-use notation::names::{self, Call};
 use notation::number::place;
 use notation::places::pointer_at;
 use notation::words::words_of;
@@ -15,119 +18,85 @@ mod lists;
 mod partial;
 mod shown;
 
-use self::partial::PartialCall;
-use self::shown::Form;
-
-/// The answer to a question of a domain, or `None` where the words ask none.
+/// Writes the answer to a question of a domain, and tells whether the words ask one.
 ///
 /// The kinds are `domain`, `back`, `mixed`, `bit_domain`, `domain_mut` and `text` of a span's
 /// domain, and `partial` of one part of a word.
-pub fn answer<'a, A: Allocator>(
+pub fn write_answer<'a, R: BitRegister, O: BitOrder<R>, A: Allocator>(
+    text: &mut String<&'a A>,
     alloc: &'a A,
     kind: &str,
     words: &[&str],
-) -> Result<Option<String<&'a A>>, AllocError> {
-    match words {
-        [order, register, word, head, tail, edit, argument] if kind == "partial" => {
-            let call = PartialCall {
-                alloc,
-                word,
-                head,
-                tail,
-                edit,
-                argument,
-            };
-            names::answer_at(order, register, &call).unwrap_or(Ok(None))
+) -> Result<bool, AllocError> {
+    let [memory, details @ ..] = words else {
+        return Ok(false);
+    };
+    match words_of::<R, A>(alloc, memory)? {
+        Some(mut memory) if kind == "partial" => {
+            partial::write_answer::<R, O, &'a A>(text, &mut memory, details)
         }
-        [order, register, memory, start, len, details @ ..] => {
-            let Some(asked) = asked_of(kind, details) else {
-                return Ok(None);
-            };
-            let call = DomainCall {
-                alloc,
-                memory,
-                start,
-                len,
-                asked,
-            };
-            names::answer_at(order, register, &call).unwrap_or(Ok(None))
-        }
-        _ => Ok(None),
+        Some(mut memory) => write_of_span::<R, O, &'a A>(text, kind, &mut memory, details),
+        None => Ok(false),
     }
 }
 
-// What is asked of a span's domain.
-#[derive(Clone, Copy, Drop)]
-enum Asked<'t> {
-    // The variant, and each part with its word and its value.
-    Parts,
-    // The items from the back on.
-    Back,
-    // An item for each letter, from the front or from the back.
-    Mixed(&'t str),
-    // The bits of each part.
-    Bits,
-    // Each part edited, by an edit's name and its argument.
-    Edited(&'t str, &'t str),
-    // The text.
-    Shown(Form),
+// Writes the answer to a question of a span in a memory, and tells whether there is one.
+fn write_of_span<R: BitRegister, O: BitOrder<R>, A: Allocator>(
+    text: &mut String<A>,
+    kind: &str,
+    memory: &mut [R],
+    words: &[&str],
+) -> Result<bool, AllocError> {
+    let [start, len, details @ ..] = words else {
+        return Ok(false);
+    };
+    let Some(span) = span_at::<R, O>(start, len) else {
+        return Ok(false);
+    };
+    if !span.fits(memory.len()) {
+        return Ok(false);
+    }
+    write_of_domain(text, kind, span, memory, details)
 }
 
-// What a kind with these details asks.
-fn asked_of<'t>(kind: &str, details: &[&'t str]) -> Option<Asked<'t>> {
+// Writes the answer to a question of the domain of a span, and tells whether there is one.
+fn write_of_domain<R: BitRegister, O: BitOrder<R>, A: Allocator>(
+    text: &mut String<A>,
+    kind: &str,
+    span: BitSpan<R, O>,
+    memory: &mut [R],
+    details: &[&str],
+) -> Result<bool, AllocError>
+    requires { Fits R.BITS (span_of span) (length memory.old) }
+{
     match details {
-        [] => match kind {
-            "domain" => Some(Asked::Parts),
-            "back" => Some(Asked::Back),
-            "bit_domain" => Some(Asked::Bits),
-            _ => None,
-        },
-        [pattern] if kind == "mixed" => Some(Asked::Mixed(pattern)),
-        [form] if kind == "text" => Some(Asked::Shown(Form::of_name(form)?)),
-        [edit, argument] if kind == "domain_mut" => Some(Asked::Edited(edit, argument)),
-        _ => None,
+        [] => write_items(text, kind, span, memory),
+        [pattern] if kind == "mixed" => items::write_mixed(text, span.domain(memory), pattern),
+        [form] if kind == "text" => shown::write_shown(text, span.domain(memory), form),
+        [name, argument] if kind == "domain_mut" => {
+            edits::write_edited(text, span, memory, name, argument)
+        }
+        _ => Ok(false),
     }
 }
 
-// A question of the domain of a span in a memory.
-#[derive(Drop)]
-struct DomainCall<'a, 't, A: Allocator> {
-    alloc: &'a A,
-    memory: &'t str,
-    start: &'t str,
-    len: &'t str,
-    asked: Asked<'t>,
-}
-
-impl<'a, A: Allocator> Call for DomainCall<'a, '_, A> {
-    type Answer = Result<Option<String<&'a A>>, AllocError>;
-
-    fn at<R: BitRegister, O: BitOrder<R>>(&self) -> Self::Answer {
-        let alloc = self.alloc;
-        let Some(mut memory) = words_of::<R, A>(alloc, self.memory)? else {
-            return Ok(None);
-        };
-        let Some(span) = span_at::<R, O>(self.start, self.len) else {
-            return Ok(None);
-        };
-        if !span.fits(memory.len()) {
-            return Ok(None);
-        }
-        match self.asked {
-            Asked::Parts => items::parts(alloc, span, &memory),
-            Asked::Back => items::back(alloc, span.domain(&memory)),
-            Asked::Mixed(pattern) => items::mixed(alloc, span.domain(&memory), pattern),
-            Asked::Bits => items::bits(alloc, span, &memory),
-            Asked::Edited(edit, argument) => edits::edited(
-                alloc,
-                span,
-                &mut memory,
-                edit,
-                argument,
-            ),
-            Asked::Shown(form) => shown::text(alloc, span.domain(&memory), form),
-        }
+// Writes the parts of a domain, its items from the back on or its bits, and tells whether the kind
+// asks one of them.
+fn write_items<R: BitRegister, O: BitOrder<R>, A: Allocator>(
+    text: &mut String<A>,
+    kind: &str,
+    span: BitSpan<R, O>,
+    memory: &[R],
+) -> Result<bool, AllocError>
+    requires { Fits R.BITS (span_of span) (length memory.now) }
+{
+    match kind {
+        "domain" => items::write_parts(text, span, memory)?,
+        "back" => items::write_back(text, span.domain(memory))?,
+        "bit_domain" => items::write_bits(text, span, memory)?,
+        _ => return Ok(false),
     }
+    Ok(true)
 }
 
 // The span of so many bits from a place on; `None` where there is none, or where the texts are no

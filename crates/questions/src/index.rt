@@ -1,62 +1,43 @@
 //! Indices, ends and masks, and the runs of bits from them on.
 
+use crate::shown::{write_forms, write_two};
 use bitvec::index::{BitEnd, BitIdx, BitMask, BitPos, BitSel, Limits, MaskLimits};
 use bitvec::mem::BitRegister;
 use bitvec::order::BitOrder;
 use bitvec::ptr::span::BitSpan;
-use notation::names::{self, Call};
 use notation::number::number;
 use std::alloc::{AllocError, Allocator};
-use std::fmt;
+use std::fmt::{self, Write as _};
 
-/// The library's answer to a question of a kind, as text, or `None` where it is none.
-pub fn answer<'a, A: Allocator>(
-    alloc: &'a A,
+/// Writes the library's answer to a question of a kind, and tells whether it is one.
+pub fn write_answer<R: BitRegister, O: BitOrder<R>, A: Allocator>(
+    text: &mut String<A>,
     kind: &str,
     words: &[&str],
-) -> Result<Option<String<&'a A>>, AllocError> {
+) -> Result<bool, AllocError> {
     match words {
-        [order, register, from, upto] if kind == "mask" => {
-            let call = MaskCall { alloc, from, upto };
-            names::answer_at(order, register, &call).unwrap_or(Ok(None))
-        }
-        [register, shown] if kind == "index_text" => {
-            let call = TextCall { alloc, shown };
-            names::answer_at("lsb0", register, &call).unwrap_or(Ok(None))
-        }
-        [register, start] => {
-            let call = StepCall { alloc, kind, start };
-            names::answer_at("lsb0", register, &call).unwrap_or(Ok(None))
-        }
-        [register, start, far] => {
-            let call = RunCall {
-                alloc,
-                kind,
-                start,
-                far,
-            };
-            names::answer_at("lsb0", register, &call).unwrap_or(Ok(None))
-        }
-        _ => Ok(None),
+        [shown] if kind == "index_text" => write_texts::<R, A>(text, shown),
+        [start] => write_two(text, step_of::<R>(kind, start)),
+        [start, far] if kind == "offset" => write_two(text, offset_of::<R>(start, far)),
+        [start, far] => write_two(text, run_of::<R, O>(kind, start, far)),
+        _ => Ok(false),
     }
 }
 
-// The mask of an order between two bounds.
-#[derive(Drop)]
-struct MaskCall<'a, 't, A: Allocator> {
-    alloc: &'a A,
-    from: &'t str,
-    upto: &'t str,
-}
-
-impl<'a, A: Allocator> Call for MaskCall<'a, '_, A> {
-    type Answer = Result<Option<String<&'a A>>, AllocError>;
-
-    fn at<R: BitRegister, O: BitOrder<R>>(&self) -> Self::Answer {
-        let Some(mask) = mask_of::<R, O>(self.from, self.upto) else {
-            return Ok(None);
-        };
-        Ok(Some(format!(in self.alloc; "{mask}")?))
+/// Writes the mask of an order between two bounds, and tells whether there is one.
+pub fn write_mask<R: BitRegister, O: BitOrder<R>, A: Allocator>(
+    text: &mut String<A>,
+    words: &[&str],
+) -> Result<bool, AllocError> {
+    let [from, upto] = words else {
+        return Ok(false);
+    };
+    match mask_of::<R, O>(from, upto) {
+        Some(mask) => {
+            write!(text, "{mask}")?;
+            Ok(true)
+        }
+        None => Ok(false),
     }
 }
 
@@ -64,11 +45,11 @@ impl<'a, A: Allocator> Call for MaskCall<'a, '_, A> {
 fn mask_of<R: BitRegister, O: BitOrder<R>>(from: &str, upto: &str) -> Option<BitMask<R>> {
     let from = match from {
         "-" => None,
-        text => Some(BitIdx::new(text.parse::<u8>().ok()?).ok()?),
+        text => Some(index_at(text)?),
     };
     let upto = match upto {
         "-" => None,
-        text => Some(BitEnd::new(text.parse::<u8>().ok()?)?),
+        text => Some(end_at(text)?),
     };
     let start = from.unwrap_or(BitIdx::MIN).into_inner();
     let end = upto.unwrap_or(BitEnd::MAX).into_inner();
@@ -78,69 +59,32 @@ fn mask_of<R: BitRegister, O: BitOrder<R>>(from: &str, upto: &str) -> Option<Bit
     Some(O::mask(from, upto))
 }
 
-// The index one further or one back.
-#[derive(Drop)]
-struct StepCall<'a, 't, A: Allocator> {
-    alloc: &'a A,
-    kind: &'t str,
-    start: &'t str,
+/// The index of a text.
+pub fn index_at<R: BitRegister>(text: &str) -> Option<BitIdx<R>> {
+    BitIdx::new(text.parse::<u8>().ok()?).ok()
 }
 
-impl<'a, A: Allocator> Call for StepCall<'a, '_, A> {
-    type Answer = Result<Option<String<&'a A>>, AllocError>;
-
-    fn at<R: BitRegister, O: BitOrder<R>>(&self) -> Self::Answer {
-        let Some((index, crossed)) = step_of::<R>(self.kind, self.start) else {
-            return Ok(None);
-        };
-        let index = index.into_inner();
-        Ok(Some(format!(in self.alloc; "{index} {crossed}")?))
-    }
+// The end of a text.
+fn end_at<R: BitRegister>(text: &str) -> Option<BitEnd<R>> {
+    BitEnd::new(text.parse::<u8>().ok()?)
 }
 
-// The index beside that of a text, and whether that crosses into another register.
-fn step_of<R: BitRegister>(kind: &str, start: &str) -> Option<(BitIdx<R>, bool)> {
-    let start = BitIdx::new(start.parse::<u8>().ok()?).ok()?;
-    match kind {
-        "next" => Some(start.next()),
-        "prev" => Some(start.prev()),
-        _ => None,
-    }
-}
-
-// A step of any length from an index, and runs of bits from an index or an end on.
-#[derive(Drop)]
-struct RunCall<'a, 't, A: Allocator> {
-    alloc: &'a A,
-    kind: &'t str,
-    start: &'t str,
-    far: &'t str,
-}
-
-impl<'a, A: Allocator> Call for RunCall<'a, '_, A> {
-    type Answer = Result<Option<String<&'a A>>, AllocError>;
-
-    fn at<R: BitRegister, O: BitOrder<R>>(&self) -> Self::Answer {
-        let alloc = self.alloc;
-        if self.kind == "offset" {
-            let Some((words, index)) = offset_of::<R>(self.start, self.far) else {
-                return Ok(None);
-            };
-            let index = index.into_inner();
-            return Ok(Some(format!(in alloc; "{words} {index}")?));
-        }
-        let Some((elements, tail)) = run_of::<R, O>(self.kind, self.start, self.far) else {
-            return Ok(None);
-        };
-        let tail = tail.into_inner();
-        Ok(Some(format!(in alloc; "{elements} {tail}")?))
-    }
+// The index one further or one back, and whether that crosses into another register.
+fn step_of<R: BitRegister>(kind: &str, start: &str) -> Option<(u8, bool)> {
+    let start = index_at::<R>(start)?;
+    let (index, crossed) = match kind {
+        "next" => start.next(),
+        "prev" => start.prev(),
+        _ => return None,
+    };
+    Some((index.into_inner(), crossed))
 }
 
 // The words that a step from an index takes, and the index in the last.
-fn offset_of<R: BitRegister>(start: &str, by: &str) -> Option<(isize, BitIdx<R>)> {
-    let start = BitIdx::new(start.parse::<u8>().ok()?).ok()?;
-    Some(start.offset(by.parse::<isize>().ok()?))
+fn offset_of<R: BitRegister>(start: &str, by: &str) -> Option<(isize, u8)> {
+    let start = index_at::<R>(start)?;
+    let (words, index) = start.offset(by.parse::<isize>().ok()?);
+    Some((words, index.into_inner()))
 }
 
 // The words that a run of bits meets, and its end in the last: from an index on, from an end on, or
@@ -149,42 +93,38 @@ fn run_of<R: BitRegister, O: BitOrder<R>>(
     kind: &str,
     start: &str,
     len: &str,
-) -> Option<(usize, BitEnd<R>)> {
-    let start = start.parse::<u8>().ok()?;
+) -> Option<(usize, u8)> {
     let len = len.parse::<usize>().ok()?;
-    match kind {
-        "span" => Some(BitIdx::new(start).ok()?.span(len)),
-        "end_span" => Some(BitEnd::new(start)?.span(len)),
-        "elements" => {
-            let span: BitSpan<R, O> = BitSpan::new(0, BitIdx::new(start).ok()?, len).ok()?;
-            Some((span.elements(), span.tail()))
-        }
-        _ => None,
-    }
+    let (elements, tail) = match kind {
+        "span" => index_at::<R>(start)?.span(len),
+        "end_span" => end_at::<R>(start)?.span(len),
+        "elements" => span_run::<R, O>(start, len)?,
+        _ => return None,
+    };
+    Some((elements, tail.into_inner()))
 }
 
-// The texts of a value, which is named by the first of them, its type with its number.
-#[derive(Drop)]
-struct TextCall<'a, 't, A: Allocator> {
-    alloc: &'a A,
-    shown: &'t str,
+// The words that a span meets, and its end in the last.
+fn span_run<R: BitRegister, O: BitOrder<R>>(start: &str, len: usize) -> Option<(usize, BitEnd<R>)> {
+    let span: BitSpan<R, O> = BitSpan::new(0, index_at(start)?, len).ok()?;
+    Some((span.elements(), span.tail()))
 }
 
-impl<'a, A: Allocator> Call for TextCall<'a, '_, A> {
-    type Answer = Result<Option<String<&'a A>>, AllocError>;
-
-    fn at<R: BitRegister, O: BitOrder<R>>(&self) -> Self::Answer {
-        let alloc = self.alloc;
-        let Some((name, number)) = value_of::<R>(self.shown) else {
-            return Ok(None);
-        };
-        match u8::try_from(number) {
-            Ok(n) if name == "BitIdx" => index_text::<R, A>(alloc, n),
-            Ok(n) if name == "BitIdxError" => error_text::<R, A>(alloc, n),
-            Ok(n) if name == "BitEnd" => end_text::<R, A>(alloc, n),
-            Ok(n) if name == "BitPos" => position_text::<R, A>(alloc, n),
-            _ => word_text::<R, A>(alloc, name, number),
-        }
+// Writes the texts of a value, which is named by the first of them, its type with its number; tells
+// whether there is such a value.
+fn write_texts<R: BitRegister, A: Allocator>(
+    text: &mut String<A>,
+    shown: &str,
+) -> Result<bool, AllocError> {
+    let Some((name, number)) = value_of::<R>(shown) else {
+        return Ok(false);
+    };
+    match name {
+        "BitSel" | "BitMask" => write_word::<R, A>(text, name, number),
+        _ => match u8::try_from(number) {
+            Ok(n) => write_small::<R, A>(text, name, n),
+            Err(_) => Ok(false),
+        },
     }
 }
 
@@ -211,71 +151,97 @@ impl<R: BitRegister> fmt::Display for Binary<R> {
     }
 }
 
-// An index in full, plainly and in binary.
-fn index_text<'a, R: BitRegister, A: Allocator>(
-    alloc: &'a A,
+// Writes the texts of an index, its error, an end or a position.
+fn write_small<R: BitRegister, A: Allocator>(
+    text: &mut String<A>,
+    name: &str,
     n: u8,
-) -> Result<Option<String<&'a A>>, AllocError> {
+) -> Result<bool, AllocError> {
+    match name {
+        "BitIdx" => write_index::<R, A>(text, n),
+        "BitIdxError" => write_error::<R, A>(text, n),
+        "BitEnd" => write_end::<R, A>(text, n),
+        "BitPos" => write_position::<R, A>(text, n),
+        _ => Ok(false),
+    }
+}
+
+// Writes an index in full, plainly and in binary.
+fn write_index<R: BitRegister, A: Allocator>(
+    text: &mut String<A>,
+    n: u8,
+) -> Result<bool, AllocError> {
     match BitIdx::<R>::new(n) {
         Ok(index) => {
             let binary = Binary(index);
-            Ok(Some(format!(in alloc; "{index:?} {index} {binary}")?))
+            write!(text, "{index:?} {index} {binary}")?;
+            Ok(true)
         }
-        Err(_) => Ok(None),
+        Err(_) => Ok(false),
     }
 }
 
-// The error of a number that is no index, in full and plainly.
-fn error_text<'a, R: BitRegister, A: Allocator>(
-    alloc: &'a A,
+// Writes the error of a number that is no index, in full and plainly.
+fn write_error<R: BitRegister, A: Allocator>(
+    text: &mut String<A>,
     n: u8,
-) -> Result<Option<String<&'a A>>, AllocError> {
+) -> Result<bool, AllocError> {
     match BitIdx::<R>::new(n) {
-        Ok(_) => Ok(None),
-        Err(error) => Ok(Some(format!(in alloc; "{error:?} {error}")?)),
+        Ok(_) => Ok(false),
+        Err(error) => write_forms(text, &error, &error),
     }
 }
 
-// An end in full, and the least plainly.
-fn end_text<'a, R: BitRegister, A: Allocator>(
-    alloc: &'a A,
+// Writes an end in full, and the least plainly.
+fn write_end<R: BitRegister, A: Allocator>(
+    text: &mut String<A>,
     n: u8,
-) -> Result<Option<String<&'a A>>, AllocError> {
+) -> Result<bool, AllocError> {
     let least: BitEnd<R> = BitEnd::MIN;
     match BitEnd::<R>::new(n) {
-        Some(end) => Ok(Some(format!(in alloc; "{end:?} {least}")?)),
-        None => Ok(None),
+        Some(end) => write_forms(text, &end, &least),
+        None => Ok(false),
     }
 }
 
-// A position in full, and the least plainly.
-fn position_text<'a, R: BitRegister, A: Allocator>(
-    alloc: &'a A,
+// Writes a position in full, and the least plainly.
+fn write_position<R: BitRegister, A: Allocator>(
+    text: &mut String<A>,
     n: u8,
-) -> Result<Option<String<&'a A>>, AllocError> {
+) -> Result<bool, AllocError> {
     let least: BitPos<R> = BitPos::MIN;
     match BitPos::<R>::new(n) {
-        Some(position) => Ok(Some(format!(in alloc; "{position:?} {least}")?)),
-        None => Ok(None),
+        Some(position) => write_forms(text, &position, &least),
+        None => Ok(false),
     }
 }
 
-// A selector in full and plainly, or a mask in full and the mask of nothing plainly.
-fn word_text<'a, R: BitRegister, A: Allocator>(
-    alloc: &'a A,
+// Writes a selector in full and plainly, or a mask in full and the mask of nothing plainly.
+fn write_word<R: BitRegister, A: Allocator>(
+    text: &mut String<A>,
     name: &str,
     n: u128,
-) -> Result<Option<String<&'a A>>, AllocError> {
+) -> Result<bool, AllocError> {
     let Some(word) = R::from_u128(n) else {
-        return Ok(None);
+        return Ok(false);
     };
-    let none: BitMask<R> = BitMask::ZERO;
-    let mask = BitMask::new(word);
-    match BitSel::new(word) {
-        Some(selector) if name == "BitSel" => {
-            Ok(Some(format!(in alloc; "{selector:?} {selector}")?))
+    match name {
+        "BitSel" => write_selector(text, word),
+        "BitMask" => {
+            let none: BitMask<R> = BitMask::ZERO;
+            write_forms(text, &BitMask::new(word), &none)
         }
-        _ if name == "BitMask" => Ok(Some(format!(in alloc; "{mask:?} {none}")?)),
-        _ => Ok(None),
+        _ => Ok(false),
+    }
+}
+
+// Writes a selector in full and plainly.
+fn write_selector<R: BitRegister, A: Allocator>(
+    text: &mut String<A>,
+    word: R,
+) -> Result<bool, AllocError> {
+    match BitSel::new(word) {
+        Some(selector) => write_forms(text, &selector, &selector),
+        None => Ok(false),
     }
 }

@@ -8,5 +8,8 @@ mod domains;
 mod index;
 mod line;
 mod memories;
+mod pairs;
 mod pointers;
+mod question;
 pub mod report;
+mod shown;

@@ -5,12 +5,16 @@ use std::alloc::{AllocError, Allocator};
 /// What a line asks of.
 #[derive(Clone, Copy, Drop)]
 pub enum Topic {
-    /// Indices, ends and masks.
+    /// Indices and ends.
     Index,
+    /// Masks of orders.
+    Masks,
     /// Pointers, ranges and the refusals of spans.
     Pointers,
-    /// Bits of memories.
+    /// Bits of one memory.
     Memories,
+    /// Bits of two memories.
+    Pairs,
     /// The words that a span meets.
     Domains,
 }
@@ -36,12 +40,23 @@ enum Form {
     Between(&'static str),
 }
 
+impl Form {
+    // The text that has the words of the question first, and the answer; `None` where there is no
+    // answer.
+    fn parts<'t>(self, text: &'t str) -> Option<(&'t str, &'t str)> {
+        match self {
+            Form::Between(mark) => text.split_once(mark),
+            Form::Words { before, .. } => Some((text, after_words(text, before)?)),
+        }
+    }
+}
+
 // What the lines of a kind ask of, and their form; `None` where there is no such kind.
 fn topic_and_form_of(kind: &str) -> Option<(Topic, Form)> {
     let found = match kind {
         "next" | "prev" => (Topic::Index, words_of_both(2)),
         "offset" | "span" | "end_span" | "elements" => (Topic::Index, words_of_both(3)),
-        "mask" => (Topic::Index, words_of_both(4)),
+        "mask" => (Topic::Masks, words_of_both(4)),
         "index_text" => (
             Topic::Index,
             Form::Words {
@@ -53,9 +68,10 @@ fn topic_and_form_of(kind: &str) -> Option<(Topic, Form)> {
             (Topic::Domains, Form::Between(" : "))
         }
         "span_new" | "step" | "offset_from" | "range" => (Topic::Pointers, Form::Between(" -> ")),
-        "read" | "write" | "replace" | "swap" | "swap2" | "copy" | "copy2" => {
+        "read" | "write" | "replace" | "swap" | "copy" => {
             (Topic::Memories, Form::Between(" -> "))
         }
+        "swap2" | "copy2" => (Topic::Pairs, Form::Between(" -> ")),
         "domain_mut" | "partial" => (Topic::Domains, Form::Between(" -> ")),
         _ => return None,
     };
@@ -77,34 +93,19 @@ impl<'t, 'a, A: Allocator> Line<'t, &'a A> {
         let Some((topic, form)) = topic_and_form_of(kind) else {
             return Ok(None);
         };
-        let (question, answer) = match form {
-            Form::Between(mark) => match text.split_once(mark) {
-                Some((question, answer)) => (words(alloc, question)?, answer),
-                None => return Ok(None),
-            },
-            Form::Words { asked, before } => {
-                let mut question = words(alloc, text)?;
-                question.truncate(asked);
-                match after_words(text, before) {
-                    Some(answer) => (question, answer),
-                    None => return Ok(None),
-                }
-            }
+        let Some((question, answer)) = form.parts(text) else {
+            return Ok(None);
         };
+        let mut question: Vec<&'t str, &'a A> = question.split(' ').collect(alloc)?;
+        if let Form::Words { asked, .. } = form {
+            question.truncate(asked);
+        }
         Ok(Some(Line {
             topic,
             question,
             answer,
         }))
     }
-}
-
-// The words of a text, with a space between each two.
-fn words<'t, 'a, A: Allocator>(
-    alloc: &'a A,
-    text: &'t str,
-) -> Result<Vec<&'t str, &'a A>, AllocError> {
-    text.split(' ').collect(alloc)
 }
 
 // What stands after so many words of a text; `None` where nothing does.

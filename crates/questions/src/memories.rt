@@ -1,5 +1,5 @@
-//! Questions of one memory or two: a bit read, written or replaced, two bits exchanged, a run of
-//! bits copied.
+//! Questions of one memory: a bit read, written or replaced, two bits exchanged, a run of bits
+//! copied.
 
 ghost use Rattle.std.specs.Prelude.{IfSome};
 ghost use Rattle.bitvec.specs.BitPtr.{ptr_of};
@@ -8,37 +8,30 @@ ghost use Rattle.bitvec.specs.Steps.{IsIn, RangeIsIn};
 use bitvec::mem::BitRegister;
 use bitvec::order::BitOrder;
 use bitvec::ptr::single::BitPtr;
-use notation::names::{self, Call};
 use notation::number::place;
 use notation::places::pointer_at;
 use notation::words::{words_of, write_words};
 use std::alloc::{AllocError, Allocator};
 use std::fmt::Write as _;
 
-mod pairs;
-
-/// The answer to a question of a memory, or `None` where the words ask none.
+/// Writes the answer to a question of a memory, and tells whether the words ask one.
 ///
-/// The kinds are `read`, `write`, `replace`, `swap` and `copy` of one memory, and `swap2` and
-/// `copy2` of two.
-pub fn answer<'a, A: Allocator>(
+/// The kinds are `read`, `write`, `replace`, `swap` and `copy`.
+pub fn write_answer<'a, R: BitRegister, O: BitOrder<R>, A: Allocator>(
+    text: &mut String<&'a A>,
     alloc: &'a A,
     kind: &str,
     words: &[&str],
-) -> Result<Option<String<&'a A>>, AllocError> {
-    match words {
-        [order, register, memory, numbers @ ..] => {
-            let Some(access) = access_of(kind, numbers) else {
-                return pairs::answer_of_two(alloc, kind, words);
-            };
-            let call = MemoryCall {
-                alloc,
-                memory,
-                access,
-            };
-            names::answer_at(order, register, &call).unwrap_or(Ok(None))
-        }
-        _ => Ok(None),
+) -> Result<bool, AllocError> {
+    let [memory, numbers @ ..] = words else {
+        return Ok(false);
+    };
+    let Some(access) = access_of(kind, numbers) else {
+        return Ok(false);
+    };
+    match words_of::<R, A>(alloc, memory)? {
+        Some(mut memory) => write_outcome::<R, O, &'a A>(text, access, &mut memory),
+        None => Ok(false),
     }
 }
 
@@ -56,14 +49,22 @@ enum Access {
 fn access_of(kind: &str, numbers: &[&str]) -> Option<Access> {
     match numbers {
         [at] if kind == "read" => Some(Access::Read(place(at)?)),
-        [at, bit] if kind == "write" => Some(Access::Write(place(at)?, is_one(bit)?)),
-        [at, bit] if kind == "replace" => Some(Access::Replace(place(at)?, is_one(bit)?)),
-        [one, other] if kind == "swap" => Some(Access::Swap(place(one)?, place(other)?)),
+        [at, with] => access_of_two(kind, place(at)?, with),
         [from, to, count] if kind == "copy" => Some(Access::Copy {
             from: place(from)?,
             to: place(to)?,
             count: place(count)?,
         }),
+        _ => None,
+    }
+}
+
+// The access of a kind at a place, with a bit or another place.
+fn access_of_two(kind: &str, at: u64, with: &str) -> Option<Access> {
+    match kind {
+        "write" => Some(Access::Write(at, is_one(with)?)),
+        "replace" => Some(Access::Replace(at, is_one(with)?)),
+        "swap" => Some(Access::Swap(at, place(with)?)),
         _ => None,
     }
 }
@@ -84,35 +85,22 @@ enum Outcome {
     BitAndMemory(bool),
 }
 
-// An access to a memory.
-#[derive(Drop)]
-struct MemoryCall<'a, 't, A: Allocator> {
-    alloc: &'a A,
-    memory: &'t str,
+// Does an access, and writes what it answers; tells whether its places are in the memory.
+fn write_outcome<R: BitRegister, O: BitOrder<R>, A: Allocator>(
+    text: &mut String<A>,
     access: Access,
-}
-
-impl<'a, A: Allocator> Call for MemoryCall<'a, '_, A> {
-    type Answer = Result<Option<String<&'a A>>, AllocError>;
-
-    fn at<R: BitRegister, O: BitOrder<R>>(&self) -> Self::Answer {
-        let Some(mut memory) = words_of::<R, A>(self.alloc, self.memory)? else {
-            return Ok(None);
-        };
-        let Some(outcome) = done::<R, O>(self.access, &mut memory) else {
-            return Ok(None);
-        };
-        let mut text = String::new(self.alloc);
-        match outcome {
-            Outcome::Bit(bit) => write!(text, "{}", u8::from(bit))?,
-            Outcome::Memory => write_words(&mut text, &memory)?,
-            Outcome::BitAndMemory(bit) => {
-                write!(text, "{} ", u8::from(bit))?;
-                write_words(&mut text, &memory)?;
-            }
+    memory: &mut [R],
+) -> Result<bool, AllocError> {
+    match done::<R, O>(access, memory) {
+        Some(Outcome::Bit(bit)) => write!(text, "{}", u8::from(bit))?,
+        Some(Outcome::Memory) => write_words(text, memory)?,
+        Some(Outcome::BitAndMemory(bit)) => {
+            write!(text, "{} ", u8::from(bit))?;
+            write_words(text, memory)?;
         }
-        Ok(Some(text))
+        None => return Ok(false),
     }
+    Ok(true)
 }
 
 // Does an access; `None` where one of its places is past the memory.
@@ -147,8 +135,8 @@ fn done<R: BitRegister, O: BitOrder<R>>(access: Access, memory: &mut [R]) -> Opt
     }
 }
 
-// The pointer to a place of a memory of so many words, or `None` where the place is past it.
-fn pointer_in<R: BitRegister, O>(words: usize, at: u64) -> Option<BitPtr<R, O>>
+/// The pointer to a place of a memory of so many words, or `None` where the place is past it.
+pub fn pointer_in<R: BitRegister, O>(words: usize, at: u64) -> Option<BitPtr<R, O>>
     ensures { IfSome result (λ pointer. IsIn (ptr_of pointer) words) }
 {
     let pointer = pointer_at::<R, O>(at);
@@ -159,9 +147,9 @@ fn pointer_in<R: BitRegister, O>(words: usize, at: u64) -> Option<BitPtr<R, O>>
     }
 }
 
-// The pointer to the first place of a run in a memory of so many words, or `None` where the run
-// passes it.
-fn run_in<R: BitRegister, O>(words: usize, at: u64, count: u64) -> Option<BitPtr<R, O>>
+/// The pointer to the first place of a run in a memory of so many words, or `None` where the run
+/// passes it.
+pub fn run_in<R: BitRegister, O>(words: usize, at: u64, count: u64) -> Option<BitPtr<R, O>>
     ensures { IfSome result (λ pointer. RangeIsIn R.BITS (ptr_of pointer) words count) }
 {
     let pointer = pointer_at::<R, O>(at);

@@ -1,119 +1,93 @@
 //! Pointers to bits, their ranges, and the refusals of spans.
 
-use bitvec::index::BitIdx;
+use crate::index::index_at;
+use crate::shown::write_two;
 use bitvec::mem::BitRegister;
 use bitvec::order::BitOrder;
 use bitvec::ptr::range::BitPtrRange;
 use bitvec::ptr::single::BitPtr;
 use bitvec::ptr::span::{BitSpan, BitSpanError};
-use notation::names::{self, Call};
 use notation::places::pointer_at;
 use std::alloc::{AllocError, Allocator};
 use std::fmt::Write as _;
 
-/// The library's answer to a question of a kind, as text, or `None` where it is none.
-pub fn answer<'a, A: Allocator>(
+/// Writes the library's answer to a question of a kind, and tells whether it is one.
+pub fn write_answer<'a, R: BitRegister, O: BitOrder<R>, A: Allocator>(
+    text: &mut String<&'a A>,
     alloc: &'a A,
     kind: &str,
     words: &[&str],
-) -> Result<Option<String<&'a A>>, AllocError> {
-    match words {
-        [register, rest @ ..] => {
-            let call = PointerCall {
-                alloc,
-                kind,
-                words: rest,
-            };
-            names::answer_at("lsb0", register, &call).unwrap_or(Ok(None))
-        }
-        [] => Ok(None),
-    }
-}
-
-// A question after its register.
-#[derive(Drop)]
-struct PointerCall<'a, 't, A: Allocator> {
-    alloc: &'a A,
-    kind: &'t str,
-    words: &'t [&'t str],
-}
-
-impl<'a, A: Allocator> Call for PointerCall<'a, '_, A> {
-    type Answer = Result<Option<String<&'a A>>, AllocError>;
-
-    fn at<R: BitRegister, O: BitOrder<R>>(&self) -> Self::Answer {
-        let alloc = self.alloc;
-        match self.words {
-            [word, head, len] if self.kind == "span_new" => {
-                span_text::<R, O, A>(alloc, word, head, len)
-            }
-            [word, bit, name, count] if self.kind == "step" => {
-                step_text::<R, O, A>(alloc, pointer(word, bit), name, count)
-            }
-            [word, bit, other_word, other_bit] if self.kind == "offset_from" => {
-                let origin = pointer::<R, O>(other_word, other_bit);
-                distance_text(alloc, pointer(word, bit), origin)
-            }
-            [start, count, steps @ ..] if self.kind == "range" => {
-                range_text::<R, O, A>(alloc, start, count, steps)
-            }
-            _ => Ok(None),
-        }
-    }
-}
-
-// Whether there is a span, or why there is none.
-fn span_text<'a, R: BitRegister, O: BitOrder<R>, A: Allocator>(
-    alloc: &'a A,
-    word: &str,
-    head: &str,
-    len: &str,
-) -> Result<Option<String<&'a A>>, AllocError> {
-    let (Some(first), Ok(len)) = (pointer::<R, O>(word, head), len.parse::<usize>()) else {
-        return Ok(None);
+) -> Result<bool, AllocError> {
+    let [one, other, details @ ..] = words else {
+        return Ok(false);
     };
-    let text = match BitSpan::from_bitptr(first, len) {
+    if kind == "range" {
+        return write_range::<R, O, A>(text, alloc, one, other, details);
+    }
+    match pointer::<R, O>(one, other) {
+        Some(first) => write_of_pointer(text, kind, first, details),
+        None => Ok(false),
+    }
+}
+
+// Writes the answer to a question of a pointer, and tells whether there is one.
+fn write_of_pointer<R: BitRegister, O: BitOrder<R>, A: Allocator>(
+    text: &mut String<A>,
+    kind: &str,
+    first: BitPtr<R, O>,
+    details: &[&str],
+) -> Result<bool, AllocError> {
+    match details {
+        [len] if kind == "span_new" => write_span(text, first, len),
+        [name, count] if kind == "step" => write_two(text, stepped(first, name, count)),
+        [word, bit] if kind == "offset_from" => write_distance(text, first, pointer(word, bit)),
+        _ => Ok(false),
+    }
+}
+
+// Writes whether there is a span, or why there is none.
+fn write_span<R: BitRegister, O: BitOrder<R>, A: Allocator>(
+    text: &mut String<A>,
+    first: BitPtr<R, O>,
+    len: &str,
+) -> Result<bool, AllocError> {
+    let Ok(len) = len.parse::<usize>() else {
+        return Ok(false);
+    };
+    text.push_str(match BitSpan::from_bitptr(first, len) {
         Ok(_) => "ok",
         Err(BitSpanError::TooLong(_)) => "too_long",
         Err(BitSpanError::TooHigh(..)) => "too_high",
-    };
-    Ok(Some(text.to_string(alloc)?))
+    })?;
+    Ok(true)
 }
 
 // The pointer to a bit of a word.
 fn pointer<R: BitRegister, O: BitOrder<R>>(word: &str, bit: &str) -> Option<BitPtr<R, O>> {
     let word = word.parse::<isize>().ok()?;
-    let bit = BitIdx::new(bit.parse::<u8>().ok()?).ok()?;
-    Some(BitPtr::new(word, bit))
+    Some(BitPtr::new(word, index_at(bit)?))
 }
 
 // The word and the bit of the pointer after a step.
-fn step_text<'a, R: BitRegister, O: BitOrder<R>, A: Allocator>(
-    alloc: &'a A,
-    start: Option<BitPtr<R, O>>,
+fn stepped<R: BitRegister, O: BitOrder<R>>(
+    start: BitPtr<R, O>,
     name: &str,
     count: &str,
-) -> Result<Option<String<&'a A>>, AllocError> {
+) -> Option<(isize, u8)> {
     let stepped = match name {
-        "offset" | "wrapping_offset" => signed_step(start, name, count),
-        _ => counted_step(start, name, count),
-    };
-    let Some(stepped) = stepped else {
-        return Ok(None);
+        "offset" | "wrapping_offset" => signed_step(start, name, count.parse::<isize>().ok()?)?,
+        _ => counted_step(start, name, count.parse::<usize>().ok()?)?,
     };
     let (word, bit) = stepped.raw_parts();
-    let bit = bit.into_inner();
-    Ok(Some(format!(in alloc; "{word} {bit}")?))
+    Some((word, bit.into_inner()))
 }
 
 // The pointer after a step by a number of bits that may be negative.
 fn signed_step<R: BitRegister, O: BitOrder<R>>(
-    start: Option<BitPtr<R, O>>,
+    start: BitPtr<R, O>,
     name: &str,
-    count: &str,
+    count: isize,
 ) -> Option<BitPtr<R, O>> {
-    let start = start?;
-    let count = count.parse::<isize>().ok()?;
     match name {
         "wrapping_offset" => Some(start.wrapping_offset(count)),
         "offset" if start.can_offset(count) => Some(start.offset(count)),
@@ -123,12 +97,10 @@ fn signed_step<R: BitRegister, O: BitOrder<R>>(
 
 // The pointer after a step by a number of bits on or back.
 fn counted_step<R: BitRegister, O: BitOrder<R>>(
-    start: Option<BitPtr<R, O>>,
+    start: BitPtr<R, O>,
     name: &str,
-    count: &str,
+    count: usize,
 ) -> Option<BitPtr<R, O>> {
-    let start = start?;
-    let count = count.parse::<usize>().ok()?;
     match name {
         "wrapping_add" => Some(start.wrapping_add(count)),
         "wrapping_sub" => Some(start.wrapping_sub(count)),
@@ -164,42 +136,44 @@ fn subtracted<R: BitRegister, O: BitOrder<R>>(
     }
 }
 
-// The distance from an origin, and how the two pointers compare.
-fn distance_text<'a, R: BitRegister, O: BitOrder<R>, A: Allocator>(
-    alloc: &'a A,
-    pointer: Option<BitPtr<R, O>>,
+// Writes the distance from an origin, and how the two pointers compare; tells whether there is a
+// distance.
+fn write_distance<R: BitRegister, O: BitOrder<R>, A: Allocator>(
+    text: &mut String<A>,
+    pointer: BitPtr<R, O>,
     origin: Option<BitPtr<R, O>>,
-) -> Result<Option<String<&'a A>>, AllocError> {
-    let (Some(pointer), Some(origin)) = (pointer, origin) else {
-        return Ok(None);
-    };
-    if !pointer.can_offset_from(origin) {
-        return Ok(None);
+) -> Result<bool, AllocError> {
+    match origin {
+        Some(origin) if pointer.can_offset_from(origin) => {
+            let distance = pointer.offset_from(origin);
+            let ordering = pointer.cmp(&origin);
+            write!(text, "{distance} {ordering:?}")?;
+            Ok(true)
+        }
+        _ => Ok(false),
     }
-    let distance = pointer.offset_from(origin);
-    let ordering = pointer.cmp(&origin);
-    Ok(Some(format!(in alloc; "{distance} {ordering:?}")?))
 }
 
-// The answers of a range to its calls, and its two ends after them.
-fn range_text<'a, R: BitRegister, O: BitOrder<R>, A: Allocator>(
+// Writes the answers of a range to its calls, and its two ends after them; tells whether each is an
+// answer.
+fn write_range<'a, R: BitRegister, O: BitOrder<R>, A: Allocator>(
+    text: &mut String<&'a A>,
     alloc: &'a A,
     start: &str,
     count: &str,
     steps: &[&str],
-) -> Result<Option<String<&'a A>>, AllocError> {
+) -> Result<bool, AllocError> {
     let Some(mut range) = range_of::<R, O>(start, count) else {
-        return Ok(None);
+        return Ok(false);
     };
-    let mut text = String::new(alloc);
     let calls = calls_of(alloc, steps)?;
-    if !write_answers(&mut text, &mut range, calls.trim_end())? {
-        return Ok(None);
+    if !write_answers(text, &mut range, calls.trim_end())? {
+        return Ok(false);
     }
     let end = place_of(range.end());
     let start = place_of(range.start());
     write!(text, " {start}..{end}")?;
-    Ok(Some(text))
+    Ok(true)
 }
 
 // The text of the calls of a range, with a space after each word.
@@ -223,7 +197,7 @@ fn write_answers<R: BitRegister, O: BitOrder<R>, A: Allocator>(
             text.push_str(";")?;
         }
         is_first = false;
-        if !write_answer(text, range, call)? {
+        if !write_range_answer(text, range, call)? {
             return Ok(false);
         }
     }
@@ -252,7 +226,7 @@ fn place_of<R: BitRegister, O: BitOrder<R>>(pointer: BitPtr<R, O>) -> i128 {
 }
 
 // Writes a range's answer to a call, and tells whether it is one.
-fn write_answer<R: BitRegister, O: BitOrder<R>, A: Allocator>(
+fn write_range_answer<R: BitRegister, O: BitOrder<R>, A: Allocator>(
     text: &mut String<A>,
     range: &mut BitPtrRange<R, O>,
     call: &str,

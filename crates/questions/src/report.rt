@@ -1,7 +1,7 @@
 //! What the lines of a file come to.
 
-use crate::line::{Line, Topic};
-use crate::{domains, index, memories, pointers};
+use crate::line::Line;
+use crate::question;
 use std::alloc::{AllocError, Allocator};
 use std::fmt::Write as _;
 
@@ -83,36 +83,38 @@ fn write_difference<'a, A: Allocator>(
     kind: &str,
     rest: &str,
 ) -> Result<bool, AllocError> {
-    let Some(line) = Line::of(alloc, kind, rest)? else {
-        writeln!(text, "unknown: {kind} {rest}")?;
-        return Ok(false);
-    };
-    match reply(alloc, line.topic, kind, &line.question)? {
-        Some(ours) if ours.as_str() == line.answer => Ok(true),
-        Some(ours) => {
-            writeln!(text, "differs: {kind} {rest}")?;
-            writeln!(text, "ours: {ours}")?;
-            Ok(false)
-        }
+    match Line::of(alloc, kind, rest)? {
+        Some(line) => write_other_answer(text, alloc, kind, rest, &line),
         None => {
-            writeln!(text, "differs: {kind} {rest}")?;
-            writeln!(text, "ours: no question")?;
+            writeln!(text, "unknown: {kind} {rest}")?;
             Ok(false)
         }
     }
 }
 
-// The library's answer to a question, or `None` where it is none.
-fn reply<'a, A: Allocator>(
+// Writes a line and the library's answer, where that is another than the line's.
+fn write_other_answer<'a, A: Allocator>(
+    text: &mut String<&'a A>,
     alloc: &'a A,
-    topic: Topic,
     kind: &str,
-    words: &[&str],
-) -> Result<Option<String<&'a A>>, AllocError> {
-    match topic {
-        Topic::Index => index::answer(alloc, kind, words),
-        Topic::Pointers => pointers::answer(alloc, kind, words),
-        Topic::Memories => memories::answer(alloc, kind, words),
-        Topic::Domains => domains::answer(alloc, kind, words),
+    rest: &str,
+    line: &Line<&'a A>,
+) -> Result<bool, AllocError> {
+    match question::answer(alloc, line.topic, kind, &line.question)? {
+        Some(ours) if ours.as_str() == line.answer => return Ok(true),
+        Some(ours) => write_ours(text, kind, rest, ours.as_str())?,
+        None => write_ours(text, kind, rest, "no question")?,
     }
+    Ok(false)
+}
+
+// Writes a line, and the library's answer.
+fn write_ours<A: Allocator>(
+    text: &mut String<A>,
+    kind: &str,
+    rest: &str,
+    ours: &str,
+) -> Result<(), AllocError> {
+    writeln!(text, "differs: {kind} {rest}")?;
+    writeln!(text, "ours: {ours}")
 }

@@ -58,25 +58,25 @@ impl<R: BitRegister> Edit<R> {
     }
 }
 
-// The values before the edit, and the memory after it.
-pub(super) fn edited<'a, R: BitRegister, O: BitOrder<R>, A: Allocator>(
-    alloc: &'a A,
+// Writes the values before the edit of a name, and the memory after it; tells whether there is such
+// an edit.
+pub(super) fn write_edited<R: BitRegister, O: BitOrder<R>, A: Allocator>(
+    text: &mut String<A>,
     span: BitSpan<R, O>,
     memory: &mut [R],
-    edit: &str,
+    name: &str,
     argument: &str,
-) -> Result<Option<String<&'a A>>, AllocError>
+) -> Result<bool, AllocError>
     requires { Fits R.BITS (span_of span) (length memory.old) }
 {
-    let Some(edit) = Edit::of_name(edit, argument) else {
-        return Ok(None);
+    let Some(edit) = Edit::of_name(name, argument) else {
+        return Ok(false);
     };
-    let mut text = String::new(alloc);
-    edit_parts(&mut text, span, memory, edit)?;
-    end_list(&mut text)?;
+    edit_parts(text, span, memory, edit)?;
+    end_list(text)?;
     text.push_str(" ")?;
-    write_words(&mut text, memory)?;
-    Ok(Some(text))
+    write_words(text, memory)?;
+    Ok(true)
 }
 
 // Edits each part and each whole word of a span, and writes the values before.
@@ -95,10 +95,10 @@ fn edit_parts<R: BitRegister, O: BitOrder<R>, A: Allocator>(
                 write_value(text, edit.edit_part(&mut part))?;
             }
             edit_words(text, body, edit)?;
-            if let Some(mut part) = tail {
-                write_value(text, edit.edit_part(&mut part))?;
+            match tail {
+                Some(mut part) => write_value(text, edit.edit_part(&mut part)),
+                None => Ok(()),
             }
-            Ok(())
         }
     }
 }

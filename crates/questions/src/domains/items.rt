@@ -1,51 +1,61 @@
 //! The parts, the items and the bits of a domain.
 
-ghost use Rattle.std.specs.Prelude.{◌↔◌, IsTrue, length};
+ghost use Rattle.std.specs.Prelude.{◌↔◌, ◌^◌, ◌<◌, IsTrue, length};
 ghost use Rattle.bitvec.specs.Parts.{HasShortBody};
 ghost use Rattle.bitvec.specs.Domain.{domain_parts};
 ghost use Rattle.bitvec.specs.BitSpan.{span_of};
 ghost use Rattle.bitvec.specs.Span.{Fits};
 
 use crate::domains::lists::{begin_item, end_list, write_value};
-use bitvec::domain::{BitDomain, BitWords, Domain};
+use bitvec::domain::{BitDomain, BitWords, Domain, PartialElement};
 use bitvec::mem::BitRegister;
 use bitvec::order::BitOrder;
 use bitvec::ptr::span::{BitSpan, SpanLimits};
 use std::alloc::{AllocError, Allocator};
 use std::fmt::Write as _;
 
-// The variant, and each part and whole word with its place in the memory and its value.
-pub(super) fn parts<'a, R: BitRegister, O: BitOrder<R>, A: Allocator>(
-    alloc: &'a A,
+// Writes each part and whole word of a span's domain, with its place in the memory and its value.
+pub(super) fn write_parts<R: BitRegister, O: BitOrder<R>, A: Allocator>(
+    text: &mut String<A>,
     span: BitSpan<R, O>,
     memory: &[R],
-) -> Result<Option<String<&'a A>>, AllocError>
+) -> Result<(), AllocError>
     requires { Fits R.BITS (span_of span) (length memory.now) }
 {
-    let mut text = String::new(alloc);
-    let mut at = span.address() as u128;
+    let at = span.address() as u128;
     match span.domain(memory) {
-        Domain::Enclave(part) => write_part(&mut text, "enclave", at, part.load_value())?,
-        Domain::Region { head, body, tail } => {
-            if let Some(part) = head {
-                write_part(&mut text, "head", at, part.load_value())?;
-                at += 1;
-            }
-            for (k, word) in body.iter().enumerate() {
-                write_part(&mut text, "body", at + k as u128, *word)?;
-            }
-            if let Some(part) = tail {
-                write_part(
-                    &mut text,
-                    "tail",
-                    at + body.len() as u128,
-                    part.load_value(),
-                )?;
-            }
-        }
+        Domain::Enclave(part) => write_part(text, "enclave", at, part.load_value())?,
+        Domain::Region { head, body, tail } => write_region(text, at, head, body, tail)?,
     }
-    end_list(&mut text)?;
-    Ok(Some(text))
+    end_list(text)
+}
+
+// Writes the parts of a region whose first word has this place.
+fn write_region<R: BitRegister, O: BitOrder<R>, A: Allocator>(
+    text: &mut String<A>,
+    at: u128,
+    head: Option<PartialElement<R, O>>,
+    body: &[R],
+    tail: Option<PartialElement<R, O>>,
+) -> Result<(), AllocError>
+    requires { at < 2 ^ 64 }
+{
+    let body_at = at + u128::from(head.is_some());
+    if let Some(part) = head {
+        write_part(text, "head", at, part.load_value())?;
+    }
+    for (k, word) in body.iter().enumerate() {
+        write_part(text, "body", body_at + k as u128, *word)?;
+    }
+    match tail {
+        Some(part) => write_part(
+            text,
+            "tail",
+            body_at + body.len() as u128,
+            part.load_value(),
+        ),
+        None => Ok(()),
+    }
 }
 
 // Writes which part it is, its word, and its value.
@@ -60,48 +70,68 @@ fn write_part<R: BitRegister, A: Allocator>(
     write!(text, "{part} {at} {value:x}")
 }
 
-// The items from the back on.
-pub(super) fn back<'a, R: BitRegister, O: BitOrder<R>, A: Allocator>(
-    alloc: &'a A,
+// Writes the items from the back on.
+pub(super) fn write_back<R: BitRegister, O: BitOrder<R>, A: Allocator>(
+    text: &mut String<A>,
     domain: Domain<R, O>,
-) -> Result<Option<String<&'a A>>, AllocError> {
-    let mut text = String::new(alloc);
+) -> Result<(), AllocError> {
     for value in domain.rev() {
-        write_value(&mut text, value)?;
+        write_value(text, value)?;
     }
-    end_list(&mut text)?;
-    Ok(Some(text))
+    end_list(text)
 }
 
-// An item for each letter of a pattern, `f` from the front and `b` from the back, with the number
-// of items after it.
-pub(super) fn mixed<'a, R: BitRegister, O: BitOrder<R>, A: Allocator>(
-    alloc: &'a A,
+// Writes an item for each letter of a pattern, `f` from the front and `b` from the back, with the
+// number of items after it; tells whether each letter is one of these.
+pub(super) fn write_mixed<R: BitRegister, O: BitOrder<R>, A: Allocator>(
+    text: &mut String<A>,
     domain: Domain<R, O>,
     pattern: &str,
-) -> Result<Option<String<&'a A>>, AllocError> {
+) -> Result<bool, AllocError> {
     let mut domain = domain;
-    let mut text = String::new(alloc);
     for letter in pattern.chars() {
-        let item = match letter {
-            'f' => domain.next(),
-            'b' => domain.next_back(),
-            _ => return Ok(None),
-        };
-        let Some(left) = left(&domain) else {
-            return Ok(None);
-        };
-        match item {
-            Some(value) => write_value(&mut text, value)?,
-            None => {
-                begin_item(&mut text)?;
-                text.push_str("-")?;
-            }
+        if !write_next(text, &mut domain, letter)? {
+            return Ok(false);
         }
-        write!(text, " {left}")?;
     }
-    end_list(&mut text)?;
-    Ok(Some(text))
+    end_list(text)?;
+    Ok(true)
+}
+
+// Takes the item of a letter, and writes it with the number of items after it.
+fn write_next<R: BitRegister, O: BitOrder<R>, A: Allocator>(
+    text: &mut String<A>,
+    domain: &mut Domain<R, O>,
+    letter: char,
+) -> Result<bool, AllocError> {
+    let item = match letter {
+        'f' => domain.next(),
+        'b' => domain.next_back(),
+        _ => return Ok(false),
+    };
+    match left(domain) {
+        Some(left) => {
+            write_taken(text, item, left)?;
+            Ok(true)
+        }
+        None => Ok(false),
+    }
+}
+
+// Writes an item that was taken, or `-` for none, and how many are left.
+fn write_taken<R: BitRegister, A: Allocator>(
+    text: &mut String<A>,
+    item: Option<R>,
+    left: usize,
+) -> Result<(), AllocError> {
+    begin_item(text)?;
+    match item {
+        Some(value) => {
+            let value = value.to_u128();
+            write!(text, "{value:x} {left}")
+        }
+        None => write!(text, "- {left}"),
+    }
 }
 
 // How many items are left, where the whole words are no more than a span's.
@@ -125,48 +155,40 @@ fn has_short_body<R: BitRegister, O: BitOrder<R>>(domain: &Domain<R, O>) -> bool
     }
 }
 
-// The variant, and the bits of each part by their first word, their head and their number.
-pub(super) fn bits<'a, R: BitRegister, O: BitOrder<R>, A: Allocator>(
-    alloc: &'a A,
+// Writes the variant, and the bits of each part by their first word, their head and their number.
+pub(super) fn write_bits<R: BitRegister, O: BitOrder<R>, A: Allocator>(
+    text: &mut String<A>,
     span: BitSpan<R, O>,
     memory: &[R],
-) -> Result<Option<String<&'a A>>, AllocError>
+) -> Result<(), AllocError>
     requires { Fits R.BITS (span_of span) (length memory.now) }
 {
-    let mut text = String::new(alloc);
     let at = span.address() as u128;
     match span.bit_domain(memory) {
-        BitDomain::Enclave(run) => {
-            text.push_str("enclave ")?;
-            write_run(&mut text, at, run)?;
-        }
+        BitDomain::Enclave(run) => write_run(text, "enclave ", at, run),
         BitDomain::Region { head, body, tail } => {
             let body_at = at + u128::from(!head.is_empty());
             let tail_at = body_at + body.words().len() as u128;
-            text.push_str("region ")?;
-            write_run(&mut text, at, head)?;
-            text.push_str(";")?;
-            write_run(&mut text, body_at, body)?;
-            text.push_str(";")?;
-            write_run(&mut text, tail_at, tail)?;
+            write_run(text, "region ", at, head)?;
+            write_run(text, ";", body_at, body)?;
+            write_run(text, ";", tail_at, tail)
         }
     }
-    Ok(Some(text))
 }
 
 // Writes the first word of a run of bits, or `-` where it has none, the index of the first in it,
-// and how many there are.
+// and how many there are, behind a text.
 fn write_run<R: BitRegister, O: BitOrder<R>, A: Allocator>(
     text: &mut String<A>,
+    before: &str,
     at: u128,
     run: BitWords<R, O>,
 ) -> Result<(), AllocError> {
-    if run.is_empty() {
-        text.push_str("-")?;
-    } else {
-        write!(text, "{at}")?;
-    }
     let head = run.head().into_inner();
     let len = run.len();
-    write!(text, " {head} {len}")
+    if run.is_empty() {
+        write!(text, "{before}- {head} {len}")
+    } else {
+        write!(text, "{before}{at} {head} {len}")
+    }
 }

@@ -6,43 +6,31 @@ use bitvec::index::BitIdx;
 use bitvec::mem::BitRegister;
 use bitvec::order::BitOrder;
 use bitvec::ptr::span::BitSpan;
-use notation::names::Call;
 use notation::number::number;
-use notation::words::{words_of, write_words};
+use notation::words::write_words;
 use std::alloc::{AllocError, Allocator};
 use std::fmt::Write as _;
 
-// A question of the part of a word from a head to before a tail.
-#[derive(Drop)]
-pub(super) struct PartialCall<'a, 't, A: Allocator> {
-    pub(super) alloc: &'a A,
-    pub(super) word: &'t str,
-    pub(super) head: &'t str,
-    pub(super) tail: &'t str,
-    pub(super) edit: &'t str,
-    pub(super) argument: &'t str,
-}
-
-impl<'a, A: Allocator> Call for PartialCall<'a, '_, A> {
-    type Answer = Result<Option<String<&'a A>>, AllocError>;
-
-    // The part's value before, and the word after.
-    fn at<R: BitRegister, O: BitOrder<R>>(&self) -> Self::Answer {
-        let Some(mut memory) = words_of::<R, A>(self.alloc, self.word)? else {
-            return Ok(None);
-        };
-        let Some(span) = span_between::<R, O>(self.head, self.tail) else {
-            return Ok(None);
-        };
-        let Some(old) = old_value(span, &mut memory, self.edit, self.argument) else {
-            return Ok(None);
-        };
-        let mut text = String::new(self.alloc);
-        let old = old.to_u128();
-        write!(text, "{old:x} ")?;
-        write_words(&mut text, &memory)?;
-        Ok(Some(text))
-    }
+// Writes the value before an edit of the part of a word from a head to before a tail, and the word
+// after it; tells whether there are such a part and such an edit.
+pub(super) fn write_answer<R: BitRegister, O: BitOrder<R>, A: Allocator>(
+    text: &mut String<A>,
+    memory: &mut [R],
+    words: &[&str],
+) -> Result<bool, AllocError> {
+    let [head, tail, edit, argument] = words else {
+        return Ok(false);
+    };
+    let Some(span) = span_between::<R, O>(head, tail) else {
+        return Ok(false);
+    };
+    let Some(old) = old_value(span, memory, edit, argument) else {
+        return Ok(false);
+    };
+    let old = old.to_u128();
+    write!(text, "{old:x} ")?;
+    write_words(text, memory)?;
+    Ok(true)
 }
 
 // The span of the bits of a memory's first word from a head to before a tail.

@@ -8,7 +8,7 @@ use std::fmt::{self, Write as _};
 
 // A form of text.
 #[derive(Clone, Copy, Drop)]
-pub(super) enum Form {
+enum Form {
     Decimal,
     Binary,
     Octal,
@@ -18,7 +18,7 @@ pub(super) enum Form {
 
 impl Form {
     // The form of a name.
-    pub(super) fn of_name(name: &str) -> Option<Self> {
+    fn of_name(name: &str) -> Option<Self> {
         match name {
             "d" => Some(Form::Decimal),
             "b" => Some(Form::Binary),
@@ -49,14 +49,16 @@ impl<'a, R: BitRegister, O: BitOrder<R>> fmt::Display for Shown<'a, R, O> {
     }
 }
 
-// The text of a domain in a form.
-pub(super) fn text<'a, R: BitRegister, O: BitOrder<R>, A: Allocator>(
-    alloc: &'a A,
+// Writes a domain in the form of a name, and tells whether there is such a form.
+pub(super) fn write_shown<R: BitRegister, O: BitOrder<R>, A: Allocator>(
+    text: &mut String<A>,
     domain: Domain<R, O>,
-    form: Form,
-) -> Result<Option<String<&'a A>>, AllocError> {
-    let mut text = String::new(alloc);
+    name: &str,
+) -> Result<bool, AllocError> {
+    let Some(form) = Form::of_name(name) else {
+        return Ok(false);
+    };
     let shown = Shown { domain, form };
     write!(text, "{shown}")?;
-    Ok(Some(text))
+    Ok(true)
 }

@@ -1,0 +1,28 @@
+//! Values as the text of an answer.
+
+use std::alloc::{AllocError, Allocator};
+use std::fmt::{Debug, Display, Write as _};
+
+/// Writes two values with a space between them, and tells whether there are any.
+pub fn write_two<T: Display + Copy, U: Display + Copy, A: Allocator>(
+    text: &mut String<A>,
+    values: Option<(T, U)>,
+) -> Result<bool, AllocError> {
+    match values {
+        Some((one, other)) => {
+            write!(text, "{one} {other}")?;
+            Ok(true)
+        }
+        None => Ok(false),
+    }
+}
+
+/// Writes a value in full and a value plainly, and tells so.
+pub fn write_forms<T: Debug, U: Display, A: Allocator>(
+    text: &mut String<A>,
+    full: &T,
+    plain: &U,
+) -> Result<bool, AllocError> {
+    write!(text, "{full:?} {plain}")?;
+    Ok(true)
+}
