@@ -7,11 +7,11 @@
 
 ghost use Rattle.std.specs.Prelude.{◌≡◌, ℕ, ◌+◌, ◌-◌, ◌*◌, ◌/◌, ◌<◌, ◌≤◌, ◌==◌, ◌&&◌, ◌^◌, ◌%◌};
 ghost use Rattle.std.specs.Prelude.{Bool, true, false, nat_lt, if◌then◌else◌, length, map, refl};
-ghost use Rattle.bitvec.specs.BitSpan.{span_of};
+ghost use Rattle.bitvec.specs.BitSpan.{span_of, list_by};
 ghost use Rattle.bitvec.specs.Digit.{digit};
 ghost use Rattle.bitvec.specs.Place.{words_met};
 ghost use Rattle.bitvec.specs.Slot.{slot_of, EditsPart};
-ghost use Rattle.bitvec.specs.Span.{Fits, KeepsOthers, element, list_of};
+ghost use Rattle.bitvec.specs.Span.{Fits, KeepsOthers, element};
 ghost use Rattle.bitvec_slice.specs.Field.{IsSequential, stretch_start, stretch_end, shift_at};
 ghost use Rattle.bitvec_slice.specs.Field.{place_in, word_at, le_bits, be_bits, field_bits};
 ghost use Rattle.bitvec_slice.specs.Field.{le_list, be_list, field_list, number_with};
@@ -116,7 +116,7 @@ fn load_part<R: BitRegister, O: Sequential<R>>(span: BitSpan<R, O>, memory: &[R]
         ≡ (nat_lt (stretch_start R.BITS (span_of span).head k + p)
         (stretch_end R.BITS (span_of span).head (span_of span).len k)
         && element (le_bits R.BITS O.RISES (span_of span).head
-        (list_of R.BITS O.at_of (span_of span) (map R.number memory.now)))
+        (list_by span O.at_of memory.now))
         (stretch_start R.BITS (span_of span).head k + p)) }
 {
     span.part(memory, k)
@@ -137,7 +137,7 @@ fn load_digits<R: BitRegister, O: Sequential<R>, N: BitRegister>(
     ensures { (q : ℕ) → q < N.BITS → digit (N.number result) q
         ≡ ((word_at big R.BITS (span_of span).head (span_of span).len q == k)
         && element (field_bits big R.BITS O.RISES (span_of span).head
-        (list_of R.BITS O.at_of (span_of span) (map R.number memory.now))) q) }
+        (list_by span O.at_of memory.now)) q) }
 {
     let part = load_part(span, memory, k).to_u128();
     N::from_u128(part)
@@ -155,7 +155,7 @@ fn load<R: BitRegister, O: Sequential<R>, N: BitRegister>(
     requires small { (span_of span).len ≤ N.BITS }
     ensures number { N.number result
         ≡ number_with (field_bits big R.BITS O.RISES (span_of span).head
-        (list_of R.BITS O.at_of (span_of span) (map R.number memory.now))) }
+        (list_by span O.at_of memory.now)) }
     ensures parts { HasParts big R.BITS O.RISES (span_of span) (map R.number memory.now)
         (N.number result) }
 {
@@ -212,16 +212,16 @@ fn store<R: BitRegister, O: Sequential<R>, N: BitRegister>(
     big: bool,
 )
     requires fits { Fits R.BITS (span_of span) (length memory.old) }
-    requires small { length (list_of R.BITS O.at_of (span_of span) (map R.number memory.old))
+    requires small { length (list_by span O.at_of memory.old)
         ≤ N.BITS }
-    ensures list { list_of R.BITS O.at_of (span_of span) (map R.number memory.new)
+    ensures list { list_by span O.at_of memory.new
         ≡ field_list big R.BITS O.RISES (span_of span).head (lowest_digits
-        (length (list_of R.BITS O.at_of (span_of span) (map R.number memory.old)))
+        (length (list_by span O.at_of memory.old))
         (N.number value)) }
     ensures loaded { number_with (field_bits big R.BITS O.RISES (span_of span).head
-        (list_of R.BITS O.at_of (span_of span) (map R.number memory.new)))
+        (list_by span O.at_of memory.new))
         ≡ N.number value
-        % 2 ^ length (list_of R.BITS O.at_of (span_of span) (map R.number memory.old)) }
+        % 2 ^ length (list_by span O.at_of memory.old) }
     ensures parts { HasParts big R.BITS O.RISES (span_of span) (map R.number memory.new)
         (N.number value) }
     ensures others { KeepsOthers R.BITS O.at_of (span_of span) (map R.number memory.old)

@@ -2,8 +2,8 @@
 
 ghost use Rattle.std.specs.Prelude.{◌≡◌, ⊤, ◌<◌, ◌↔◌, IsTrue, IsSome, IfSome, length, map};
 ghost use Rattle.std.specs.Prelude.{slice_get};
-ghost use Rattle.bitvec.specs.BitSpan.{span_of};
-ghost use Rattle.bitvec.specs.Span.{Fits, element, list_of};
+ghost use Rattle.bitvec.specs.BitSpan.{span_of, list_by};
+ghost use Rattle.bitvec.specs.Span.{Fits, element};
 
 use crate::slice::bit::read_bit;
 use bitvec::mem::BitRegister;
@@ -65,7 +65,7 @@ impl<'a, R: BitRegister, O: BitOrder<R>> BitSlice<'a, R, O> {
         ensures memory { IfSome result (λ slice. slice_memory slice ≡ memory.now) }
         ensures span { IfSome result (λ slice. slice_span slice ≡ span_of span) }
         ensures bits { IfSome result (λ slice. bits_of slice
-            ≡ list_of R.BITS O.at_of (span_of span) (map R.number memory.now)) }
+            ≡ list_by span O.at_of memory.now) }
     {
         if span.fits(memory.len()) {
             Some(BitSlice { memory, span })

@@ -5,9 +5,9 @@
 
 ghost use Rattle.std.specs.Prelude.{◌≡◌, ◌≢◌, ℕ, pos, ◌<◌, ◌≤◌, ◌↔◌, IsTrue, length, map};
 ghost use Rattle.std.specs.Prelude.{slice_set, IsSome, IfSome, All};
-ghost use Rattle.bitvec.specs.BitSpan.{span_of};
+ghost use Rattle.bitvec.specs.BitSpan.{span_of, list_by};
 ghost use Rattle.bitvec.specs.Memory.{bit_of};
-ghost use Rattle.bitvec.specs.Span.{Fits, Covers, element, list_of};
+ghost use Rattle.bitvec.specs.Span.{Fits, Covers, element};
 ghost use Rattle.bitvec.specs.Run.{CanRun, IsOutside};
 ghost use Rattle.view.specs.Fill.{with_filled};
 ghost use Rattle.view.specs.Interval.{interval_span, IsSpan};
@@ -23,7 +23,7 @@ use std::marker::PhantomData;
 fn read_bit<R: BitRegister, O: BitOrder<R>>(span: BitSpan<R, O>, memory: &[R], i: usize) -> bool
     requires fits { Fits R.BITS (span_of span) (length memory.now) }
     requires inside { i < (span_of span).len }
-    ensures { result ≡ element (list_of R.BITS O.at_of (span_of span) (map R.number memory.now)) i }
+    ensures { result ≡ element (list_by span O.at_of memory.now) i }
 {
     span.bitptr(i).read(memory)
 }
@@ -37,8 +37,8 @@ fn write_bit<R: BitRegister, O: BitOrder<R>>(
 )
     requires fits { Fits R.BITS (span_of span) (length memory.old) }
     requires inside { i < (span_of span).len }
-    ensures list { list_of R.BITS O.at_of (span_of span) (map R.number memory.new)
-        ≡ slice_set (list_of R.BITS O.at_of (span_of span) (map R.number memory.old)) i bit }
+    ensures list { list_by span O.at_of memory.new
+        ≡ slice_set (list_by span O.at_of memory.old) i bit }
     ensures others { (place : ℕ) → ¬ Covers R.BITS (span_of span) (pos place)
         → bit_of R.BITS O.at_of (map R.number memory.new) place
         ≡ bit_of R.BITS O.at_of (map R.number memory.old) place }
@@ -58,8 +58,8 @@ fn fill_bits<R: BitRegister, O: BitOrder<R>>(
     requires fits { Fits R.BITS (span_of span) (length memory.old) }
     requires ordered { from ≤ to }
     requires inside { to ≤ (span_of span).len }
-    ensures list { list_of R.BITS O.at_of (span_of span) (map R.number memory.new)
-        ≡ with_filled (list_of R.BITS O.at_of (span_of span) (map R.number memory.old)) from to
+    ensures list { list_by span O.at_of memory.new
+        ≡ with_filled (list_by span O.at_of memory.old) from to
         bit }
     ensures others { (place : ℕ) → ¬ Covers R.BITS (span_of span) (pos place)
         → bit_of R.BITS O.at_of (map R.number memory.new) place

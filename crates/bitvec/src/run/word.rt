@@ -1,7 +1,6 @@
 //! The commands to one word of a span, each with what the whole memory is when the loan has ended.
 
-ghost use Rattle.std.specs.Prelude.{ℕ, true, false, not, length, map};
-ghost use Rattle.std.specs.Option.{option_map};
+ghost use Rattle.std.specs.Prelude.{ℕ, true, false, not, length};
 ghost use Rattle.bitvec_mem.specs.Digit.{digit};
 ghost use Rattle.bitvec_domain.specs.Span.{Fits};
 ghost use Rattle.bitvec_domain.specs.BitSpan.{span_of};
@@ -19,8 +18,7 @@ pub(crate) fn load<R: BitRegister, O: BitOrder<R>>(
     k: usize,
 ) -> Option<R>
     requires { Fits R.BITS (span_of span) (length memory.now) }
-    ensures { LoadsWord R.BITS O.at_of (span_of span) k (map R.number memory.now)
-        (option_map R.number result) }
+    ensures { LoadsWord span k O.at_of memory.now result }
 {
     let (head, tail) = span.part_bounds(k)?;
     let at = span.address() as usize + k;
@@ -35,8 +33,8 @@ pub(crate) fn store<R: BitRegister, O: BitOrder<R>>(
     value: R,
 ) -> Option<R>
     requires { Fits R.BITS (span_of span) (length memory.old) }
-    ensures { EditsWord R.BITS O.at_of (span_of span) k (λ word i. digit (R.number value) (O.at_of i))
-        (map R.number memory.old) (map R.number memory.new) (option_map R.number result) }
+    ensures { EditsWord span k O.at_of (λ word i. digit (R.number value) (O.at_of i))
+        memory.old memory.new result }
 {
     let (head, tail) = span.part_bounds(k)?;
     let at = span.address() as usize + k;
@@ -51,8 +49,8 @@ pub(crate) fn invert<R: BitRegister, O: BitOrder<R>>(
     k: usize,
 ) -> Option<R>
     requires { Fits R.BITS (span_of span) (length memory.old) }
-    ensures { EditsWord R.BITS O.at_of (span_of span) k (λ word i. not (digit word (O.at_of i)))
-        (map R.number memory.old) (map R.number memory.new) (option_map R.number result) }
+    ensures { EditsWord span k O.at_of (λ word i. not (digit word (O.at_of i)))
+        memory.old memory.new result }
 {
     let (head, tail) = span.part_bounds(k)?;
     let at = span.address() as usize + k;
@@ -67,8 +65,7 @@ pub(crate) fn clear<R: BitRegister, O: BitOrder<R>>(
     k: usize,
 ) -> Option<R>
     requires { Fits R.BITS (span_of span) (length memory.old) }
-    ensures { EditsWord R.BITS O.at_of (span_of span) k (λ word i. false)
-        (map R.number memory.old) (map R.number memory.new) (option_map R.number result) }
+    ensures { EditsWord span k O.at_of (λ word i. false) memory.old memory.new result }
 {
     let (head, tail) = span.part_bounds(k)?;
     let at = span.address() as usize + k;
@@ -83,8 +80,7 @@ pub(crate) fn set<R: BitRegister, O: BitOrder<R>>(
     k: usize,
 ) -> Option<R>
     requires { Fits R.BITS (span_of span) (length memory.old) }
-    ensures { EditsWord R.BITS O.at_of (span_of span) k (λ word i. true)
-        (map R.number memory.old) (map R.number memory.new) (option_map R.number result) }
+    ensures { EditsWord span k O.at_of (λ word i. true) memory.old memory.new result }
 {
     let (head, tail) = span.part_bounds(k)?;
     let at = span.address() as usize + k;

@@ -3,9 +3,9 @@
 ghost use Rattle.std.specs.Prelude.{◌≡◌, ℕ, ◌<◌, ◌≤◌, ◌-◌, ◌++◌, length, map, slice_set};
 ghost use Rattle.std.specs.Prelude.{◌+◌, false, take, drop, replicate, reverse};
 ghost use Rattle.std.specs.List.{swap};
-ghost use Rattle.bitvec.specs.BitSpan.{span_of};
+ghost use Rattle.bitvec.specs.BitSpan.{span_of, list_by};
 ghost use Rattle.bitvec.specs.Memory.{list_with_copy};
-ghost use Rattle.bitvec.specs.Span.{Fits, KeepsOthers, element, list_of};
+ghost use Rattle.bitvec.specs.Span.{Fits, KeepsOthers, element};
 ghost use Rattle.bitvec_slice.specs.SpanStretch.{stretch_of};
 
 use bitvec::mem::BitRegister;
@@ -20,7 +20,7 @@ pub(super) fn read_bit<R: BitRegister, O: BitOrder<R>>(
 ) -> bool
     requires fits { Fits R.BITS (span_of span) (length memory.now) }
     requires inside { i < (span_of span).len }
-    ensures { result ≡ element (list_of R.BITS O.at_of (span_of span) (map R.number memory.now)) i }
+    ensures { result ≡ element (list_by span O.at_of memory.now) i }
 {
     span.bitptr(i).read(memory)
 }
@@ -34,8 +34,8 @@ pub(super) fn write_bit<R: BitRegister, O: BitOrder<R>>(
 )
     requires fits { Fits R.BITS (span_of span) (length memory.old) }
     requires inside { i < (span_of span).len }
-    ensures list { list_of R.BITS O.at_of (span_of span) (map R.number memory.new)
-        ≡ slice_set (list_of R.BITS O.at_of (span_of span) (map R.number memory.old)) i bit }
+    ensures list { list_by span O.at_of memory.new
+        ≡ slice_set (list_by span O.at_of memory.old) i bit }
     ensures others { KeepsOthers R.BITS O.at_of (span_of span) (map R.number memory.old)
         (map R.number memory.new) }
     ensures words { length memory.new ≡ length memory.old }
@@ -53,8 +53,8 @@ pub(super) fn swap_bits<R: BitRegister, O: BitOrder<R>>(
     requires fits { Fits R.BITS (span_of span) (length memory.old) }
     requires first { i < (span_of span).len }
     requires second { j < (span_of span).len }
-    ensures list { list_of R.BITS O.at_of (span_of span) (map R.number memory.new)
-        ≡ swap (list_of R.BITS O.at_of (span_of span) (map R.number memory.old)) i j }
+    ensures list { list_by span O.at_of memory.new
+        ≡ swap (list_by span O.at_of memory.old) i j }
     ensures others { KeepsOthers R.BITS O.at_of (span_of span) (map R.number memory.old)
         (map R.number memory.new) }
     ensures words { length memory.new ≡ length memory.old }
@@ -93,8 +93,8 @@ pub(super) fn fill_stretch<R: BitRegister, O: BitOrder<R>>(
     requires fits { Fits R.BITS (span_of span) (length memory.old) }
     requires ordered { from ≤ to }
     requires inside { to ≤ (span_of span).len }
-    ensures list { let old = list_of R.BITS O.at_of (span_of span) (map R.number memory.old)
-        in list_of R.BITS O.at_of (span_of span) (map R.number memory.new)
+    ensures list { let old = list_by span O.at_of memory.old
+        in list_by span O.at_of memory.new
         ≡ take from old ++ replicate (to - from) bit ++ drop to old }
     ensures others { KeepsOthers R.BITS O.at_of (span_of span) (map R.number memory.old)
         (map R.number memory.new) }
@@ -114,8 +114,8 @@ pub(super) fn copy_bits<R: BitRegister, O: BitOrder<R>, R2: BitRegister, O2: Bit
     requires source_fits { Fits R2.BITS (span_of source) (length source_memory.now) }
     requires fits { Fits R.BITS (span_of span) (length memory.old) }
     requires same { (span_of source).len ≡ (span_of span).len }
-    ensures list { list_of R.BITS O.at_of (span_of span) (map R.number memory.new)
-        ≡ list_of R2.BITS O2.at_of (span_of source) (map R2.number source_memory.now) }
+    ensures list { list_by span O.at_of memory.new
+        ≡ list_by source O2.at_of source_memory.now }
     ensures others { KeepsOthers R.BITS O.at_of (span_of span) (map R.number memory.old)
         (map R.number memory.new) }
     ensures words { length memory.new ≡ length memory.old }
@@ -137,8 +137,8 @@ pub(super) fn copy_stretch<R: BitRegister, O: BitOrder<R>>(
     requires fits { Fits R.BITS (span_of span) (length memory.old) }
     requires source_inside { from + count ≤ (span_of span).len }
     requires target_inside { to + count ≤ (span_of span).len }
-    ensures list { let old = list_of R.BITS O.at_of (span_of span) (map R.number memory.old)
-        in list_of R.BITS O.at_of (span_of span) (map R.number memory.new)
+    ensures list { let old = list_by span O.at_of memory.old
+        in list_by span O.at_of memory.new
         ≡ list_with_copy old from old to count }
     ensures others { KeepsOthers R.BITS O.at_of (span_of span) (map R.number memory.old)
         (map R.number memory.new) }
@@ -154,8 +154,8 @@ pub(super) fn copy_stretch<R: BitRegister, O: BitOrder<R>>(
 // Puts the bits of a span in the opposite order, and changes no other bit.
 pub(super) fn reverse_bits<R: BitRegister, O: BitOrder<R>>(span: BitSpan<R, O>, memory: &mut [R])
     requires fits { Fits R.BITS (span_of span) (length memory.old) }
-    ensures list { list_of R.BITS O.at_of (span_of span) (map R.number memory.new)
-        ≡ reverse (list_of R.BITS O.at_of (span_of span) (map R.number memory.old)) }
+    ensures list { list_by span O.at_of memory.new
+        ≡ reverse (list_by span O.at_of memory.old) }
     ensures others { KeepsOthers R.BITS O.at_of (span_of span) (map R.number memory.old)
         (map R.number memory.new) }
     ensures words { length memory.new ≡ length memory.old }
@@ -177,8 +177,8 @@ pub(super) fn reverse_stretch<R: BitRegister, O: BitOrder<R>>(
     requires fits { Fits R.BITS (span_of span) (length memory.old) }
     requires ordered { from ≤ to }
     requires inside { to ≤ (span_of span).len }
-    ensures list { let old = list_of R.BITS O.at_of (span_of span) (map R.number memory.old)
-        in list_of R.BITS O.at_of (span_of span) (map R.number memory.new)
+    ensures list { let old = list_by span O.at_of memory.old
+        in list_by span O.at_of memory.new
         ≡ take from old ++ reverse (take (to - from) (drop from old)) ++ drop to old }
     ensures others { KeepsOthers R.BITS O.at_of (span_of span) (map R.number memory.old)
         (map R.number memory.new) }
@@ -195,8 +195,8 @@ pub(super) fn rotate_bits<R: BitRegister, O: BitOrder<R>>(
 )
     requires fits { Fits R.BITS (span_of span) (length memory.old) }
     requires inside { by ≤ (span_of span).len }
-    ensures list { let old = list_of R.BITS O.at_of (span_of span) (map R.number memory.old)
-        in list_of R.BITS O.at_of (span_of span) (map R.number memory.new)
+    ensures list { let old = list_by span O.at_of memory.old
+        in list_by span O.at_of memory.new
         ≡ drop by old ++ take by old }
     ensures others { KeepsOthers R.BITS O.at_of (span_of span) (map R.number memory.old)
         (map R.number memory.new) }
@@ -217,8 +217,8 @@ pub(super) fn shift_bits_left<R: BitRegister, O: BitOrder<R>>(
 )
     requires fits { Fits R.BITS (span_of span) (length memory.old) }
     requires inside { by ≤ (span_of span).len }
-    ensures list { let old = list_of R.BITS O.at_of (span_of span) (map R.number memory.old)
-        in list_of R.BITS O.at_of (span_of span) (map R.number memory.new)
+    ensures list { let old = list_by span O.at_of memory.old
+        in list_by span O.at_of memory.new
         ≡ drop by old ++ replicate by false }
     ensures others { KeepsOthers R.BITS O.at_of (span_of span) (map R.number memory.old)
         (map R.number memory.new) }
@@ -238,8 +238,8 @@ pub(super) fn shift_bits_right<R: BitRegister, O: BitOrder<R>>(
 )
     requires fits { Fits R.BITS (span_of span) (length memory.old) }
     requires inside { by ≤ (span_of span).len }
-    ensures list { let old = list_of R.BITS O.at_of (span_of span) (map R.number memory.old)
-        in list_of R.BITS O.at_of (span_of span) (map R.number memory.new)
+    ensures list { let old = list_by span O.at_of memory.old
+        in list_by span O.at_of memory.new
         ≡ replicate by false ++ take (length old - by) old }
     ensures others { KeepsOthers R.BITS O.at_of (span_of span) (map R.number memory.old)
         (map R.number memory.new) }

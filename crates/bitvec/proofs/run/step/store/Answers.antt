@@ -1,4 +1,4 @@
-use Rattle.std.proofs.Common.{ℕ, map, sym, subst}
+use Rattle.std.proofs.Common.{ℕ, map, sym, subst, ap}
 use Rattle.std.proofs.lemmas.List.{length-map}
 use Rattle.bitvec_ptr.proofs.PlaceOrder.{bit_below}
 use Rattle.bitvec_domain.specs.Span.{Fits}
@@ -20,4 +20,4 @@ returns-in-None g c =
     let width = g.R.BitRegister.BITS in
     let at = g.O.BitAt.at_of in
     let words = map g.R.BitRegister.number c.args.memory.now in
-    step-kept width at (span_of c.args.span) words _ (Store c.args.k (g.R.BitRegister.number c.args.value)) (word_past width at (span_of c.args.span) words c.args.k c.in-None.ensures.0) c.in-None.ensures.1
+    step-kept width at (span_of c.args.span) words _ (Store c.args.k (g.R.BitRegister.number c.args.value)) (word_past width at (span_of c.args.span) words c.args.k c.in-None.ensures.0) (ap (map g.R.BitRegister.number) c.in-None.ensures.1)
