@@ -7,10 +7,8 @@ use bitvec::domain::{
 };
 use bitvec::mem::BitRegister;
 use bitvec::order::{BitOrder, Lsb0, Msb0};
-use bitvec::ptr::span::BitSpan;
 use std::alloc::{AllocError, Global};
 use std::fmt;
-use std::test::Fail;
 
 // The domain of the span of `len` bits from a place on in a memory, where it fits.
 fn domain_at<R: BitRegister, O: BitOrder<R>>(
@@ -40,6 +38,31 @@ fn taken<R: BitRegister, O: BitOrder<R>>(domain: Domain<R, O>, steps: [bool; 6])
     items
 }
 
+// What the domain of a span gives so.
+fn taken_at(memory: &[u8], start: u32, len: usize, steps: [bool; 6]) -> Option<[Option<u8>; 6]> {
+    Some(taken(domain_at::<u8, Lsb0>(memory, start, len)?, steps))
+}
+
+#[test]
+fn takes_items_from_both_ends(rt: HostRuntime) {
+    let memory = [0x12u8, 0x34, 0x56];
+    let (front, back) = (true, false);
+    assert_eq!(rt;
+        [
+            taken_at(&memory, 4, 8, [front, back, front, back, back, front]),
+            taken_at(&memory, 4, 16, [back, back, back, back, front, front]),
+            taken_at(&memory, 4, 16, [front, back, front, front, back, front]),
+            taken_at(&memory, 18, 4, [back, front, back, front, back, back])
+        ],
+        [
+            Some([Some(0x10), Some(0x04), None, None, None, None]),
+            Some([Some(0x06), Some(0x34), Some(0x10), None, None, None]),
+            Some([Some(0x10), Some(0x06), Some(0x34), None, None, None]),
+            Some([Some(0x14), None, None, None, None, None])
+        ]
+    );
+}
+
 // How many items a span's domain has, and how many once the first and the last are taken.
 fn counts(memory: &[u8], start: u32, len: usize) -> Option<(usize, usize)> {
     let span = span_at::<u8, Lsb0>(start, len)?;
@@ -54,55 +77,28 @@ fn counts(memory: &[u8], start: u32, len: usize) -> Option<(usize, usize)> {
 }
 
 #[test]
-fn takes_items_from_both_ends(rt: HostRuntime) -> Result<(), Fail> {
-    let memory = [0x12u8, 0x34, 0x56];
-    let (front, back) = (true, false);
-    for (start, len, steps, want) in [
-        (
-            4,
-            8,
-            [front, back, front, back, back, front],
-            [Some(0x10), Some(0x04), None, None, None, None],
-        ),
-        (
-            4,
-            16,
-            [back, back, back, back, front, front],
-            [Some(0x06), Some(0x34), Some(0x10), None, None, None],
-        ),
-        (
-            4,
-            16,
-            [front, back, front, front, back, front],
-            [Some(0x10), Some(0x06), Some(0x34), None, None, None],
-        ),
-        (
-            18,
-            4,
-            [back, front, back, front, back, back],
-            [Some(0x14), None, None, None, None, None],
-        ),
-    ] {
-        let domain = domain_at::<u8, Lsb0>(&memory, start, len).ok_or("does not fit")?;
-        assert_eq!(rt; taken(domain, steps), want, "at {start}+{len}");
-    }
-    Ok(())
-}
-
-#[test]
 fn counts_its_items(rt: HostRuntime) {
     let memory = [0x12u8, 0x34, 0x56];
-    for (start, len, want) in [
-        (4, 8, (2, 0)),
-        (4, 16, (3, 1)),
-        (0, 24, (3, 1)),
-        (2, 4, (1, 0)),
-        (18, 4, (1, 0)),
-        (3, 0, (0, 0)),
-        (0, 0, (0, 0)),
-    ] {
-        assert_eq!(rt; counts(&memory, start, len), Some(want), "at {start}+{len}");
-    }
+    assert_eq!(rt;
+        [
+            counts(&memory, 4, 8),
+            counts(&memory, 4, 16),
+            counts(&memory, 0, 24),
+            counts(&memory, 2, 4),
+            counts(&memory, 18, 4),
+            counts(&memory, 3, 0),
+            counts(&memory, 0, 0)
+        ],
+        [
+            Some((2, 0)),
+            Some((3, 1)),
+            Some((3, 1)),
+            Some((1, 0)),
+            Some((1, 0)),
+            Some((0, 0)),
+            Some((0, 0))
+        ]
+    );
 }
 
 // The number of items of a region whose head and whose tail are the last four bits of a byte, round
@@ -161,22 +157,36 @@ impl<'a, R: BitRegister, O: BitOrder<R>> fmt::Display for InBase<'a, R, O> {
     }
 }
 
-#[test]
-fn is_a_text_in_five_bases(rt: HostRuntime) -> Result<(), Fail> {
+// Whether the domain of a span has a text in a base.
+fn has_text(
+    alloc: Global,
+    (start, len): (u32, usize),
+    base: u8,
+    want: &str,
+) -> Result<bool, AllocError> {
     let memory = [0x12u8, 0x34, 0x56, 0xab];
-    for (start, len, base, want) in [
-        (4, 8, 16, "[10, 4]"),
-        (4, 8, 2, "[10000, 100]"),
-        (4, 8, 8, "[20, 4]"),
-        (4, 8, 10, "[16, 4]"),
-        (24, 8, 16, "[ab]"),
-        (24, 8, 0, "[AB]"),
-        (3, 0, 16, "[]"),
+    match domain_at::<u8, Lsb0>(&memory, start, len) {
+        Some(domain) => {
+            let shown = InBase { domain, base };
+            let text = format!(in alloc; "{shown:>20}")?;
+            Ok(text.as_str() == want)
+        }
+        None => Ok(false),
+    }
+}
+
+#[test]
+fn is_a_text_in_five_bases(rt: HostRuntime) -> Result<(), AllocError> {
+    for (span, base, want) in [
+        ((4, 8), 16, "[10, 4]"),
+        ((4, 8), 2, "[10000, 100]"),
+        ((4, 8), 8, "[20, 4]"),
+        ((4, 8), 10, "[16, 4]"),
+        ((24, 8), 16, "[ab]"),
+        ((24, 8), 0, "[AB]"),
+        ((3, 0), 16, "[]"),
     ] {
-        let domain = domain_at::<u8, Lsb0>(&memory, start, len).ok_or("does not fit")?;
-        let shown = InBase { domain, base };
-        let text = format!(in rt.alloc(); "{shown:>20}")?;
-        assert_eq!(rt; text.as_str(), want, "at {start}+{len}");
+        assert!(rt; has_text(rt.alloc(), span, base, want)?, "{want}");
     }
     Ok(())
 }
@@ -189,30 +199,40 @@ fn value<R: BitRegister, O: BitOrder<R>>(part: Option<PartialElement<R, O>>) -> 
     }
 }
 
-// The values of a region's head and tail round its number of whole words.
-fn region_values(domain: Domain<u32, Msb0>) -> Option<(Option<u32>, usize, Option<u32>)> {
-    let (head, body, tail) = domain.region()?;
-    Some((value(head), body.len(), value(tail)))
+// The values of a region's head and tail round its number of whole words, and that of an enclave.
+fn parts(
+    memory: &[u32],
+    start: u32,
+    len: usize,
+) -> Option<(Option<(Option<u32>, usize, Option<u32>)>, Option<u32>)> {
+    let domain = domain_at::<u32, Msb0>(memory, start, len)?;
+    let region = match domain.region() {
+        Some((head, body, tail)) => Some((value(head), body.len(), value(tail))),
+        None => None,
+    };
+    Some((region, value(domain.enclave())))
 }
 
 #[test]
-fn has_parts_of_three_words(rt: HostRuntime) -> Result<(), Fail> {
+fn has_parts_of_three_words(rt: HostRuntime) {
     let memory = [0xffff_ffffu32; 3];
-    for (start, len, region, enclave) in [
-        (0, 96, Some((None, 3, None)), None),
-        (2, 94, Some((Some(0x3fff_ffff), 2, None)), None),
-        (0, 94, Some((None, 2, Some(0xffff_fffc))), None),
-        (2, 92, Some((Some(0x3fff_ffff), 1, Some(0xffff_fffc))), None),
-        (34, 28, None, Some(0x3fff_fffc)),
-    ] {
-        let domain = domain_at::<u32, Msb0>(&memory, start, len).ok_or("does not fit")?;
-        assert_eq!(rt;
-            (region_values(domain), value(domain.enclave())),
-            (region, enclave),
-            "at {start}+{len}"
-        );
-    }
-    Ok(())
+    let (head, tail) = (Some(0x3fff_ffff), Some(0xffff_fffc));
+    assert_eq!(rt;
+        [
+            parts(&memory, 0, 96),
+            parts(&memory, 2, 94),
+            parts(&memory, 0, 94),
+            parts(&memory, 2, 92),
+            parts(&memory, 34, 28)
+        ],
+        [
+            Some((Some((None, 3, None)), None)),
+            Some((Some((head, 2, None)), None)),
+            Some((Some((None, 2, tail)), None)),
+            Some((Some((head, 1, tail)), None)),
+            Some((None, Some(0x3fff_fffc)))
+        ]
+    );
 }
 
 // The head, the length and the number of words of a run of bits.
@@ -240,16 +260,23 @@ fn sizes<R: BitRegister, O: BitOrder<R>>(
 #[test]
 fn has_bits_of_three_words(rt: HostRuntime) {
     let memory = [0xffff_ffffu32; 3];
-    for (start, len, alone, want) in [
-        (0, 96, false, [(0, 0, 0), (0, 96, 3), (0, 0, 0)]),
-        (2, 94, false, [(2, 30, 1), (0, 64, 2), (0, 0, 0)]),
-        (0, 94, false, [(0, 0, 0), (0, 64, 2), (0, 30, 1)]),
-        (2, 92, false, [(2, 30, 1), (0, 32, 1), (0, 30, 1)]),
-        (34, 28, true, [(2, 28, 1), (0, 0, 0), (0, 0, 0)]),
-    ] {
-        let got = sizes::<u32, Msb0>(&memory, start, len);
-        assert_eq!(rt; got, Some((alone, want)), "at {start}+{len}");
-    }
+    let none = (0, 0, 0);
+    assert_eq!(rt;
+        [
+            sizes::<u32, Msb0>(&memory, 0, 96),
+            sizes::<u32, Msb0>(&memory, 2, 94),
+            sizes::<u32, Msb0>(&memory, 0, 94),
+            sizes::<u32, Msb0>(&memory, 2, 92),
+            sizes::<u32, Msb0>(&memory, 34, 28)
+        ],
+        [
+            Some((false, [none, (0, 96, 3), none])),
+            Some((false, [(2, 30, 1), (0, 64, 2), none])),
+            Some((false, [none, (0, 64, 2), (0, 30, 1)])),
+            Some((false, [(2, 30, 1), (0, 32, 1), (0, 30, 1)])),
+            Some((true, [(2, 28, 1), none, none]))
+        ]
+    );
 }
 
 // The lengths of the parts of the bits of no span.
@@ -427,24 +454,28 @@ fn replaces_bits_of_three_words(rt: HostRuntime) {
 }
 
 // Whether a value has a text for a programmer.
-fn is_shown(alloc: Global, value: &impl fmt::Debug) -> Result<bool, AllocError> {
-    let text = format!(in alloc; "{value:?}")?;
-    Ok(!text.is_empty())
+fn is_shown(alloc: Global, value: &impl fmt::Debug) -> bool {
+    match format!(in alloc; "{value:?}") {
+        Ok(text) => !text.is_empty(),
+        Err(_) => false,
+    }
+}
+
+// Whether the span of four bits of a memory, its range of pointers, its part and the bits of that
+// have one.
+fn are_shown(alloc: Global, memory: &[u8]) -> Option<[bool; 4]> {
+    let span = span_at::<u8, Lsb0>(18, 4)?;
+    let part = domain_at::<u8, Lsb0>(memory, 18, 4)?.enclave()?;
+    Some([
+        is_shown(alloc, &span),
+        is_shown(alloc, &span.to_bitptr_range()),
+        is_shown(alloc, &part),
+        is_shown(alloc, &part.into_bitslice()),
+    ])
 }
 
 #[test]
-fn shows_spans_and_parts_to_a_programmer(rt: HostRuntime) -> Result<(), Fail> {
-    let alloc = rt.alloc();
-    let memory = [0x12u8, 0x34, 0x56];
-    let span: BitSpan<u8, Lsb0> = span_at(4, 16).ok_or("refused")?;
-    let domain = domain_at::<u8, Lsb0>(&memory, 18, 4).ok_or("does not fit")?;
-    let part = domain.enclave().ok_or("a region")?;
-    let shown = [
-        is_shown(alloc, &span)?,
-        is_shown(alloc, &span.to_bitptr_range())?,
-        is_shown(alloc, &part)?,
-        is_shown(alloc, &part.into_bitslice())?,
-    ];
-    assert_eq!(rt; shown, [true; 4]);
-    Ok(())
+fn shows_spans_and_parts_to_a_programmer(rt: HostRuntime) {
+    let shown = are_shown(rt.alloc(), &[0x12, 0x34, 0x56]);
+    assert_eq!(rt; shown, Some([true; 4]));
 }

@@ -51,8 +51,9 @@ fn nothing_fits_nowhere(nothing: BitSpan<u8, Lsb0>) -> bool
     nothing.fits(0)
 }
 
-// Whether the two are apart either way round, and the lowest span fits no memory.
-fn ends_lie_in_no_memory() -> [bool; 6] {
+// Whether the two are apart either way round, the lowest span fits no memory, and the empty one
+// that of no words.
+fn ends_lie_in_no_memory() -> [bool; 7] {
     let (lowest, highest) = (lowest(), highest());
     [
         ends_are_apart(lowest, highest),
@@ -61,13 +62,13 @@ fn ends_lie_in_no_memory() -> [bool; 6] {
         !lowest_fits(lowest, 1),
         !lowest_fits(lowest, 9223372036854775807),
         !lowest_fits(lowest, usize::MAX),
+        nothing_fits_nowhere(BitSpan::EMPTY),
     ]
 }
 
 #[test]
 fn a_span_may_lie_in_no_memory(rt: HostRuntime) {
-    assert_eq!(rt; ends_lie_in_no_memory(), [true; 6]);
-    assert!(rt; nothing_fits_nowhere(BitSpan::EMPTY));
+    assert_eq!(rt; ends_lie_in_no_memory(), [true; 7]);
 }
 
 // The reply to one command through a span, and the memory after it; `None` where the span does not
