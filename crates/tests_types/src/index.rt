@@ -1,7 +1,8 @@
 //! The index types at each register, their ranges and their texts.
 
-ghost use Rattle.std.specs.Prelude.{◌≡◌, ◌+◌};
+ghost use Rattle.std.specs.Prelude.{◌≡◌, ◌+◌, ◌<◌};
 
+use crate::common::{holds, same};
 use bitvec_mem::mem::BitRegister;
 use bitvec_order::index::{BitEnd, BitIdx, BitMask, BitPos, BitSel, Limits, MaskLimits};
 use std::alloc::AllocError;
@@ -10,34 +11,37 @@ use std::fmt;
 use std::process::Abort;
 use std::test::Fail;
 
-// What the constructors of a register of that width take.
-fn takes<R: BitRegister>(rt: &impl Abort, width: u8) {
-    for n in 0..R::BITS {
-        assert!(rt; BitIdx::<R>::new(n).is_ok(), "index {n} of {width}");
-        assert!(rt; BitPos::<R>::new(n).is_some(), "position {n} of {width}");
-        assert!(rt; BitEnd::<R>::new(n).is_some(), "end {n} of {width}");
-        assert!(rt;
-            BitSel::new(R::ONE.shl(n)).is_some(),
-            "selector {n} of {width}"
-        );
-    }
-    assert!(rt; BitEnd::<R>::new(width).is_some());
+// Whether the constructors take a number below the width.
+fn takes<R: BitRegister>(n: u8) -> [bool; 4]
+    requires { n < R.BITS }
+{
+    [
+        BitIdx::<R>::new(n).is_ok(),
+        BitPos::<R>::new(n).is_some(),
+        BitEnd::<R>::new(n).is_some(),
+        BitSel::new(R::ONE.shl(n)).is_some(),
+    ]
 }
 
-// The first numbers that they refuse.
-fn refuses<R: BitRegister>(rt: &impl Abort, width: u8) {
-    assert!(rt; BitIdx::<R>::new(width).is_err());
-    assert!(rt; BitPos::<R>::new(width).is_none());
-    assert!(rt; BitEnd::<R>::new(R::BITS + 1).is_none());
-    assert!(rt; BitSel::new(R::ZERO).is_none());
-    assert!(rt; BitSel::new(R::ONE.or(R::ONE.shl(1))).is_none());
+// Whether they refuse the first numbers past the width, and what is no selector.
+fn refuses<R: BitRegister>() -> [bool; 5] {
+    [
+        BitIdx::<R>::new(R::BITS).is_err(),
+        BitPos::<R>::new(R::BITS).is_none(),
+        BitEnd::<R>::new(R::BITS + 1).is_none(),
+        BitSel::new(R::ZERO).is_none(),
+        BitSel::new(R::ONE.or(R::ONE.shl(1))).is_none(),
+    ]
 }
 
 // That a register has a width, and constructors of that width.
 fn has_constructors<R: BitRegister>(rt: &impl Abort, width: u8) {
-    assert_eq!(rt; R::BITS, width);
-    takes::<R>(rt, width);
-    refuses::<R>(rt, width);
+    same(rt, R::BITS, width);
+    for n in 0..R::BITS {
+        same(rt, (n, takes::<R>(n)), (n, [true; 4]));
+    }
+    holds(rt, BitEnd::<R>::new(width).is_some());
+    same(rt, refuses::<R>(), [true; 5]);
 }
 
 #[test]
@@ -51,141 +55,121 @@ fn constructors(rt: HostRuntime) {
 }
 
 #[test]
-fn numbers_of_indices(rt: HostRuntime) -> Result<(), Fail> {
-    assert_eq!(rt; BitIdx::<u8>::new_unchecked(7), BitIdx::MAX);
-    assert_eq!(rt; BitIdx::<u8>::MAX.into_inner(), 7);
-    assert_eq!(rt; BitIdx::<u8>::MIN, BitIdx::default());
-    assert!(rt; BitIdx::<u8>::MIN < BitIdx::MAX);
-    let error = BitIdx::<u8>::new(8).err().ok_or("an index past the width")?;
-    assert_eq!(rt; error.into_inner(), 8);
-    Ok(())
+fn numbers_of_indices(rt: HostRuntime) {
+    same(&rt, BitIdx::<u8>::new_unchecked(7), BitIdx::MAX);
+    same(&rt, BitIdx::<u8>::MAX.into_inner(), 7);
+    same(&rt, BitIdx::<u8>::MIN, BitIdx::default());
+    holds(&rt, BitIdx::<u8>::MIN < BitIdx::MAX);
 }
 
 #[test]
 fn numbers_of_ends(rt: HostRuntime) {
-    assert_eq!(rt; BitEnd::<u8>::new_unchecked(8), BitEnd::MAX);
-    assert_eq!(rt; BitEnd::<u8>::MAX.into_inner(), 8);
-    assert_eq!(rt; BitEnd::<u8>::MIN, BitEnd::default());
+    same(&rt, BitEnd::<u8>::new_unchecked(8), BitEnd::MAX);
+    same(&rt, BitEnd::<u8>::MAX.into_inner(), 8);
+    same(&rt, BitEnd::<u8>::MIN, BitEnd::default());
 }
 
 #[test]
 fn numbers_of_positions_and_masks(rt: HostRuntime) {
-    assert_eq!(rt; BitPos::<u8>::new_unchecked(7), BitPos::MAX);
-    assert_eq!(rt; BitPos::<u8>::MAX.into_inner(), 7);
-    assert_eq!(rt; BitPos::<u8>::MIN, BitPos::default());
-    assert_eq!(rt; BitMask::<u8>::ZERO, BitMask::default());
-    assert_eq!(rt; BitMask::<u8>::ALL.into_inner(), 255);
+    same(&rt, BitPos::<u8>::new_unchecked(7), BitPos::MAX);
+    same(&rt, BitPos::<u8>::MAX.into_inner(), 7);
+    same(&rt, BitPos::<u8>::MIN, BitPos::default());
+    same(&rt, BitMask::<u8>::ZERO, BitMask::default());
+    same(&rt, BitMask::<u8>::ALL.into_inner(), 255);
 }
 
 #[test]
 fn selectors_and_masks_of_a_position(rt: HostRuntime) {
     let position = BitPos::<u8>::new_unchecked(4);
-    assert_eq!(rt; position.select(), BitSel::new_unchecked(16));
-    assert_eq!(rt; position.select().into_inner(), 16);
-    assert_eq!(rt; position.mask(), BitMask::new(16));
-    assert_eq!(rt; position.select().mask(), BitMask::new(16));
+    same(&rt, position.select(), BitSel::new_unchecked(16));
+    same(&rt, position.select().into_inner(), 16);
+    let masks = [position.mask(), position.select().mask()];
+    same(&rt, masks, [BitMask::new(16); 2]);
 }
 
 #[test]
 fn range_of_indices(rt: HostRuntime) {
     let mut indices = BitIdx::<u16>::range_all();
-    assert_eq!(rt; indices.next(), BitIdx::new(0).ok());
-    assert_eq!(rt; indices.next_back(), BitIdx::new(15).ok());
-    assert_eq!(rt; indices.count(), 14);
-}
-
-#[test]
-fn range_of_ends(rt: HostRuntime) {
-    let mut ends = BitEnd::<u8>::range_from(BitIdx::new_unchecked(1));
-    assert_eq!(rt; ends.next(), BitEnd::new(1));
-    assert_eq!(rt; ends.next_back(), BitEnd::new(8));
-    assert_eq!(rt; ends.count(), 6);
-}
-
-#[test]
-fn range_of_positions(rt: HostRuntime) {
-    let mut positions = BitPos::<u8>::range_all();
-    assert_eq!(rt; positions.next(), BitPos::new(0));
-    assert_eq!(rt; positions.next_back(), BitPos::new(7));
-    assert_eq!(rt; positions.count(), 6);
-}
-
-#[test]
-fn range_of_selectors(rt: HostRuntime) {
-    let mut selectors = BitSel::<u8>::range_all();
-    assert_eq!(rt; selectors.next(), BitSel::new(1));
-    assert_eq!(rt; selectors.next_back(), BitSel::new(128));
-    assert_eq!(rt; selectors.count(), 6);
+    same(&rt, indices.next(), BitIdx::new(0).ok());
+    same(&rt, indices.next_back(), BitIdx::new(15).ok());
+    same(&rt, indices.count(), 14);
 }
 
 #[test]
 fn both_ends(rt: HostRuntime) {
     let mut indices = BitIdx::<u8>::new_unchecked(3).range(BitEnd::new_unchecked(5));
-    assert_eq!(rt; indices.len(), 2);
-    assert_eq!(rt; indices.next_back(), BitIdx::new(4).ok());
-    assert_eq!(rt; indices.next(), BitIdx::new(3).ok());
-    assert_eq!(rt; indices.len(), 0);
-    assert_eq!(rt; (indices.next(), indices.next_back()), (None, None));
+    same(&rt, indices.len(), 2);
+    same(&rt, indices.next_back(), BitIdx::new(4).ok());
+    same(&rt, indices.next(), BitIdx::new(3).ok());
+    same(&rt, indices.len(), 0);
+    same(&rt, (indices.next(), indices.next_back()), (None, None));
 }
 
-// That an index is followed by another, and whether the two stand in different registers.
-fn is_followed<R: BitRegister>(
-    rt: &impl Abort,
-    from: u8,
-    index: u8,
-    crossed: bool,
-) -> Result<(), Fail> {
-    let (from, index) = (BitIdx::<R>::new(from)?, BitIdx::new(index)?);
-    assert_eq!(rt; from.next(), (index, crossed));
-    assert_eq!(rt; index.prev(), (from, crossed));
-    Ok(())
+// The index before another and the one behind it, each with whether it is in another register.
+fn neighbours<R: BitRegister>(index: u8) -> Option<[(u8, bool); 2]> {
+    let index = BitIdx::<R>::new(index).ok()?;
+    let (before, behind) = (index.prev(), index.next());
+    Some([
+        (before.0.into_inner(), before.1),
+        (behind.0.into_inner(), behind.1),
+    ])
 }
 
 #[test]
-fn index_cycle(rt: HostRuntime) -> Result<(), Fail> {
-    is_followed::<u8>(&rt, 6, 7, false)?;
-    is_followed::<u8>(&rt, 7, 0, true)?;
-    is_followed::<u16>(&rt, 14, 15, false)?;
-    is_followed::<u16>(&rt, 15, 0, true)
+fn index_cycle(rt: HostRuntime) {
+    same(&rt, neighbours::<u8>(7), Some([(6, false), (0, true)]));
+    same(&rt, neighbours::<u8>(0), Some([(7, true), (1, false)]));
+    same(&rt, neighbours::<u16>(15), Some([(14, false), (0, true)]));
+    same(&rt, neighbours::<u16>(0), Some([(15, true), (1, false)]));
 }
 
-// Whether a step from an index ends so many registers on, at that index.
-fn jumps_to<R: BitRegister>(from: u8, by: isize, words: isize, index: u8) -> bool {
-    let Ok(from) = BitIdx::<R>::new(from) else {
-        return false;
-    };
-    let (carried, end) = from.offset(by);
-    carried == words && end.into_inner() == index
+// How many registers on a step from an index ends, and at which index.
+fn jumped<R: BitRegister>(from: u8, by: isize) -> Option<(isize, u8)> {
+    let (carried, end) = BitIdx::<R>::new(from).ok()?.offset(by);
+    Some((carried, end.into_inner()))
 }
 
 #[test]
 fn jumps(rt: HostRuntime) {
-    assert!(rt; jumps_to::<u8>(1, 2, 0, 3));
-    assert!(rt; jumps_to::<u8>(7, 1, 1, 0));
-    assert!(rt; jumps_to::<u8>(3, -4, -1, 7));
-    assert!(rt; jumps_to::<u8>(7, isize::MAX, -1_152_921_504_606_846_976, 6));
-    assert!(rt; jumps_to::<u16>(10, 40, 3, 2));
-    assert!(rt; jumps_to::<u128>(127, isize::MAX, -72_057_594_037_927_936, 126));
+    same(&rt, jumped::<u8>(1, 2), Some((0, 3)));
+    same(&rt, jumped::<u8>(7, 1), Some((1, 0)));
+    same(&rt, jumped::<u8>(3, -4), Some((-1, 7)));
+    same(
+        &rt,
+        jumped::<u8>(7, isize::MAX),
+        Some((-1_152_921_504_606_846_976, 6)),
+    );
+    same(&rt, jumped::<u16>(10, 40), Some((3, 2)));
+    same(
+        &rt,
+        jumped::<u128>(127, isize::MAX),
+        Some((-72_057_594_037_927_936, 126)),
+    );
 }
 
-// Whether a range of bits from an index meets so many registers and ends there in the last.
-fn spans_to<R: BitRegister>(from: u8, len: usize, elements: usize, tail: u8) -> bool {
-    let Ok(from) = BitIdx::<R>::new(from) else {
-        return false;
-    };
-    let (met, end) = from.span(len);
-    met == elements && end.into_inner() == tail
+// How many registers a range of bits from an index meets, and where it ends in the last.
+fn spanned<R: BitRegister>(from: u8, len: usize) -> Option<(usize, u8)> {
+    let (met, end) = BitIdx::<R>::new(from).ok()?.span(len);
+    Some((met, end.into_inner()))
 }
 
 #[test]
 fn spans(rt: HostRuntime) {
-    assert!(rt; spans_to::<u8>(4, 0, 0, 4));
-    assert!(rt; spans_to::<u8>(3, 3, 1, 6));
-    assert!(rt; spans_to::<u8>(7, usize::MAX, 2_305_843_009_213_693_953, 6));
-    assert!(rt; spans_to::<u16>(10, 40, 4, 2));
-    assert!(rt; spans_to::<u128>(127, 2, 2, 1));
-    assert!(rt; spans_to::<u128>(127, usize::MAX, 144_115_188_075_855_873, 126));
-    assert_eq!(rt; BitEnd::<u8>::MAX.span(8), (1, BitEnd::MAX));
+    same(&rt, spanned::<u8>(4, 0), Some((0, 4)));
+    same(&rt, spanned::<u8>(3, 3), Some((1, 6)));
+    same(
+        &rt,
+        spanned::<u8>(7, usize::MAX),
+        Some((2_305_843_009_213_693_953, 6)),
+    );
+    same(&rt, spanned::<u16>(10, 40), Some((4, 2)));
+    same(&rt, spanned::<u128>(127, 2), Some((2, 1)));
+    same(
+        &rt,
+        spanned::<u128>(127, usize::MAX),
+        Some((144_115_188_075_855_873, 126)),
+    );
+    same(&rt, BitEnd::<u8>::MAX.span(8), (1, BitEnd::MAX));
 }
 
 // A value as its `Binary` shows it, since a format takes that of numbers alone.
@@ -206,8 +190,9 @@ fn shows_digits<T: fmt::Binary>(
 ) -> Result<(), AllocError> {
     let alloc = rt.alloc();
     let shown = AsBinary(value);
-    assert_eq!(rt; format!(in alloc; "{shown}")?.as_str(), digits);
-    assert_eq!(rt; format!(in alloc; "{shown:+>90}")?.as_str(), digits);
+    let texts = format!(in alloc; "{shown} {shown:+>90}")?;
+    let wanted = format!(in alloc; "{digits} {digits}")?;
+    same(rt, texts.as_str(), wanted.as_str());
     Ok(())
 }
 
@@ -218,9 +203,9 @@ fn displays<T: fmt::Display>(
     text: &str,
 ) -> Result<(), AllocError> {
     let alloc = rt.alloc();
-    assert_eq!(rt; format!(in alloc; "{value}")?.as_str(), text);
-    assert_eq!(rt; format!(in alloc; "{value:+>90.1}")?.as_str(), text);
-    assert_eq!(rt; format!(in alloc; "{value:090.1}")?.as_str(), text);
+    let texts = format!(in alloc; "{value} {value:+>90.1} {value:090.1}")?;
+    let wanted = format!(in alloc; "{text} {text} {text}")?;
+    same(rt, texts.as_str(), wanted.as_str());
     Ok(())
 }
 
@@ -231,27 +216,52 @@ fn debugs<T: fmt::Debug>(
     text: &str,
 ) -> Result<(), AllocError> {
     let alloc = rt.alloc();
-    assert_eq!(rt; format!(in alloc; "{value:?}")?.as_str(), text);
-    assert_eq!(rt; format!(in alloc; "{value:*<+90?}")?.as_str(), text);
-    assert_eq!(rt; format!(in alloc; "{value:#090?}")?.as_str(), text);
+    let texts = format!(in alloc; "{value:?} {value:*<+90?} {value:#090?}")?;
+    let wanted = format!(in alloc; "{text} {text} {text}")?;
+    same(rt, texts.as_str(), wanted.as_str());
     Ok(())
 }
 
-// That a value's texts are its digits, and these behind its name.
+// That a value's texts are its digits, and these behind the name of its type.
 fn shows<T: fmt::Binary + fmt::Display + fmt::Debug>(
     rt: &(impl Abort + AllocGlobal),
     value: &T,
     name: &str,
+    register: &str,
     digits: &str,
 ) -> Result<(), AllocError> {
     let alloc = rt.alloc();
-    let debug = format!(in alloc; "{name}({digits})")?;
+    let debug = format!(in alloc; "{name}<{register}>({digits})")?;
     shows_digits(rt, value, digits)?;
     displays(rt, value, digits)?;
     debugs(rt, value, debug.as_str())
 }
 
-// The same of an error's two texts.
+// The texts of a register's last index, position and end.
+fn shows_numbers<R: BitRegister>(
+    rt: &(impl Abort + AllocGlobal),
+    register: &str,
+    last: &str,
+    width: &str,
+) -> Result<(), AllocError> {
+    shows(rt, &BitIdx::<R>::MAX, "BitIdx", register, last)?;
+    shows(rt, &BitPos::<R>::MAX, "BitPos", register, last)?;
+    shows(rt, &BitEnd::<R>::MAX, "BitEnd", register, width)
+}
+
+// Those of its first selector and of a mask.
+fn shows_words<R: BitRegister>(
+    rt: &(impl Abort + AllocGlobal),
+    word: R,
+    register: &str,
+    one: &str,
+    mask: &str,
+) -> Result<(), AllocError> {
+    shows(rt, &BitPos::<R>::MIN.select(), "BitSel", register, one)?;
+    shows(rt, &BitMask::new(word), "BitMask", register, mask)
+}
+
+// The two texts of an error.
 fn shows_error<E: Error>(
     rt: &(impl Abort + AllocGlobal),
     error: &E,
@@ -262,81 +272,58 @@ fn shows_error<E: Error>(
     debugs(rt, error, debug)
 }
 
+// Those of the error of an index of the width.
+fn shows_refusal<R: BitRegister>(
+    rt: &(impl Abort + AllocGlobal),
+    display: &str,
+    debug: &str,
+) -> Result<(), Fail> {
+    let error = BitIdx::<R>::new(R::BITS).err().ok_or("an index")?;
+    shows_error(rt, &error, display, debug)?;
+    Ok(())
+}
+
 #[test]
 fn render_u8(rt: HostRuntime) -> Result<(), Fail> {
-    shows(&rt, &BitIdx::<u8>::MAX, "BitIdx<u8>", "111")?;
-    shows(&rt, &BitEnd::<u8>::MAX, "BitEnd<u8>", "1000")?;
-    shows(&rt, &BitPos::<u8>::MAX, "BitPos<u8>", "111")?;
-    shows(&rt, &BitPos::<u8>::MIN.select(), "BitSel<u8>", "00000001")?;
-    shows(&rt, &BitMask::<u8>::new(37), "BitMask<u8>", "00100101")?;
-    let error = BitIdx::<u8>::new(8).err().ok_or("an index")?;
+    shows_numbers::<u8>(&rt, "u8", "111", "1000")?;
+    shows_words(&rt, 37u8, "u8", "00000001", "00100101")?;
     let display = "the value 8 is too large to index into u8 (8 bits wide)";
-    shows_error(&rt, &error, display, "BitIdxError<u8>(8)")?;
-    Ok(())
+    shows_refusal::<u8>(&rt, display, "BitIdxError<u8>(8)")
 }
 
 #[test]
 fn render_u16(rt: HostRuntime) -> Result<(), Fail> {
-    shows(&rt, &BitIdx::<u16>::MAX, "BitIdx<u16>", "1111")?;
-    shows(&rt, &BitEnd::<u16>::MAX, "BitEnd<u16>", "10000")?;
-    shows(&rt, &BitPos::<u16>::MAX, "BitPos<u16>", "1111")?;
-    shows(
-        &rt,
-        &BitPos::<u16>::MIN.select(),
-        "BitSel<u16>",
-        "0000000000000001",
-    )?;
-    shows(
-        &rt,
-        &BitMask::<u16>::new(37),
-        "BitMask<u16>",
-        "0000000000100101",
-    )?;
-    let error = BitIdx::<u16>::new(16).err().ok_or("an index")?;
+    shows_numbers::<u16>(&rt, "u16", "1111", "10000")?;
+    shows_words(&rt, 37u16, "u16", "0000000000000001", "0000000000100101")?;
     let display = "the value 16 is too large to index into u16 (16 bits wide)";
-    shows_error(&rt, &error, display, "BitIdxError<u16>(16)")?;
-    Ok(())
+    shows_refusal::<u16>(&rt, display, "BitIdxError<u16>(16)")
 }
 
 #[test]
 fn render_u32(rt: HostRuntime) -> Result<(), Fail> {
-    shows(&rt, &BitIdx::<u32>::MAX, "BitIdx<u32>", "11111")?;
-    shows(&rt, &BitEnd::<u32>::MAX, "BitEnd<u32>", "100000")?;
-    shows(&rt, &BitPos::<u32>::MAX, "BitPos<u32>", "11111")?;
+    shows_numbers::<u32>(&rt, "u32", "11111", "100000")?;
     let one = "00000000000000000000000000000001";
-    shows(&rt, &BitPos::<u32>::MIN.select(), "BitSel<u32>", one)?;
     let mask = "00000000000000000000000000100101";
-    shows(&rt, &BitMask::<u32>::new(37), "BitMask<u32>", mask)?;
-    let error = BitIdx::<u32>::new(32).err().ok_or("an index")?;
+    shows_words(&rt, 37u32, "u32", one, mask)?;
     let display = "the value 32 is too large to index into u32 (32 bits wide)";
-    shows_error(&rt, &error, display, "BitIdxError<u32>(32)")?;
-    Ok(())
+    shows_refusal::<u32>(&rt, display, "BitIdxError<u32>(32)")
 }
 
 #[test]
 fn render_u64(rt: HostRuntime) -> Result<(), Fail> {
-    shows(&rt, &BitIdx::<u64>::MAX, "BitIdx<u64>", "111111")?;
-    shows(&rt, &BitEnd::<u64>::MAX, "BitEnd<u64>", "1000000")?;
-    shows(&rt, &BitPos::<u64>::MAX, "BitPos<u64>", "111111")?;
+    shows_numbers::<u64>(&rt, "u64", "111111", "1000000")?;
     let one = "0000000000000000000000000000000000000000000000000000000000000001";
-    shows(&rt, &BitPos::<u64>::MIN.select(), "BitSel<u64>", one)?;
     let mask = "0000000000000000000000000000000000000000000000000000000000100101";
-    shows(&rt, &BitMask::<u64>::new(37), "BitMask<u64>", mask)?;
-    let error = BitIdx::<u64>::new(64).err().ok_or("an index")?;
+    shows_words(&rt, 37u64, "u64", one, mask)?;
     let display = "the value 64 is too large to index into u64 (64 bits wide)";
-    shows_error(&rt, &error, display, "BitIdxError<u64>(64)")?;
-    Ok(())
+    shows_refusal::<u64>(&rt, display, "BitIdxError<u64>(64)")
 }
 
 #[test]
 fn render_u128(rt: HostRuntime) -> Result<(), Fail> {
-    shows(&rt, &BitIdx::<u128>::MAX, "BitIdx<u128>", "1111111")?;
-    shows(&rt, &BitEnd::<u128>::MAX, "BitEnd<u128>", "10000000")?;
-    shows(&rt, &BitPos::<u128>::MAX, "BitPos<u128>", "1111111")?;
-    let error = BitIdx::<u128>::new(128).err().ok_or("an index")?;
+    shows_numbers::<u128>(&rt, "u128", "1111111", "10000000")?;
     let display = "the value 128 is too large to index into u128 (128 bits wide)";
-    shows_error(&rt, &error, display, "BitIdxError<u128>(128)")?;
-    Ok(())
+    shows_refusal::<u128>(&rt, display, "BitIdxError<u128>(128)")
 }
 
 // How many indices and ends there are, as a caller knows it at any register.
@@ -354,6 +341,5 @@ fn end_count<R: BitRegister>() -> usize
 
 #[test]
 fn counts(rt: HostRuntime) {
-    assert_eq!(rt; index_count::<u16>(), 16);
-    assert_eq!(rt; end_count::<u16>(), 17);
+    same(&rt, [index_count::<u16>(), end_count::<u16>()], [16, 17]);
 }

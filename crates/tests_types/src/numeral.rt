@@ -2,6 +2,7 @@
 
 ghost use Rattle.std.specs.Prelude.{◌≤◌};
 
+use crate::common::same;
 use bitvec_mem::numeral::write_numeral;
 use std::fmt;
 use std::test::Fail;
@@ -41,8 +42,9 @@ fn numerals(rt: HostRuntime) -> Result<(), Fail> {
             upper,
             least,
         };
-        assert_eq!(rt; format!(in rt.alloc(); "{written}")?.as_str(), text);
-        assert_eq!(rt; format!(in rt.alloc(); "{written:+090.1}")?.as_str(), text);
+        let texts = format!(in rt.alloc(); "{written} {written:+090.1}")?;
+        let wanted = format!(in rt.alloc(); "{text} {text}")?;
+        same(&rt, texts.as_str(), wanted.as_str());
     }
     Ok(())
 }

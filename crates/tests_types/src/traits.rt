@@ -58,16 +58,11 @@ fn default_element<R: BitRegister>() -> BitElement<R>
 // An index, an end, a position, a selector, a mask and an index that was refused are compared,
 // hashed and copied as their numbers are, and a default is 0.
 
-fn equal_indices<R: BitRegister>(here: BitIdx<R>, there: BitIdx<R>) -> bool
-    ensures { IsTrue result ↔ (here ≡ there) }
+fn compared_indices<R: BitRegister>(here: BitIdx<R>, there: BitIdx<R>) -> (bool, Ordering)
+    ensures equal { IsTrue result.0 ↔ (here ≡ there) }
+    ensures order { result.1 ≡ nat_cmp here there }
 {
-    here == there
-}
-
-fn order_of_indices<R: BitRegister>(here: BitIdx<R>, there: BitIdx<R>) -> Ordering
-    ensures { result ≡ nat_cmp here there }
-{
-    here.cmp(&there)
+    (here == there, here.cmp(&there))
 }
 
 fn hash_of_an_index<R: BitRegister, H: Hasher>(index: BitIdx<R>, here: &mut H, there: &mut H)
@@ -90,16 +85,11 @@ fn default_index<R: BitRegister>() -> BitIdx<R>
     BitIdx::default()
 }
 
-fn equal_errors<R: BitRegister>(here: BitIdxError<R>, there: BitIdxError<R>) -> bool
-    ensures { IsTrue result ↔ (here ≡ there) }
+fn compared_errors<R: BitRegister>(here: BitIdxError<R>, there: BitIdxError<R>) -> (bool, Ordering)
+    ensures equal { IsTrue result.0 ↔ (here ≡ there) }
+    ensures order { result.1 ≡ nat_cmp here there }
 {
-    here == there
-}
-
-fn order_of_errors<R: BitRegister>(here: BitIdxError<R>, there: BitIdxError<R>) -> Ordering
-    ensures { result ≡ nat_cmp here there }
-{
-    here.cmp(&there)
+    (here == there, here.cmp(&there))
 }
 
 fn hash_of_an_error<R: BitRegister, H: Hasher>(error: BitIdxError<R>, here: &mut H, there: &mut H)
@@ -116,16 +106,11 @@ fn copied_error<R: BitRegister>(error: &BitIdxError<R>) -> Result<BitIdxError<R>
     error.clone()
 }
 
-fn equal_ends<R: BitRegister>(here: BitEnd<R>, there: BitEnd<R>) -> bool
-    ensures { IsTrue result ↔ (here ≡ there) }
+fn compared_ends<R: BitRegister>(here: BitEnd<R>, there: BitEnd<R>) -> (bool, Ordering)
+    ensures equal { IsTrue result.0 ↔ (here ≡ there) }
+    ensures order { result.1 ≡ nat_cmp here there }
 {
-    here == there
-}
-
-fn order_of_ends<R: BitRegister>(here: BitEnd<R>, there: BitEnd<R>) -> Ordering
-    ensures { result ≡ nat_cmp here there }
-{
-    here.cmp(&there)
+    (here == there, here.cmp(&there))
 }
 
 fn hash_of_an_end<R: BitRegister, H: Hasher>(end: BitEnd<R>, here: &mut H, there: &mut H)
@@ -148,16 +133,11 @@ fn default_end<R: BitRegister>() -> BitEnd<R>
     BitEnd::default()
 }
 
-fn equal_positions<R: BitRegister>(here: BitPos<R>, there: BitPos<R>) -> bool
-    ensures { IsTrue result ↔ (here ≡ there) }
+fn compared_positions<R: BitRegister>(here: BitPos<R>, there: BitPos<R>) -> (bool, Ordering)
+    ensures equal { IsTrue result.0 ↔ (here ≡ there) }
+    ensures order { result.1 ≡ nat_cmp here there }
 {
-    here == there
-}
-
-fn order_of_positions<R: BitRegister>(here: BitPos<R>, there: BitPos<R>) -> Ordering
-    ensures { result ≡ nat_cmp here there }
-{
-    here.cmp(&there)
+    (here == there, here.cmp(&there))
 }
 
 fn hash_of_a_position<R: BitRegister, H: Hasher>(position: BitPos<R>, here: &mut H, there: &mut H)
@@ -180,20 +160,13 @@ fn default_position<R: BitRegister>() -> BitPos<R>
     BitPos::default()
 }
 
-fn equal_selectors<R: BitRegister>(here: BitSel<R>, there: BitSel<R>) -> bool
-    ensures { IsTrue result ↔ (here ≡ there) }
+fn compared_selectors<R: BitRegister>(here: BitSel<R>, there: BitSel<R>) -> (bool, Ordering)
+    ensures equal { IsTrue result.0 ↔ (here ≡ there) }
+    ensures order { result.1 ≡ nat_cmp here there }
 {
     // The calls say that the numbers are the register's.
     let _words = (here.into_inner(), there.into_inner());
-    here == there
-}
-
-fn order_of_selectors<R: BitRegister>(here: BitSel<R>, there: BitSel<R>) -> Ordering
-    ensures { result ≡ nat_cmp here there }
-{
-    // The calls say that the numbers are the register's.
-    let _words = (here.into_inner(), there.into_inner());
-    here.cmp(&there)
+    (here == there, here.cmp(&there))
 }
 
 fn hash_of_a_selector<R: BitRegister, H: Hasher>(selector: BitSel<R>, here: &mut H, there: &mut H)
@@ -210,20 +183,13 @@ fn copied_selector<R: BitRegister>(selector: &BitSel<R>) -> Result<BitSel<R>, Al
     selector.clone()
 }
 
-fn equal_masks<R: BitRegister>(here: BitMask<R>, there: BitMask<R>) -> bool
-    ensures { IsTrue result ↔ (here ≡ there) }
+fn compared_masks<R: BitRegister>(here: BitMask<R>, there: BitMask<R>) -> (bool, Ordering)
+    ensures equal { IsTrue result.0 ↔ (here ≡ there) }
+    ensures order { result.1 ≡ nat_cmp here there }
 {
     // The calls say that the numbers are the register's.
     let _words = (here.into_inner(), there.into_inner());
-    here == there
-}
-
-fn order_of_masks<R: BitRegister>(here: BitMask<R>, there: BitMask<R>) -> Ordering
-    ensures { result ≡ nat_cmp here there }
-{
-    // The calls say that the numbers are the register's.
-    let _words = (here.into_inner(), there.into_inner());
-    here.cmp(&there)
+    (here == there, here.cmp(&there))
 }
 
 fn hash_of_a_mask<R: BitRegister, H: Hasher>(mask: BitMask<R>, here: &mut H, there: &mut H)
@@ -374,44 +340,33 @@ fn name_of_usize() -> &'static str
 
 // Without parameters each type is that of `usize`.
 
-fn plain_element(element: BitElement) -> BitElement<usize>
-    ensures { result ≡ element }
+fn plain_numbers(
+    index: BitIdx,
+    end: BitEnd,
+    position: BitPos,
+    error: BitIdxError,
+) -> (
+    BitIdx<usize>,
+    BitEnd<usize>,
+    BitPos<usize>,
+    BitIdxError<usize>,
+)
+    ensures index { result.0 ≡ index }
+    ensures end { result.1 ≡ end }
+    ensures position { result.2 ≡ position }
+    ensures error { result.3 ≡ error }
 {
-    element
+    (index, end, position, error)
 }
 
-fn plain_index(index: BitIdx) -> BitIdx<usize>
-    ensures { result ≡ index }
+fn plain_words(
+    element: BitElement,
+    selector: BitSel,
+    mask: BitMask,
+) -> (BitElement<usize>, BitSel<usize>, BitMask<usize>)
+    ensures element { result.0 ≡ element }
+    ensures selector { result.1 ≡ selector }
+    ensures mask { result.2 ≡ mask }
 {
-    index
-}
-
-fn plain_error(error: BitIdxError) -> BitIdxError<usize>
-    ensures { result ≡ error }
-{
-    error
-}
-
-fn plain_end(end: BitEnd) -> BitEnd<usize>
-    ensures { result ≡ end }
-{
-    end
-}
-
-fn plain_position(position: BitPos) -> BitPos<usize>
-    ensures { result ≡ position }
-{
-    position
-}
-
-fn plain_selector(selector: BitSel) -> BitSel<usize>
-    ensures { result ≡ selector }
-{
-    selector
-}
-
-fn plain_mask(mask: BitMask) -> BitMask<usize>
-    ensures { result ≡ mask }
-{
-    mask
+    (element, selector, mask)
 }
