@@ -96,6 +96,14 @@ fn range_of_indices(rt: HostRuntime) {
 }
 
 #[test]
+fn range_of_ends(rt: HostRuntime) {
+    let mut ends = BitEnd::<u8>::range_from(BitIdx::new_unchecked(1));
+    same(&rt, ends.next(), BitEnd::new(1));
+    same(&rt, ends.next_back(), BitEnd::new(8));
+    same(&rt, ends.count(), 6);
+}
+
+#[test]
 fn both_ends(rt: HostRuntime) {
     let mut indices = BitIdx::<u8>::new_unchecked(3).range(BitEnd::new_unchecked(5));
     same(&rt, indices.len(), 2);

@@ -79,12 +79,6 @@ fn copied_index<R: BitRegister>(index: &BitIdx<R>) -> Result<BitIdx<R>, AllocErr
     index.clone()
 }
 
-fn default_index<R: BitRegister>() -> BitIdx<R>
-    ensures { result ≡ 0 }
-{
-    BitIdx::default()
-}
-
 fn compared_errors<R: BitRegister>(here: BitIdxError<R>, there: BitIdxError<R>) -> (bool, Ordering)
     ensures equal { IsTrue result.0 ↔ (here ≡ there) }
     ensures order { result.1 ≡ nat_cmp here there }
@@ -127,12 +121,6 @@ fn copied_end<R: BitRegister>(end: &BitEnd<R>) -> Result<BitEnd<R>, AllocError>
     end.clone()
 }
 
-fn default_end<R: BitRegister>() -> BitEnd<R>
-    ensures { result ≡ 0 }
-{
-    BitEnd::default()
-}
-
 fn compared_positions<R: BitRegister>(here: BitPos<R>, there: BitPos<R>) -> (bool, Ordering)
     ensures equal { IsTrue result.0 ↔ (here ≡ there) }
     ensures order { result.1 ≡ nat_cmp here there }
@@ -152,12 +140,6 @@ fn copied_position<R: BitRegister>(position: &BitPos<R>) -> Result<BitPos<R>, Al
     ensures { result ≡ Ok position.now }
 {
     position.clone()
-}
-
-fn default_position<R: BitRegister>() -> BitPos<R>
-    ensures { result ≡ 0 }
-{
-    BitPos::default()
 }
 
 fn compared_selectors<R: BitRegister>(here: BitSel<R>, there: BitSel<R>) -> (bool, Ordering)
@@ -206,10 +188,18 @@ fn copied_mask<R: BitRegister>(mask: &BitMask<R>) -> Result<BitMask<R>, AllocErr
     mask.clone()
 }
 
-fn default_mask<R: BitRegister>() -> BitMask<R>
-    ensures { result ≡ 0 }
+fn default_numbers<R: BitRegister>() -> (BitIdx<R>, BitEnd<R>, BitPos<R>, BitMask<R>)
+    ensures index { result.0 ≡ 0 }
+    ensures end { result.1 ≡ 0 }
+    ensures position { result.2 ≡ 0 }
+    ensures mask { result.3 ≡ 0 }
 {
-    BitMask::default()
+    (
+        BitIdx::default(),
+        BitEnd::default(),
+        BitPos::default(),
+        BitMask::default(),
+    )
 }
 
 // A fault is its parts.
@@ -270,16 +260,11 @@ fn copied_fault_of_a_register(fault: &VerifyFault) -> Result<VerifyFault, AllocE
 
 // Each of the two orders has one value.
 
-fn equal_lsb0(here: Lsb0, there: Lsb0) -> bool
-    ensures { IsTrue result }
+fn compared_lsb0(here: Lsb0, there: Lsb0) -> (bool, Ordering)
+    ensures equal { IsTrue result.0 }
+    ensures order { result.1 ≡ Equal }
 {
-    here == there
-}
-
-fn order_of_lsb0(here: Lsb0, there: Lsb0) -> Ordering
-    ensures { result ≡ Equal }
-{
-    here.cmp(&there)
+    (here == there, here.cmp(&there))
 }
 
 fn hash_of_lsb0<H: Hasher>(order: Lsb0, state: &mut H)
@@ -288,16 +273,11 @@ fn hash_of_lsb0<H: Hasher>(order: Lsb0, state: &mut H)
     order.hash(state);
 }
 
-fn equal_msb0(here: Msb0, there: Msb0) -> bool
-    ensures { IsTrue result }
+fn compared_msb0(here: Msb0, there: Msb0) -> (bool, Ordering)
+    ensures equal { IsTrue result.0 }
+    ensures order { result.1 ≡ Equal }
 {
-    here == there
-}
-
-fn order_of_msb0(here: Msb0, there: Msb0) -> Ordering
-    ensures { result ≡ Equal }
-{
-    here.cmp(&there)
+    (here == there, here.cmp(&there))
 }
 
 fn hash_of_msb0<H: Hasher>(order: Msb0, state: &mut H)
@@ -308,34 +288,26 @@ fn hash_of_msb0<H: Hasher>(order: Msb0, state: &mut H)
 
 // The name of each register.
 
-fn name_of_u8() -> &'static str
-    ensures { result.now ≡ codes "u8" }
+fn names() -> (
+    &'static str,
+    &'static str,
+    &'static str,
+    &'static str,
+    &'static str,
+)
+    ensures u8 { result.0.now ≡ codes "u8" }
+    ensures u16 { result.1.now ≡ codes "u16" }
+    ensures u32 { result.2.now ≡ codes "u32" }
+    ensures u64 { result.3.now ≡ codes "u64" }
+    ensures usize { result.4.now ≡ codes "usize" }
 {
-    <u8 as BitRegister>::NAME
-}
-
-fn name_of_u16() -> &'static str
-    ensures { result.now ≡ codes "u16" }
-{
-    <u16 as BitRegister>::NAME
-}
-
-fn name_of_u32() -> &'static str
-    ensures { result.now ≡ codes "u32" }
-{
-    <u32 as BitRegister>::NAME
-}
-
-fn name_of_u64() -> &'static str
-    ensures { result.now ≡ codes "u64" }
-{
-    <u64 as BitRegister>::NAME
-}
-
-fn name_of_usize() -> &'static str
-    ensures { result.now ≡ codes "usize" }
-{
-    <usize as BitRegister>::NAME
+    (
+        <u8 as BitRegister>::NAME,
+        <u16 as BitRegister>::NAME,
+        <u32 as BitRegister>::NAME,
+        <u64 as BitRegister>::NAME,
+        <usize as BitRegister>::NAME,
+    )
 }
 
 // Without parameters each type is that of `usize`.
