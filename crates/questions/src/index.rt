@@ -61,12 +61,18 @@ fn mask_of<R: BitRegister, O: BitOrder<R>>(from: &str, upto: &str) -> Option<Bit
 
 /// The index of a text.
 pub fn index_at<R: BitRegister>(text: &str) -> Option<BitIdx<R>> {
-    BitIdx::new(text.parse::<u8>().ok()?).ok()
+    match text.parse::<u8>() {
+        Ok(n) => BitIdx::new(n).ok(),
+        Err(_) => None,
+    }
 }
 
 // The end of a text.
 fn end_at<R: BitRegister>(text: &str) -> Option<BitEnd<R>> {
-    BitEnd::new(text.parse::<u8>().ok()?)
+    match text.parse::<u8>() {
+        Ok(n) => BitEnd::new(n),
+        Err(_) => None,
+    }
 }
 
 // The index one further or one back, and whether that crosses into another register.
@@ -116,7 +122,7 @@ fn write_texts<R: BitRegister, A: Allocator>(
     text: &mut String<A>,
     shown: &str,
 ) -> Result<bool, AllocError> {
-    let Some((name, number)) = value_of::<R>(shown) else {
+    let Some((name, number)) = value_of(R::name_text(), shown) else {
         return Ok(false);
     };
     match name {
@@ -128,12 +134,12 @@ fn write_texts<R: BitRegister, A: Allocator>(
     }
 }
 
-// The name of a type and the number, from a text as `BitEnd<u16>(10000)`. The number of an error is
-// decimal, and each other binary.
-fn value_of<'t, R: BitRegister>(shown: &'t str) -> Option<(&'t str, u128)> {
+// The name of a type of a register and the number, from a text as `BitEnd<u16>(10000)`. The number
+// of an error is decimal, and each other binary.
+fn value_of<'t>(register: &str, shown: &'t str) -> Option<(&'t str, u128)> {
     let (name, rest) = shown.split_once('<')?;
-    let (register, digits) = rest.split_once(">(")?;
-    if register != R::name_text() {
+    let (of, digits) = rest.split_once(">(")?;
+    if of != register {
         return None;
     }
     let digits = digits.strip_suffix(')')?;

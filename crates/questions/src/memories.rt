@@ -23,49 +23,15 @@ pub fn write_answer<'a, R: BitRegister, O: BitOrder<R>, A: Allocator>(
     kind: &str,
     words: &[&str],
 ) -> Result<bool, AllocError> {
-    let [memory, numbers @ ..] = words else {
-        return Ok(false);
-    };
-    let Some(access) = access_of(kind, numbers) else {
+    let [memory, details @ ..] = words else {
         return Ok(false);
     };
     match words_of::<R, A>(alloc, memory)? {
-        Some(mut memory) => write_outcome::<R, O, &'a A>(text, access, &mut memory),
+        Some(mut memory) => {
+            let outcome = done::<R, O>(kind, details, &mut memory);
+            write_outcome(text, outcome, &memory)
+        }
         None => Ok(false),
-    }
-}
-
-// What is done to a memory, at places of it.
-#[derive(Clone, Copy)]
-enum Access {
-    Read(u64),
-    Write(u64, bool),
-    Replace(u64, bool),
-    Swap(u64, u64),
-    Copy { from: u64, to: u64, count: u64 },
-}
-
-// The access of a kind, with its places.
-fn access_of(kind: &str, numbers: &[&str]) -> Option<Access> {
-    match numbers {
-        [at] if kind == "read" => Some(Access::Read(place(at)?)),
-        [at, with] => access_of_two(kind, place(at)?, with),
-        [from, to, count] if kind == "copy" => Some(Access::Copy {
-            from: place(from)?,
-            to: place(to)?,
-            count: place(count)?,
-        }),
-        _ => None,
-    }
-}
-
-// The access of a kind at a place, with a bit or another place.
-fn access_of_two(kind: &str, at: u64, with: &str) -> Option<Access> {
-    match kind {
-        "write" => Some(Access::Write(at, is_one(with)?)),
-        "replace" => Some(Access::Replace(at, is_one(with)?)),
-        "swap" => Some(Access::Swap(at, place(with)?)),
-        _ => None,
     }
 }
 
@@ -85,13 +51,13 @@ enum Outcome {
     BitAndMemory(bool),
 }
 
-// Does an access, and writes what it answers; tells whether its places are in the memory.
-fn write_outcome<R: BitRegister, O: BitOrder<R>, A: Allocator>(
+// Writes what an access answers, where there is one, and tells whether there is.
+fn write_outcome<R: BitRegister, A: Allocator>(
     text: &mut String<A>,
-    access: Access,
-    memory: &mut [R],
+    outcome: Option<Outcome>,
+    memory: &[R],
 ) -> Result<bool, AllocError> {
-    match done::<R, O>(access, memory) {
+    match outcome {
         Some(Outcome::Bit(bit)) => write!(text, "{}", u8::from(bit))?,
         Some(Outcome::Memory) => write_words(text, memory)?,
         Some(Outcome::BitAndMemory(bit)) => {
@@ -103,43 +69,58 @@ fn write_outcome<R: BitRegister, O: BitOrder<R>, A: Allocator>(
     Ok(true)
 }
 
-// Does an access; `None` where one of its places is past the memory.
-fn done<R: BitRegister, O: BitOrder<R>>(access: Access, memory: &mut [R]) -> Option<Outcome> {
-    let words = memory.len();
-    match access {
-        Access::Read(at) => {
-            let pointer = pointer_in::<R, O>(words, at)?;
+// Does the access of a kind; `None` where the words say none, or where one of its places is past
+// the memory.
+fn done<R: BitRegister, O: BitOrder<R>>(
+    kind: &str,
+    words: &[&str],
+    memory: &mut [R],
+) -> Option<Outcome> {
+    match words {
+        [at] if kind == "read" => {
+            let pointer = pointer_in::<R, O>(memory.len(), at)?;
             Some(Outcome::Bit(pointer.read(memory)))
         }
-        Access::Write(at, bit) => {
-            let pointer = pointer_in::<R, O>(words, at)?;
-            pointer.write(memory, bit);
-            Some(Outcome::Memory)
-        }
-        Access::Replace(at, bit) => {
-            let pointer = pointer_in::<R, O>(words, at)?;
-            Some(Outcome::BitAndMemory(pointer.replace(memory, bit)))
-        }
-        Access::Swap(one, other) => {
-            let one = pointer_in::<R, O>(words, one)?;
-            let other = pointer_in::<R, O>(words, other)?;
-            one.swap_within(memory, other);
-            Some(Outcome::Memory)
-        }
-        Access::Copy { from, to, count } => {
-            let from = run_in::<R, O>(words, from, count)?;
-            let to = run_in::<R, O>(words, to, count)?;
+        [at, with] => done_at::<R, O>(kind, at, with, memory),
+        [from, to, count] if kind == "copy" => {
+            let count = place(count)?;
+            let from = run_in::<R, O>(memory.len(), from, count)?;
+            let to = run_in::<R, O>(memory.len(), to, count)?;
             from.copy_within(memory, to, count as usize);
             Some(Outcome::Memory)
         }
+        _ => None,
     }
 }
 
-/// The pointer to a place of a memory of so many words, or `None` where the place is past it.
-pub fn pointer_in<R: BitRegister, O>(words: usize, at: u64) -> Option<BitPtr<R, O>>
+// Does the access of a kind at a place, with a bit or with another place.
+fn done_at<R: BitRegister, O: BitOrder<R>>(
+    kind: &str,
+    at: &str,
+    with: &str,
+    memory: &mut [R],
+) -> Option<Outcome> {
+    let pointer = pointer_in::<R, O>(memory.len(), at)?;
+    match kind {
+        "write" => {
+            pointer.write(memory, is_one(with)?);
+            Some(Outcome::Memory)
+        }
+        "replace" => Some(Outcome::BitAndMemory(pointer.replace(memory, is_one(with)?))),
+        "swap" => {
+            let other = pointer_in::<R, O>(memory.len(), with)?;
+            pointer.swap_within(memory, other);
+            Some(Outcome::Memory)
+        }
+        _ => None,
+    }
+}
+
+/// The pointer to the place of a text in a memory of so many words, or `None` where it is past it.
+pub fn pointer_in<R: BitRegister, O>(words: usize, at: &str) -> Option<BitPtr<R, O>>
     ensures { IfSome result (λ pointer. IsIn (ptr_of pointer) words) }
 {
-    let pointer = pointer_at::<R, O>(at);
+    let pointer = pointer_at::<R, O>(place(at)?);
     if pointer.is_in(words) {
         Some(pointer)
     } else {
@@ -147,12 +128,12 @@ pub fn pointer_in<R: BitRegister, O>(words: usize, at: u64) -> Option<BitPtr<R, 
     }
 }
 
-/// The pointer to the first place of a run in a memory of so many words, or `None` where the run
-/// passes it.
-pub fn run_in<R: BitRegister, O>(words: usize, at: u64, count: u64) -> Option<BitPtr<R, O>>
+/// The pointer to the first place of a run, from a text, in a memory of so many words, or `None`
+/// where the run passes it.
+pub fn run_in<R: BitRegister, O>(words: usize, at: &str, count: u64) -> Option<BitPtr<R, O>>
     ensures { IfSome result (λ pointer. RangeIsIn R.BITS (ptr_of pointer) words count) }
 {
-    let pointer = pointer_at::<R, O>(at);
+    let pointer = pointer_at::<R, O>(place(at)?);
     if pointer.run_in(words, count as usize) {
         Some(pointer)
     } else {

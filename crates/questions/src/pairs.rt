@@ -20,17 +20,15 @@ pub fn write_answer<'a, R: BitRegister, O: BitOrder<R>, A: Allocator>(
     kind: &str,
     words: &[&str],
 ) -> Result<bool, AllocError> {
-    let [memory, order, register, other, numbers @ ..] = words else {
-        return Ok(false);
-    };
-    let Some(exchange) = exchange_of(kind, numbers) else {
+    let [memory, order, register, other, places @ ..] = words else {
         return Ok(false);
     };
     let pair = Pair::<R, O, A> {
         alloc,
+        kind,
         memory,
         other,
-        exchange,
+        places,
         of: PhantomData,
     };
     match names::answer_at(order, register, &pair).unwrap_or(Ok(None))? {
@@ -42,33 +40,14 @@ pub fn write_answer<'a, R: BitRegister, O: BitOrder<R>, A: Allocator>(
     }
 }
 
-// What is done between two memories: the first place is one of the first, the second of the second.
-#[derive(Clone, Copy)]
-enum Exchange {
-    Swap(u64, u64),
-    Copy { from: u64, to: u64, count: u64 },
-}
-
-// The exchange of a kind, with its places.
-fn exchange_of(kind: &str, numbers: &[&str]) -> Option<Exchange> {
-    match numbers {
-        [one, other] if kind == "swap2" => Some(Exchange::Swap(place(one)?, place(other)?)),
-        [from, to, count] if kind == "copy2" => Some(Exchange::Copy {
-            from: place(from)?,
-            to: place(to)?,
-            count: place(count)?,
-        }),
-        _ => None,
-    }
-}
-
 // An exchange between two memories, for a register and an order of the first.
 #[derive(Drop)]
 struct Pair<'a, 't, R: BitRegister, O, A: Allocator> {
     alloc: &'a A,
+    kind: &'t str,
     memory: &'t str,
     other: &'t str,
-    exchange: Exchange,
+    places: &'t [&'t str],
     of: PhantomData<(R, O)>,
 }
 
@@ -96,81 +75,69 @@ impl<'a, R: BitRegister, O: BitOrder<R>, A: Allocator> Pair<'a, '_, R, O, A> {
         }
     }
 
-    // The memories after the exchange, as text; `None` where a place is past its memory.
+    // The memories after the exchange, as text; `None` where a place is past its memory. The first
+    // place is one of the first memory, the second of the second.
     fn exchanged<S: BitRegister, P: BitOrder<S>>(
         &self,
         memory: &mut [R],
         other: &mut [S],
     ) -> Result<Option<String<&'a A>>, AllocError> {
         let mut text = String::new(self.alloc);
-        let is_done = match self.exchange {
-            Exchange::Swap(one, two) => {
+        let is_done = match self.places {
+            [one, two] if self.kind == "swap2" => {
                 write_swapped::<R, O, S, P, &'a A>(&mut text, memory, one, other, two)?
             }
-            Exchange::Copy { from, to, count } => {
+            [from, to, count] if self.kind == "copy2" => {
                 write_copied::<R, O, S, P, &'a A>(&mut text, memory, from, other, to, count)?
             }
+            _ => false,
         };
         if is_done { Ok(Some(text)) } else { Ok(None) }
     }
 }
 
-// Writes two memories after a bit of one was exchanged with one of the other.
+// Exchanges a bit of one memory with one of the other, and writes both; tells whether the places
+// are in them.
 fn write_swapped<R: BitRegister, O: BitOrder<R>, S: BitRegister, P: BitOrder<S>, A: Allocator>(
     text: &mut String<A>,
     memory: &mut [R],
-    one: u64,
+    one: &str,
     other: &mut [S],
-    two: u64,
+    two: &str,
 ) -> Result<bool, AllocError> {
-    if swap::<R, O, S, P>(memory, one, other, two).is_none() {
+    let Some(one) = pointer_in::<R, O>(memory.len(), one) else {
         return Ok(false);
-    }
+    };
+    let Some(two) = pointer_in::<S, P>(other.len(), two) else {
+        return Ok(false);
+    };
+    one.swap(memory, two, other);
     write_words(text, memory)?;
     text.push_str(" ")?;
     write_words(text, other)?;
     Ok(true)
 }
 
-// Writes a memory after a run of bits of another was copied into it.
+// Copies a run of bits of one memory into the other, and writes that; tells whether the runs are in
+// them.
 fn write_copied<R: BitRegister, O: BitOrder<R>, S: BitRegister, P: BitOrder<S>, A: Allocator>(
     text: &mut String<A>,
     memory: &[R],
-    from: u64,
+    from: &str,
     other: &mut [S],
-    to: u64,
-    count: u64,
+    to: &str,
+    count: &str,
 ) -> Result<bool, AllocError> {
-    if copy::<R, O, S, P>(memory, from, other, to, count).is_none() {
+    let Some(count) = place(count) else {
         return Ok(false);
-    }
+    };
+    let Some(from) = run_in::<R, O>(memory.len(), from, count) else {
+        return Ok(false);
+    };
+    let Some(to) = run_in::<S, P>(other.len(), to, count) else {
+        return Ok(false);
+    };
+    from.copy_to(memory, to, other, count as usize);
     write_words(text, other)?;
     Ok(true)
-}
-
-// Exchanges a bit of one memory with one of the other; `None` where a place is past its memory.
-fn swap<R: BitRegister, O: BitOrder<R>, S: BitRegister, P: BitOrder<S>>(
-    memory: &mut [R],
-    one: u64,
-    other: &mut [S],
-    two: u64,
-) -> Option<()> {
-    let one = pointer_in::<R, O>(memory.len(), one)?;
-    let two = pointer_in::<S, P>(other.len(), two)?;
-    one.swap(memory, two, other);
-    Some(())
-}
-
-// Copies a run of bits of one memory into the other; `None` where a run passes its memory.
-fn copy<R: BitRegister, O: BitOrder<R>, S: BitRegister, P: BitOrder<S>>(
-    memory: &[R],
-    from: u64,
-    other: &mut [S],
-    to: u64,
-    count: u64,
-) -> Option<()> {
-    let from = run_in::<R, O>(memory.len(), from, count)?;
-    let to = run_in::<S, P>(other.len(), to, count)?;
-    from.copy_to(memory, to, other, count as usize);
-    Some(())
 }

@@ -197,9 +197,10 @@ fn write_answers<R: BitRegister, O: BitOrder<R>, A: Allocator>(
             text.push_str(";")?;
         }
         is_first = false;
-        if !write_range_answer(text, range, call)? {
+        let Some(answer) = range_answer(range, call) else {
             return Ok(false);
-        }
+        };
+        write_range_answer(text, answer)?;
     }
     Ok(true)
 }
@@ -225,50 +226,66 @@ fn place_of<R: BitRegister, O: BitOrder<R>>(pointer: BitPtr<R, O>) -> i128 {
     word as i128 * i128::from(R::BITS) + i128::from(bit.into_inner())
 }
 
-// Writes a range's answer to a call, and tells whether it is one.
-fn write_range_answer<R: BitRegister, O: BitOrder<R>, A: Allocator>(
-    text: &mut String<A>,
+// What a range answers to a call.
+enum RangeAnswer {
+    Place(i128),
+    NoPlace,
+    Number(usize),
+    Truth(bool),
+}
+
+// A range's answer to a call; `None` where it is no call.
+fn range_answer<R: BitRegister, O: BitOrder<R>>(
     range: &mut BitPtrRange<R, O>,
     call: &str,
-) -> Result<bool, AllocError> {
+) -> Option<RangeAnswer> {
     match call {
-        "next" => write_place(text, range.next())?,
-        "next_back" => write_place(text, range.next_back())?,
-        "len" => write!(text, "{}", range.len())?,
-        "is_empty" => write!(text, "{}", range.is_empty())?,
-        _ => return write_numbered_answer(text, range, call),
+        "next" => Some(place_answer(range.next())),
+        "next_back" => Some(place_answer(range.next_back())),
+        "len" => Some(RangeAnswer::Number(range.len())),
+        "is_empty" => Some(RangeAnswer::Truth(range.is_empty())),
+        _ => {
+            let (name, number) = call.split_once(' ')?;
+            numbered_answer(range, name, number)
+        }
     }
-    Ok(true)
 }
 
-// Writes a range's answer to a call with a number, and tells whether it is one.
-fn write_numbered_answer<R: BitRegister, O: BitOrder<R>, A: Allocator>(
-    text: &mut String<A>,
+// A range's answer to a call with a number; `None` where it is no call.
+fn numbered_answer<R: BitRegister, O: BitOrder<R>>(
     range: &mut BitPtrRange<R, O>,
-    call: &str,
-) -> Result<bool, AllocError> {
-    let Some((name, number)) = call.split_once(' ') else {
-        return Ok(false);
-    };
-    match (name, number.parse::<usize>()) {
-        ("nth", Ok(n)) => write_place(text, range.nth(n))?,
-        ("nth_back", Ok(n)) => write_place(text, range.nth_back(n))?,
-        ("contains", _) => match bit_at(number) {
-            Some(pointer) => write!(text, "{}", range.contains(&pointer))?,
-            None => return Ok(false),
-        },
-        _ => return Ok(false),
+    name: &str,
+    number: &str,
+) -> Option<RangeAnswer> {
+    if name == "contains" {
+        let pointer = bit_at(number)?;
+        return Some(RangeAnswer::Truth(range.contains(&pointer)));
     }
-    Ok(true)
+    let n = number.parse::<usize>().ok()?;
+    match name {
+        "nth" => Some(place_answer(range.nth(n))),
+        "nth_back" => Some(place_answer(range.nth_back(n))),
+        _ => None,
+    }
 }
 
-// Writes the place of a pointer, or `-` where there is none.
-fn write_place<R: BitRegister, O: BitOrder<R>, A: Allocator>(
-    text: &mut String<A>,
-    pointer: Option<BitPtr<R, O>>,
-) -> Result<(), AllocError> {
+// The place of a pointer, where there is one.
+fn place_answer<R: BitRegister, O: BitOrder<R>>(pointer: Option<BitPtr<R, O>>) -> RangeAnswer {
     match pointer {
-        Some(pointer) => write!(text, "{}", place_of(pointer)),
-        None => text.push_str("-"),
+        Some(pointer) => RangeAnswer::Place(place_of(pointer)),
+        None => RangeAnswer::NoPlace,
+    }
+}
+
+// Writes what a range answers, and `-` where there is no place.
+fn write_range_answer<A: Allocator>(
+    text: &mut String<A>,
+    answer: RangeAnswer,
+) -> Result<(), AllocError> {
+    match answer {
+        RangeAnswer::Place(place) => write!(text, "{place}"),
+        RangeAnswer::NoPlace => text.push_str("-"),
+        RangeAnswer::Number(n) => write!(text, "{n}"),
+        RangeAnswer::Truth(is_so) => write!(text, "{is_so}"),
     }
 }
