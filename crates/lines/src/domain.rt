@@ -35,12 +35,15 @@ impl<'a, A: Allocator> Call for DomainCall<'a, '_, A> {
     // One line an item, and the number of items.
     fn at<R: BitRegister, O: BitOrder<R>>(&self) -> Self::Answer {
         let alloc = self.alloc;
-        let memory = words_of::<R, A>(alloc, self.words)?.ok_or(Fault::Usage)?;
-        let start = place(self.start).ok_or(Fault::Usage)?;
-        let len = place(self.len).ok_or(Fault::Usage)?;
+        let Some(memory) = words_of::<R, A>(alloc, self.words)? else {
+            return Err(Fault::Usage);
+        };
+        let (Some(start), Some(len)) = (place(self.start), place(self.len)) else {
+            return Err(Fault::Usage);
+        };
         let span = span_at::<R, O, A>(alloc, start, len)?;
         if !span.fits(memory.len()) {
-            return Err(Fault::line(alloc, &"span does not fit")?);
+            return Err(Fault::line(alloc, &"span does not fit"));
         }
         Ok(text_of(alloc, span, &memory)?)
     }

@@ -22,9 +22,11 @@ impl<A: Allocator> From<AllocError> for Fault<A> {
 
 impl<A: Allocator> Fault<A> {
     /// The fault of a line that names what is not there.
-    pub fn line(alloc: A, what: &impl fmt::Display) -> Result<Self, AllocError> {
+    pub fn line(alloc: A, what: &impl fmt::Display) -> Self {
         let mut line = String::new(alloc);
-        writeln!(line, "fault: {what}")?;
-        Ok(Fault::Line(line))
+        match writeln!(line, "fault: {what}") {
+            Ok(()) => Fault::Line(line),
+            Err(_) => Fault::OutOfMemory,
+        }
     }
 }

@@ -21,34 +21,67 @@ pub fn text<'a, A: Allocator>(
     alloc: &'a A,
     args: &[String],
 ) -> Result<String<&'a A>, Fault<&'a A>> {
-    match args {
-        [call, order, register, words, start, len] if call.as_str() == "domain" => {
-            let call = DomainCall {
-                alloc,
-                words: words.as_str(),
-                start: start.as_str(),
-                len: len.as_str(),
-            };
-            names::answer_at(order.as_str(), register.as_str(), &call).unwrap_or(Err(Fault::Usage))
-        }
-        [call, order, register, from, upto] if call.as_str() == "mask" => {
-            let call = MaskCall {
-                alloc,
-                from: from.as_str(),
-                upto: upto.as_str(),
-            };
-            names::answer_at(order.as_str(), register.as_str(), &call).unwrap_or(Err(Fault::Usage))
-        }
-        [call, order, register, words, spans, commands] if call.as_str() == "run" => {
-            let call = RunCall {
-                alloc,
-                words: words.as_str(),
-                spans: spans.as_str(),
-                commands: commands.as_str(),
-            };
-            names::answer_at(order.as_str(), register.as_str(), &call).unwrap_or(Err(Fault::Usage))
-        }
-        [call, candidate] if call.as_str() == "verify" => verify::text(alloc, candidate.as_str()),
+    let [call, args @ ..] = args else {
+        return Err(Fault::Usage);
+    };
+    match call.as_str() {
+        "domain" => domain_text(alloc, args),
+        "mask" => mask_text(alloc, args),
+        "run" => run_text(alloc, args),
+        "verify" => match args {
+            [candidate] => verify::text(alloc, candidate.as_str()),
+            _ => Err(Fault::Usage),
+        },
         _ => Err(Fault::Usage),
     }
+}
+
+// The answer to `domain` with these words after it.
+fn domain_text<'a, A: Allocator>(
+    alloc: &'a A,
+    args: &[String],
+) -> Result<String<&'a A>, Fault<&'a A>> {
+    let [order, register, words, start, len] = args else {
+        return Err(Fault::Usage);
+    };
+    let call = DomainCall {
+        alloc,
+        words: words.as_str(),
+        start: start.as_str(),
+        len: len.as_str(),
+    };
+    names::answer_at(order.as_str(), register.as_str(), &call).unwrap_or(Err(Fault::Usage))
+}
+
+// The answer to `mask` with these words after it.
+fn mask_text<'a, A: Allocator>(
+    alloc: &'a A,
+    args: &[String],
+) -> Result<String<&'a A>, Fault<&'a A>> {
+    let [order, register, from, upto] = args else {
+        return Err(Fault::Usage);
+    };
+    let call = MaskCall {
+        alloc,
+        from: from.as_str(),
+        upto: upto.as_str(),
+    };
+    names::answer_at(order.as_str(), register.as_str(), &call).unwrap_or(Err(Fault::Usage))
+}
+
+// The answer to `run` with these words after it.
+fn run_text<'a, A: Allocator>(
+    alloc: &'a A,
+    args: &[String],
+) -> Result<String<&'a A>, Fault<&'a A>> {
+    let [order, register, words, spans, commands] = args else {
+        return Err(Fault::Usage);
+    };
+    let call = RunCall {
+        alloc,
+        words: words.as_str(),
+        spans: spans.as_str(),
+        commands: commands.as_str(),
+    };
+    names::answer_at(order.as_str(), register.as_str(), &call).unwrap_or(Err(Fault::Usage))
 }

@@ -1,7 +1,7 @@
 //! The line of `bits mask`: the mask of an order's indices between two bounds.
 
 use crate::fault::Fault;
-use bitvec::index::{BitEnd, BitIdx, Limits};
+use bitvec::index::{BitEnd, BitIdx, BitMask};
 use bitvec::mem::BitRegister;
 use bitvec::order::BitOrder;
 use notation::names::Call;
@@ -26,20 +26,40 @@ impl<'a, A: Allocator> Call for MaskCall<'a, '_, A> {
     // The mask in binary.
     fn at<R: BitRegister, O: BitOrder<R>>(&self) -> Self::Answer {
         let alloc = self.alloc;
-        let from = bound(self.from).ok_or(Fault::Usage)?;
-        let upto = bound(self.upto).ok_or(Fault::Usage)?;
+        let Some(from) = bound(self.from) else {
+            return Err(Fault::Usage);
+        };
+        let Some(upto) = bound(self.upto) else {
+            return Err(Fault::Usage);
+        };
         let from = index(alloc, from)?;
         let upto = end(alloc, upto)?;
-        let start = from.unwrap_or(BitIdx::MIN).into_inner();
-        let limit = upto.unwrap_or(BitEnd::MAX).into_inner();
-        if start > limit {
-            return Err(Fault::line(alloc, &"range reversed")?);
-        }
-        let mask = O::mask(from, upto);
+        let Some(mask) = mask_between::<R, O>(from, upto) else {
+            return Err(Fault::line(alloc, &"range reversed"));
+        };
         let mut text = String::new(alloc);
         writeln!(text, "{mask}")?;
         Ok(text)
     }
+}
+
+// The mask of an order between two bounds; `None` where they are reversed.
+fn mask_between<R: BitRegister, O: BitOrder<R>>(
+    from: Option<BitIdx<R>>,
+    upto: Option<BitEnd<R>>,
+) -> Option<BitMask<R>> {
+    let start = match from {
+        Some(index) => index.into_inner(),
+        None => 0,
+    };
+    let limit = match upto {
+        Some(end) => end.into_inner(),
+        None => R::BITS,
+    };
+    if start > limit {
+        return None;
+    }
+    Some(O::mask(from, upto))
 }
 
 // A decimal number of 8 bits, or `-` for an absent bound; `None` where the text is neither.
@@ -60,7 +80,7 @@ fn index<'a, R: BitRegister, A: Allocator>(
     };
     match BitIdx::new(n) {
         Ok(index) => Ok(Some(index)),
-        Err(error) => Err(Fault::line(alloc, &error)?),
+        Err(error) => Err(Fault::line(alloc, &error)),
     }
 }
 
@@ -73,6 +93,6 @@ fn end<'a, R: BitRegister, A: Allocator>(
     };
     match BitEnd::new(n) {
         Some(end) => Ok(Some(end)),
-        None => Err(Fault::line(alloc, &"end out of range")?),
+        None => Err(Fault::line(alloc, &"end out of range")),
     }
 }

@@ -31,13 +31,29 @@ impl<'a, A: Allocator> Call for RunCall<'a, '_, A> {
     // One line a reply, and the memory.
     fn at<R: BitRegister, O: BitOrder<R>>(&self) -> Self::Answer {
         let alloc = self.alloc;
-        let mut memory = words_of::<R, A>(alloc, self.words)?.ok_or(Fault::Usage)?;
-        let places = intervals_of(alloc, self.spans)?;
-        let requests = requests_of::<R, A>(alloc, self.commands)?;
-        let spans = spans_of::<R, O, A>(alloc, &places)?;
-        let replies = served(alloc, &spans, &mut memory, &requests)?;
-        Ok(text_of(alloc, &replies, &memory)?)
+        let Some(mut memory) = words_of::<R, A>(alloc, self.words)? else {
+            return Err(Fault::Usage);
+        };
+        let Some(places) = intervals_of(alloc, self.spans)? else {
+            return Err(Fault::Usage);
+        };
+        let Some(requests) = requests_of::<R, A>(alloc, self.commands)? else {
+            return Err(Fault::Usage);
+        };
+        answer::<R, O, A>(alloc, &places, &mut memory, &requests)
     }
+}
+
+// One line a reply to the commands through spans, and the memory.
+fn answer<'a, R: BitRegister, O: BitOrder<R>, A: Allocator>(
+    alloc: &'a A,
+    places: &[(u64, u64)],
+    memory: &mut [R],
+    requests: &[Request<R>],
+) -> Result<String<&'a A>, Fault<&'a A>> {
+    let spans = spans_of::<R, O, A>(alloc, places)?;
+    let replies = served(alloc, &spans, memory, requests)?;
+    Ok(text_of(alloc, &replies, memory)?)
 }
 
 // Gives the commands to the spans, and returns their replies.
@@ -48,10 +64,10 @@ fn served<'a, R: BitRegister, O: BitOrder<R>, A: Allocator>(
     requests: &[Request<R>],
 ) -> Result<Vec<Reply<R>, &'a A>, Fault<&'a A>> {
     if !spans.iter().all(|span| span.fits(memory.len())) {
-        return Err(Fault::line(alloc, &"span does not fit")?);
+        return Err(Fault::line(alloc, &"span does not fit"));
     }
     if !can_run(spans, memory.len()) {
-        return Err(Fault::line(alloc, &"spans overlap")?);
+        return Err(Fault::line(alloc, &"spans overlap"));
     }
     let mut replies = vec![in alloc; Reply::NoSpan; requests.len()]?;
     run(spans, memory, requests, &mut replies);
@@ -72,22 +88,29 @@ fn text_of<'a, R: BitRegister, A: Allocator>(
     Ok(text)
 }
 
-// A comma list of places and lengths with a plus sign between them, or `-` for none.
+// A comma list of places and lengths with a plus sign between them, or `-` for none; `None` where
+// the text is no such list.
 fn intervals_of<'a, A: Allocator>(
     alloc: &'a A,
     text: &str,
-) -> Result<Vec<(u64, u64), &'a A>, Fault<&'a A>> {
+) -> Result<Option<Vec<(u64, u64), &'a A>>, AllocError> {
     let mut all = Vec::new(alloc);
     if text == "-" {
-        return Ok(all);
+        return Ok(Some(all));
     }
     for pair in text.split(',') {
-        let (start, len) = pair.split_once('+').ok_or(Fault::Usage)?;
-        let start = place(start).ok_or(Fault::Usage)?;
-        let len = place(len).ok_or(Fault::Usage)?;
-        all.push((start, len)).map_err(AllocError::from)?;
+        let Some(interval) = interval(pair) else {
+            return Ok(None);
+        };
+        all.push(interval)?;
     }
-    Ok(all)
+    Ok(Some(all))
+}
+
+// A place and a length with a plus sign between them.
+fn interval(text: &str) -> Option<(u64, u64)> {
+    let (start, len) = text.split_once('+')?;
+    Some((place(start)?, place(len)?))
 }
 
 // The spans of these places and lengths; the fault is of the first that is refused.
@@ -103,21 +126,23 @@ fn spans_of<'a, R: BitRegister, O: BitOrder<R>, A: Allocator>(
     Ok(spans)
 }
 
-// A comma list of commands, or `-` for none.
+// A comma list of commands, or `-` for none; `None` where the text is no such list.
 fn requests_of<'a, R: BitRegister, A: Allocator>(
     alloc: &'a A,
     text: &str,
-) -> Result<Vec<Request<R>, &'a A>, Fault<&'a A>> {
+) -> Result<Option<Vec<Request<R>, &'a A>>, AllocError> {
     let mut all = Vec::new(alloc);
     if text == "-" {
-        return Ok(all);
+        return Ok(Some(all));
     }
     for text in text.split(',') {
         let words: Vec<&str, &'a A> = text.split(':').collect(alloc)?;
-        let request = request(&words).ok_or(Fault::Usage)?;
-        all.push(request).map_err(AllocError::from)?;
+        let Some(request) = request(&words) else {
+            return Ok(None);
+        };
+        all.push(request)?;
     }
-    Ok(all)
+    Ok(Some(all))
 }
 
 // The number of a span and its command, from the words between the colons.
@@ -133,23 +158,9 @@ fn request<R: BitRegister>(words: &[&str]) -> Option<Request<R>> {
 // The command of a name with its numbers.
 fn command<R: BitRegister>(name: &str, words: &[&str]) -> Option<Command<R>> {
     match words {
-        [k] => one_number(name, count(k)?),
-        [k, value] if name == "store" => {
-            let value = R::from_u128(number(value, 16, u128::MAX)?)?;
-            Some(Command::Store(count(k)?, value))
-        }
-        [i, bit] if name == "replace" => Some(Command::Replace(count(i)?, truth(bit)?)),
-        [i, j] if name == "swap" => Some(Command::Swap(count(i)?, count(j)?)),
-        [from, to, len] if name == "copy" => Some(Command::Copy {
-            from: count(from)?,
-            to: count(to)?,
-            count: count(len)?,
-        }),
-        [from, to, bit] if name == "fill" => Some(Command::Fill {
-            from: count(from)?,
-            to: count(to)?,
-            value: truth(bit)?,
-        }),
+        [n] => one_number(name, count(n)?),
+        [n, word] => number_and_word(name, count(n)?, word),
+        [from, to, word] => bounds_and_word(name, count(from)?, count(to)?, word),
         _ => None,
     }
 }
@@ -162,6 +173,39 @@ fn one_number<R: BitRegister>(name: &str, n: usize) -> Option<Command<R>> {
         "clear" => Some(Command::Clear(n)),
         "invert" => Some(Command::Invert(n)),
         "read" => Some(Command::Read(n)),
+        _ => None,
+    }
+}
+
+// The command of a name with a number, and with a word, a bit or another number.
+fn number_and_word<R: BitRegister>(name: &str, n: usize, word: &str) -> Option<Command<R>> {
+    match name {
+        "store" => {
+            let value = number(word, 16, u128::MAX)?;
+            Some(Command::Store(n, R::from_u128(value)?))
+        }
+        "replace" => Some(Command::Replace(n, truth(word)?)),
+        "swap" => Some(Command::Swap(n, count(word)?)),
+        _ => None,
+    }
+}
+
+// The command of a name with two bounds, and with a number of bits or a bit.
+fn bounds_and_word<R: BitRegister>(
+    name: &str,
+    from: usize,
+    to: usize,
+    word: &str,
+) -> Option<Command<R>> {
+    match name {
+        "copy" => {
+            let count = count(word)?;
+            Some(Command::Copy { from, to, count })
+        }
+        "fill" => {
+            let value = truth(word)?;
+            Some(Command::Fill { from, to, value })
+        }
         _ => None,
     }
 }

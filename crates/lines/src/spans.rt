@@ -14,6 +14,6 @@ pub fn span_at<'a, R: BitRegister, O, A: Allocator>(
 ) -> Result<BitSpan<R, O>, Fault<&'a A>> {
     match BitSpan::from_bitptr(pointer_at(start), len as usize) {
         Ok(span) => Ok(span),
-        Err(error) => Err(Fault::line(alloc, &error)?),
+        Err(error) => Err(Fault::line(alloc, &error)),
     }
 }
