@@ -15,6 +15,18 @@ struct Outcome {
     refused: bool,
 }
 
+impl Outcome {
+    // Whether it has a status and a text.
+    fn is(&self, status: u8, text: &[u8]) -> bool {
+        self.status == status && self.text.as_slice() == text
+    }
+
+    // Whether it says that memory ran out.
+    fn is_out_of_memory(&self) -> bool {
+        self.is(3, b"out of memory\n")
+    }
+}
+
 // The outcome of a call where that request for memory is refused, alone or with all after it.
 fn called(alloc: Global, args: &[String], first: u64, alone: bool) -> Outcome {
     let plan = if alone {
@@ -44,16 +56,23 @@ fn stands(
     let args = words(alloc, line)?;
     for first in 0..1000 {
         let got = called(alloc, &args, first, alone);
-        let whole = got.status == status && got.text.as_slice() == want.as_bytes();
+        let whole = got.is(status, want.as_bytes());
         if !got.refused {
             return Ok(if whole { Some(first) } else { None });
         }
-        let none = got.status == 3 && got.text.as_slice() == b"out of memory\n".as_slice();
-        if !whole && !none {
+        if !whole && !got.is_out_of_memory() {
             return Ok(None);
         }
     }
     Ok(None)
+}
+
+// Whether a call stands each refusal, of one request or of one and all after it, and makes as many
+// requests either way.
+fn stands_all(alloc: Global, line: &str, status: u8, want: &str) -> Result<bool, AllocError> {
+    let all = stands(alloc, line, false, status, want)?;
+    let one = stands(alloc, line, true, status, want)?;
+    Ok(all.is_some() && all == one)
 }
 
 #[test]
@@ -95,9 +114,7 @@ fn each_request_for_memory_may_be_refused(rt: HostRuntime) -> Result<(), Fail> {
         ("run lsb0 u8 0 0+4,3+4 -", 2, "fault: spans overlap\n"),
         ("run lsb0 u8 0,1 0+4 0:load:0,0:load", 2, USAGE),
     ] {
-        let all = stands(rt.alloc(), line, false, status, want)?;
-        let one = stands(rt.alloc(), line, true, status, want)?;
-        assert!(rt; all.is_some() && all == one, "at {line}");
+        assert!(rt; stands_all(rt.alloc(), line, status, want)?, "at {line}");
     }
     Ok(())
 }
@@ -112,12 +129,7 @@ fn no_memory_is_no_answer(rt: HostRuntime) -> Result<(), Fail> {
     ] {
         let args = words(rt.alloc(), line)?;
         let got = called(rt.alloc(), &args, 0, false);
-        assert_eq!(rt; got.status, 3, "at {line}");
-        assert_eq!(rt;
-            got.text.as_slice(),
-            b"out of memory\n".as_slice(),
-            "at {line}"
-        );
+        assert!(rt; got.is_out_of_memory(), "at {line}");
     }
     Ok(())
 }

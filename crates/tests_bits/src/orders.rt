@@ -6,7 +6,7 @@ ghost use Rattle.bitvec.specs.Order.{mask_start, mask_end, plain_mask_of};
 ghost use Rattle.tests_bits.specs.Orders.{rotated_index, rotated_one_to_one, table_position};
 ghost use Rattle.tests_bits.specs.Orders.{tabled_one_to_one};
 
-use bitvec::index::{BitEnd, BitIdx, BitMask, BitPos, BitSel};
+use bitvec::index::{BitEnd, BitIdx, BitMask, BitPos, BitSel, Limits};
 use bitvec::mem::BitRegister;
 use bitvec::order::{
     BitOrder, ByNumbers, ByPosition, Lsb0, Msb0, Numbers, OneToOne, OrderCandidate, OrderFault,
@@ -65,17 +65,27 @@ fn byte_mask<O: OrderCandidate<u8>>(from: Option<u8>, upto: Option<u8>) -> u8
 
 #[test]
 fn masks_of_odd_orders(rt: HostRuntime) {
-    assert_eq!(rt; byte_mask::<Rot>(Some(4), Some(7)), 0x83);
-    assert_eq!(rt; byte_mask::<Rot>(Some(0), Some(8)), 0xFF);
-    assert_eq!(rt; byte_mask::<Tab>(None, Some(2)), 0x24);
-    assert_eq!(rt; byte_mask::<Tab>(Some(2), Some(5)), 0x89);
-    assert_eq!(rt; byte_mask::<Tab>(Some(5), None), 0x52);
+    assert_eq!(rt;
+        [
+            byte_mask::<Rot>(Some(4), Some(7)),
+            byte_mask::<Rot>(Some(0), Some(8)),
+            byte_mask::<Tab>(None, Some(2)),
+            byte_mask::<Tab>(Some(2), Some(5)),
+            byte_mask::<Tab>(Some(5), None)
+        ],
+        [0x83, 0xFF, 0x24, 0x89, 0x52]
+    );
 }
 
 #[test]
 fn odd_orders_are_verified(rt: HostRuntime) {
-    assert!(rt; verify::<Rot>().is_ok());
-    assert!(rt; verify_for_type::<u8, Tab>().is_ok());
+    assert_eq!(rt;
+        [
+            verify::<Rot>().is_ok(),
+            verify_for_type::<u8, Tab>().is_ok()
+        ],
+        [true; 2]
+    );
 }
 
 /// A request to the span of a number.
@@ -89,19 +99,29 @@ fn span_at<O>(start: u8, len: usize) -> BitSpan<u8, O> {
     BitSpan::new(isize::from(start / 8), head, len).unwrap_or_default()
 }
 
-/// The replies to requests through spans of a memory of zeros and the memory after them, or `None`
-/// where they cannot run.
+/// The replies to requests through spans of a memory and the memory after them, or `None` where
+/// they cannot run.
 fn ran<O: BitOrder<u8>, const S: usize, const N: usize, const W: usize>(
     spans: [BitSpan<u8, O>; S],
+    memory: [u8; W],
     requests: [Request<u8>; N],
 ) -> Option<([Reply<u8>; N], [u8; W])> {
-    let mut memory = [0; W];
+    let mut memory = memory;
     let mut replies = [Reply::NoSpan; N];
     if !can_run(&spans, memory.len()) {
         return None;
     }
     run(&spans, &mut memory, &requests, &mut replies);
     Some((replies, memory))
+}
+
+/// The same under `Rot`, through the halves of a byte.
+fn ran_in_halves<const N: usize>(
+    byte: u8,
+    requests: [Request<u8>; N],
+) -> Option<([Reply<u8>; N], [u8; 1])> {
+    let spans: [BitSpan<u8, Rot>; 2] = [span_at(0, 4), span_at(4, 4)];
+    ran(spans, [byte], requests)
 }
 
 #[test]
@@ -120,25 +140,20 @@ fn a_run_under_rot(rt: HostRuntime) {
         Reply::Bit(true),
         Reply::Bit(false),
     ];
-    let spans: [BitSpan<u8, Rot>; 2] = [span_at(0, 4), span_at(4, 4)];
-    assert_eq!(rt; ran(spans, requests), Some((want, [0xFB])));
-    let mut memory = [0xFB];
-    let mut replies = [Reply::NoSpan; 1];
-    assert!(rt; can_run(&spans, memory.len()));
-    run(
-        &spans,
-        &mut memory,
-        &[to(1, Command::Swap(0, 3))],
-        &mut replies,
+    assert_eq!(rt; ran_in_halves(0, requests), Some((want, [0xFB])));
+}
+
+#[test]
+fn single_commands_under_rot(rt: HostRuntime) {
+    let swapped = ran_in_halves(0xFB, [to(1, Command::Swap(0, 3))]);
+    let inverted = ran_in_halves(0x7F, [to(0, Command::Invert(0))]);
+    assert_eq!(rt;
+        [swapped, inverted],
+        [
+            Some(([Reply::Done], [0x7F])),
+            Some(([Reply::Word(0x78)], [0x07]))
+        ]
     );
-    assert_eq!(rt; (replies, memory), ([Reply::Done], [0x7F]));
-    run(
-        &spans,
-        &mut memory,
-        &[to(0, Command::Invert(0))],
-        &mut replies,
-    );
-    assert_eq!(rt; (replies, memory), ([Reply::Word(0x78)], [0x07]));
 }
 
 /// The replies and the memory of one bit set in each of four nibbles.
@@ -150,16 +165,26 @@ fn nibbles<O: BitOrder<u8>>() -> Option<([Reply<u8>; 4], [u8; 2])> {
         to(2, Command::Replace(2, true)),
         to(3, Command::Replace(3, true)),
     ];
-    ran(spans, requests)
+    ran(spans, [0; 2], requests)
 }
 
 #[test]
 fn nibbles_under_each_order(rt: HostRuntime) {
     let want = [Reply::Bit(false); 4];
-    assert_eq!(rt; nibbles::<Lsb0>(), Some((want, [0x21, 0x84])));
-    assert_eq!(rt; nibbles::<Msb0>().map(|ran| ran.0), Some(want));
-    assert_eq!(rt; nibbles::<Rot>().map(|ran| ran.0), Some(want));
-    assert_eq!(rt; nibbles::<Tab>().map(|ran| ran.0), Some(want));
+    assert_eq!(rt;
+        [
+            nibbles::<Lsb0>(),
+            nibbles::<Msb0>(),
+            nibbles::<Rot>(),
+            nibbles::<Tab>()
+        ],
+        [
+            Some((want, [0x21, 0x84])),
+            Some((want, [0x84, 0x21])),
+            Some((want, [0x09, 0x24])),
+            Some((want, [0x60, 0x90]))
+        ]
+    );
 }
 
 /// The replies to a store of a number in a whole byte and to the reads of its bits.
@@ -169,7 +194,7 @@ fn bits_of_a_store<O: BitOrder<u8>>(number: u8) -> Option<[Reply<u8>; 9]> {
         requests[i + 1] = to(0, Command::Read(i));
     }
     let spans: [BitSpan<u8, O>; 1] = [span_at(0, 8)];
-    let (replies, _memory): (_, [u8; 1]) = ran(spans, requests)?;
+    let (replies, _memory) = ran(spans, [0], requests)?;
     Some(replies)
 }
 
@@ -186,8 +211,10 @@ fn a_number_turned_from_lsb0_to_msb0(rt: HostRuntime) {
         Reply::Bit(false),
         Reply::Bit(false),
     ];
-    assert_eq!(rt; bits_of_a_store::<Lsb0>(0x0D), Some(want));
-    assert_eq!(rt; bits_of_a_store::<Msb0>(0xB0), Some(want));
+    assert_eq!(rt;
+        [bits_of_a_store::<Lsb0>(0x0D), bits_of_a_store::<Msb0>(0xB0)],
+        [Some(want); 2]
+    );
 }
 
 /// `Lsb0`, but the position of `INDEX` is `TO`, and the selector of `SELECTED` that of the position
@@ -259,11 +286,22 @@ fn repeat_fault(index: u8, position: u8) -> Option<OrderFault<u8>> {
 
 #[test]
 fn faults_of_positions_and_selectors(rt: HostRuntime) {
-    assert_eq!(rt; fault::<Moved<8, 0, 0, 1>>(), selector_fault(0, 0x02, 0x01));
-    assert_eq!(rt; fault::<Moved<8, 0, 7, 0>>(), selector_fault(7, 0x01, 0x80));
-    assert_eq!(rt; fault::<Moved<3, 2, 3, 3>>(), selector_fault(3, 0x08, 0x04));
-    assert_eq!(rt; fault::<Moved<7, 0, 8, 0>>(), repeat_fault(7, 0));
-    assert_eq!(rt; fault::<Moved<5, 1, 6, 0>>(), repeat_fault(5, 1));
+    assert_eq!(rt;
+        [
+            fault::<Moved<8, 0, 0, 1>>(),
+            fault::<Moved<8, 0, 7, 0>>(),
+            fault::<Moved<3, 2, 3, 3>>(),
+            fault::<Moved<7, 0, 8, 0>>(),
+            fault::<Moved<5, 1, 6, 0>>()
+        ],
+        [
+            selector_fault(0, 0x02, 0x01),
+            selector_fault(7, 0x01, 0x80),
+            selector_fault(3, 0x08, 0x04),
+            repeat_fault(7, 0),
+            repeat_fault(5, 1)
+        ]
+    );
 }
 
 /// An absent bound of a candidate's mask.
@@ -320,24 +358,20 @@ fn mask_fault(from: Option<u8>, upto: Option<u8>, got: u8, want: u8) -> Option<O
 #[test]
 fn faults_of_masks(rt: HostRuntime) {
     assert_eq!(rt;
-        fault::<Masked<0, 0, 0, 1>>(),
-        mask_fault(Some(0), Some(0), 0x01, 0x00)
-    );
-    assert_eq!(rt;
-        fault::<Masked<7, 7, 8, 0>>(),
-        mask_fault(Some(7), Some(8), 0x00, 0x80)
-    );
-    assert_eq!(rt;
-        fault::<Masked<ABSENT, 3, ABSENT, 0>>(),
-        mask_fault(None, None, 0x00, 0xFF)
-    );
-    assert_eq!(rt;
-        fault::<Masked<7, 7, ABSENT, 0>>(),
-        mask_fault(Some(7), None, 0x00, 0x80)
-    );
-    assert_eq!(rt;
-        fault::<Masked<ABSENT, ABSENT, 0, 255>>(),
-        mask_fault(None, Some(0), 0xFF, 0x00)
+        [
+            fault::<Masked<0, 0, 0, 1>>(),
+            fault::<Masked<7, 7, 8, 0>>(),
+            fault::<Masked<ABSENT, 3, ABSENT, 0>>(),
+            fault::<Masked<7, 7, ABSENT, 0>>(),
+            fault::<Masked<ABSENT, ABSENT, 0, 255>>()
+        ],
+        [
+            mask_fault(Some(0), Some(0), 0x01, 0x00),
+            mask_fault(Some(7), Some(8), 0x00, 0x80),
+            mask_fault(None, None, 0x00, 0xFF),
+            mask_fault(Some(7), None, 0x00, 0x80),
+            mask_fault(None, Some(0), 0xFF, 0x00)
+        ]
     );
 }
 
@@ -425,7 +459,7 @@ impl<R: BitRegister, F: IsFaulty<R>> Numbers<R> for Open<F> {
 fn open_fault<R: BitRegister>() -> Option<OrderFault<R>> {
     Some(OrderFault::Mask {
         from: None,
-        upto: Some(BitEnd::new(R::BITS)?),
+        upto: Some(BitEnd::MAX),
         got: BitMask::new(R::ZERO),
         want: BitMask::new(R::ALL),
     })
@@ -457,10 +491,7 @@ fn fault_at_usize<const FIRST: u8>() -> Option<OrderFault<usize>> {
 
 #[test]
 fn faults_at_some_registers(rt: HostRuntime) {
-    assert!(rt; fault_at_u128::<2>().is_some());
     assert_eq!(rt; fault_at_u128::<2>(), open_fault());
-    assert!(rt; fault_at_u64::<1>().is_some());
     assert_eq!(rt; fault_at_u64::<1>(), open_fault());
-    assert!(rt; fault_at_usize::<0>().is_some());
     assert_eq!(rt; fault_at_usize::<0>(), open_fault());
 }

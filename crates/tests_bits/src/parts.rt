@@ -11,6 +11,7 @@ use bitvec::index::BitIdx;
 use bitvec::mem::BitRegister;
 use bitvec::order::{BitOrder, Lsb0};
 use bitvec::ptr::span::BitSpan;
+use bitvec::run::can_run;
 use view::Parts;
 
 // The span of `len` bits from a place of a memory of `u8` on.
@@ -73,26 +74,40 @@ fn bits_of(memory: &mut [u8; 2], part: usize) -> Option<[bool; 4]>
 #[test]
 fn bits_are_read(rt: HostRuntime) {
     let mut memory = [0x21, 0x84];
-    assert_eq!(rt; bits_of(&mut memory, 0), Some([true, false, false, false]));
-    assert_eq!(rt; bits_of(&mut memory, 1), Some([false, true, false, false]));
-    assert_eq!(rt; bits_of(&mut memory, 2), Some([false, false, true, false]));
-    assert_eq!(rt; bits_of(&mut memory, 3), Some([false, false, false, true]));
+    let bits = [
+        bits_of(&mut memory, 0),
+        bits_of(&mut memory, 1),
+        bits_of(&mut memory, 2),
+        bits_of(&mut memory, 3),
+    ];
+    assert_eq!(rt;
+        bits,
+        [
+            Some([true, false, false, false]),
+            Some([false, true, false, false]),
+            Some([false, false, true, false]),
+            Some([false, false, false, true])
+        ]
+    );
+}
+
+// A memory after stretches of its parts are filled.
+fn filled() -> Option<[u8; 2]> {
+    let mut memory = [0u8, 0xFF];
+    let mut parts = Parts::new(&mut memory, [span_at(2, 8), span_at(10, 2)])?;
+    if parts.len(0) != 8 || parts.len(1) != 2 {
+        return None;
+    }
+    parts.fill(0, 1, 5, true);
+    parts.fill(0, 7, 8, false);
+    parts.fill(1, 1, 1, false);
+    drop(parts);
+    Some(memory)
 }
 
 #[test]
 fn a_stretch_inside_a_part_is_filled(rt: HostRuntime) {
-    let mut memory = [0u8, 0xFF];
-    let mut is_lent = false;
-    if let Some(mut parts) = Parts::new(&mut memory, [span_at(2, 8), span_at(10, 2)]) {
-        is_lent = true;
-        if parts.len(0) == 8 && parts.len(1) == 2 {
-            parts.fill(0, 1, 5, true);
-            parts.fill(0, 7, 8, false);
-            parts.fill(1, 1, 1, false);
-        }
-    }
-    assert!(rt; is_lent);
-    assert_eq!(rt; memory, [0x78, 0xFD]);
+    assert_eq!(rt; filled(), Some([0x78, 0xFD]));
 }
 
 #[test]
@@ -134,12 +149,18 @@ fn write_two_parts<R: BitRegister, O: BitOrder<R>>(
     parts.fill(1, 0, len, true);
 }
 
-#[test]
-fn two_parts_are_written(rt: HostRuntime) {
+// A memory after two of its parts are written.
+fn two_parts() -> Option<[u8; 2]> {
     let mut memory = [0x81u8, 0];
     let (a, b) = (span_at(4, 3), span_at(7, 4));
-    if bitvec::run::can_run(&[a, b], memory.len()) && a.len() > 1 {
-        write_two_parts(&mut memory, a, b);
+    if !can_run(&[a, b], memory.len()) || a.len() <= 1 {
+        return None;
     }
-    assert_eq!(rt; memory, [0xA1, 0x07]);
+    write_two_parts(&mut memory, a, b);
+    Some(memory)
+}
+
+#[test]
+fn two_parts_are_written(rt: HostRuntime) {
+    assert_eq!(rt; two_parts(), Some([0xA1, 0x07]));
 }

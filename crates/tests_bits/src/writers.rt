@@ -133,11 +133,10 @@ fn without_memory(
 fn want_of_memory_may_not_be_written(rt: HostRuntime) -> Result<(), Fail> {
     let args = words(rt.alloc(), FIRST)?;
     let want = b"out of memory\n".as_slice();
-    for limit in 0..want.len() {
-        let got = without_memory(rt.alloc(), &args, limit, false, &want[..limit]);
+    for limit in 0..want.len() + 1 {
+        let is_whole = limit == want.len();
+        let got = without_memory(rt.alloc(), &args, limit, is_whole, &want[..limit]);
         assert_eq!(rt; got, (4, true), "at {limit}");
     }
-    let got = without_memory(rt.alloc(), &args, want.len(), true, want);
-    assert_eq!(rt; got, (4, true));
     Ok(())
 }
