@@ -1,4 +1,4 @@
-use Rattle.std.proofs.Common.{◌≡◌, ℕ, ◌^◌, ◌<◌, List, length, map, sym, ap, subst}
+use Rattle.std.proofs.Common.{ℕ, ◌^◌, ◌<◌, List, map, sym, ap, subst}
 use Rattle.std.proofs.lemmas.List.{length-map}
 use Rattle.bitvec.specs.Digit.{digit}
 use Rattle.bitvec.specs.BitSpan.{span_of}

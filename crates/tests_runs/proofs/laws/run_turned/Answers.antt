@@ -1,10 +1,8 @@
 use Rattle.std.proofs.Common.{◌≡◌, length, map, sym, ap, ◌∙◌}
 use Rattle.std.proofs.lemmas.List.{length-map}
-use Rattle.std.proofs.lemmas.Option.{same_Some}
-use Rattle.std.specs.Prelude.{slice_get}
 use Rattle.bitvec.specs.BitSpan.{span_of}
 use Rattle.bitvec.specs.Laws.{AreSameReplies, IsTurned}
-use Rattle.bitvec.proofs.LawLemmas.{at_view, fits_of_views, carried_replies, carried_lists, alone_of_equal_views}
+use Rattle.bitvec.proofs.LawLemmas.{fits_of_views, carried_replies, carried_lists, alone_of_equal_views}
 use Rattle.tests_runs.proofs.laws.run_turned.Goals as goal
 
 pub returns : goal.returns
