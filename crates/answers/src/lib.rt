@@ -9,7 +9,8 @@ use std::alloc::Allocator;
 use std::io::Write;
 
 const USAGE: &str =
-    "usage: bits domain ORDER REG WORDS START LEN | mask ORDER REG FROM UPTO | verify CANDIDATE | run ORDER REG WORDS SPANS COMMANDS\n";
+    "usage: bits domain ORDER REG WORDS START LEN | mask ORDER REG FROM UPTO | verify CANDIDATE | \
+     run ORDER REG WORDS SPANS COMMANDS\n";
 
 // Writes a text whole and flushes once, and gives the status, or 4 where either fails.
 fn send<W: Write>(out: &mut W, text: &str, status: u8) -> u8

@@ -22,7 +22,8 @@ fn other_lines_are_named(rt: HostRuntime) -> Result<(), Fail> {
         ),
         (
             "domain lsb0 u8 12 0 8 : body 0 13\n",
-            "differs: domain lsb0 u8 12 0 8 : body 0 13\nours: body 0 12\ndomain 0 of 1\ntotal 0 of 1\n",
+            "differs: domain lsb0 u8 12 0 8 : body 0 13\nours: body 0 12\n\
+             domain 0 of 1\ntotal 0 of 1\n",
         ),
         (
             "prev u8 8 7 false\n",

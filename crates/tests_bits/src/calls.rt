@@ -20,7 +20,8 @@ pub fn words(alloc: Global, line: &str) -> Result<Vec<String>, AllocError> {
 
 /// The line that names the calls.
 pub const USAGE: &str =
-    "usage: bits domain ORDER REG WORDS START LEN | mask ORDER REG FROM UPTO | verify CANDIDATE | run ORDER REG WORDS SPANS COMMANDS\n";
+    "usage: bits domain ORDER REG WORDS START LEN | mask ORDER REG FROM UPTO | verify CANDIDATE | \
+     run ORDER REG WORDS SPANS COMMANDS\n";
 
 /// A call with an answer of several lines.
 pub const FIRST: &str = "domain lsb0 u8 12,34,56 4 8";
@@ -126,8 +127,10 @@ fn runs_are_answered(rt: HostRuntime) -> Result<(), Fail> {
         0,
         &[
             (
-                "run lsb0 u8 0,0 2+4,6+4 1:store:0:ff,0:invert:0,1:store:1:55,0:load:0,1:swap:0:3,0:load:1,1:read:4,1:copy:18446744073709551615:0:2,2:load:0",
-                "word 0\nword 0\nword 0\nword 3c\ndone\npast end\npast end\npast end\nno span\nmemory bc,3\n",
+                "run lsb0 u8 0,0 2+4,6+4 1:store:0:ff,0:invert:0,1:store:1:55,0:load:0,1:swap:0:3,\
+                 0:load:1,1:read:4,1:copy:18446744073709551615:0:2,2:load:0",
+                "word 0\nword 0\nword 0\nword 3c\ndone\npast end\npast end\npast end\nno span\n\
+                 memory bc,3\n",
             ),
             (
                 "run hilo u8 0 0+4,4+4 0:set:0,1:store:0:33,0:load:0,1:read:0,1:read:2",
@@ -136,7 +139,8 @@ fn runs_are_answered(rt: HostRuntime) -> Result<(), Fail> {
             ("run lsb0 u8 - - -", "memory -\n"),
             (
                 "run lsb0 u128 123456789abcdef0123456789abcdef0 0+128 0:load:0,0:invert:0",
-                "word 123456789abcdef0123456789abcdef0\nword 123456789abcdef0123456789abcdef0\nmemory edcba9876543210fedcba9876543210f\n",
+                "word 123456789abcdef0123456789abcdef0\nword 123456789abcdef0123456789abcdef0\n\
+                 memory edcba9876543210fedcba9876543210f\n",
             ),
             (
                 "run lsb0 u128 00ffffffffffffffffffffffffffffffff - -",
@@ -152,7 +156,8 @@ fn runs_are_answered(rt: HostRuntime) -> Result<(), Fail> {
                 "past end\ndone\nmemory -\n",
             ),
             (
-                "run lsb0 u8 0 0+3,3+2,5+3 1:set:0,0:store:0:ff,2:invert:0,1:clear:0,2:replace:1:0,2:copy:0:1:2,1:load:1,3:load:0",
+                "run lsb0 u8 0 0+3,3+2,5+3 1:set:0,0:store:0:ff,2:invert:0,1:clear:0,2:replace:1:0,\
+                 2:copy:0:1:2,1:load:1,3:load:0",
                 "word 0\nword 0\nword 0\nword 18\nbit 1\ndone\npast end\nno span\nmemory 67\n",
             ),
         ],
@@ -166,7 +171,8 @@ fn fills_are_answered(rt: HostRuntime) -> Result<(), Fail> {
         0,
         &[
             (
-                "run lsb0 u8 0,0 2+8,0+2 0:fill:1:7:1,1:read:0,0:fill:7:9:1,0:fill:5:4:1,0:fill:8:8:1",
+                "run lsb0 u8 0,0 2+8,0+2 0:fill:1:7:1,1:read:0,0:fill:7:9:1,0:fill:5:4:1,\
+                 0:fill:8:8:1",
                 "done\nbit 0\npast end\npast end\ndone\nmemory f8,1\n",
             ),
             (
@@ -184,15 +190,18 @@ fn nibbles_are_written(rt: HostRuntime) -> Result<(), Fail> {
         0,
         &[
             (
-                "run lsb0 u8 0,0 0+4,4+4,8+4,12+4 0:replace:0:1,1:replace:1:1,2:replace:2:1,3:replace:3:1",
+                "run lsb0 u8 0,0 0+4,4+4,8+4,12+4 0:replace:0:1,1:replace:1:1,2:replace:2:1,\
+                 3:replace:3:1",
                 "bit 0\nbit 0\nbit 0\nbit 0\nmemory 21,84\n",
             ),
             (
-                "run msb0 u8 0,0 0+4,4+4,8+4,12+4 0:replace:0:1,1:replace:1:1,2:replace:2:1,3:replace:3:1",
+                "run msb0 u8 0,0 0+4,4+4,8+4,12+4 0:replace:0:1,1:replace:1:1,2:replace:2:1,\
+                 3:replace:3:1",
                 "bit 0\nbit 0\nbit 0\nbit 0\nmemory 84,21\n",
             ),
             (
-                "run hilo u8 0,0 0+4,4+4,8+4,12+4 0:replace:0:1,1:replace:1:1,2:replace:2:1,3:replace:3:1",
+                "run hilo u8 0,0 0+4,4+4,8+4,12+4 0:replace:0:1,1:replace:1:1,2:replace:2:1,\
+                 3:replace:3:1",
                 "bit 0\nbit 0\nbit 0\nbit 0\nmemory 12,48\n",
             ),
         ],
@@ -208,7 +217,8 @@ fn faults_are_named(rt: HostRuntime) -> Result<(), Fail> {
             ("domain lsb0 u8 12 4 8", "fault: span does not fit\n"),
             (
                 "domain lsb0 u8 - 0 2305843009213693952",
-                "fault: Length 2305843009213693952 is too long to encode in a bit-slice, which can only accept 2305843009213693951 bits\n",
+                "fault: Length 2305843009213693952 is too long to encode in a bit-slice, which can \
+                 only accept 2305843009213693951 bits\n",
             ),
             ("domain hilo u8 f3 4 8", "fault: span does not fit\n"),
             (
@@ -222,7 +232,8 @@ fn faults_are_named(rt: HostRuntime) -> Result<(), Fail> {
             ("run lsb0 u8 0 0+9,0+9 -", "fault: span does not fit\n"),
             (
                 "run lsb0 u8 0 0+9,0+2305843009213693952 -",
-                "fault: Length 2305843009213693952 is too long to encode in a bit-slice, which can only accept 2305843009213693951 bits\n",
+                "fault: Length 2305843009213693952 is too long to encode in a bit-slice, which can \
+                 only accept 2305843009213693951 bits\n",
             ),
             (
                 "domain lsb0 u8 12 18446744073709551615 1",

@@ -82,7 +82,8 @@ fn each_request_for_memory_may_be_refused(rt: HostRuntime) -> Result<(), Fail> {
         (
             "domain lsb0 u8 1,2,3,4,5,6,7,8,9 0 72",
             0,
-            "body 0 1\nbody 1 2\nbody 2 3\nbody 3 4\nbody 4 5\nbody 5 6\nbody 6 7\nbody 7 8\nbody 8 9\ntotal 9\n",
+            "body 0 1\nbody 1 2\nbody 2 3\nbody 3 4\nbody 4 5\nbody 5 6\nbody 6 7\nbody 7 8\n\
+             body 8 9\ntotal 9\n",
         ),
         ("domain lsb0 u8 12 4 8", 2, "fault: span does not fit\n"),
         ("domain lsb0 u8 12,34,g 4 8", 2, USAGE),
@@ -102,14 +103,16 @@ fn each_request_for_memory_may_be_refused(rt: HostRuntime) -> Result<(), Fail> {
         ),
         ("verify good", 2, USAGE),
         (
-            "run lsb0 u8 0,0 2+4,6+4 1:store:0:ff,0:invert:0,1:store:1:55,0:load:0,1:swap:0:3,0:load:1,2:load:0",
+            "run lsb0 u8 0,0 2+4,6+4 1:store:0:ff,0:invert:0,1:store:1:55,0:load:0,1:swap:0:3,\
+             0:load:1,2:load:0",
             0,
             "word 0\nword 0\nword 0\nword 3c\ndone\npast end\nno span\nmemory bc,3\n",
         ),
         (
             "run lsb0 u8 0 0+9,0+2305843009213693952 0:load:0",
             2,
-            "fault: Length 2305843009213693952 is too long to encode in a bit-slice, which can only accept 2305843009213693951 bits\n",
+            "fault: Length 2305843009213693952 is too long to encode in a bit-slice, which can \
+             only accept 2305843009213693951 bits\n",
         ),
         ("run lsb0 u8 0 0+4,3+4 -", 2, "fault: spans overlap\n"),
         ("run lsb0 u8 0,1 0+4 0:load:0,0:load", 2, USAGE),

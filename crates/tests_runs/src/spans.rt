@@ -196,12 +196,14 @@ fn says_what_is_too_long_or_too_high(rt: HostRuntime) -> Result<(), Fail> {
     for (error, text, name) in [
         (
             BitSpanError::TooLong(2305843009213693952),
-            "Length 2305843009213693952 is too long to encode in a bit-slice, which can only accept 2305843009213693951 bits",
+            "Length 2305843009213693952 is too long to encode in a bit-slice, which can only \
+             accept 2305843009213693951 bits",
             "BitSpanError<u8>::TooLong(2305843009213693952)",
         ),
         (
             BitSpanError::TooHigh(isize::MAX, PhantomData),
-            "Word index 9223372036854775807 is too high, and produces a span that passes the greatest word index.",
+            "Word index 9223372036854775807 is too high, and produces a span that passes the \
+             greatest word index.",
             "BitSpanError<u8>::TooHigh(9223372036854775807)",
         ),
         (
