@@ -1,7 +1,7 @@
 -- Spans that a view keeps by their numbers. `bits` is the width of a word.
 use Rattle.std.specs.Prelude.{ℕ, pos, ◌<◌, ◌≤◌, ◌+ℤ◌, ◌≤ℤ◌}
 use Rattle.std.specs.Int.{int_div_euclid}
-use Rattle.bitvec.specs.Place.{place_at}
+use Rattle.bitvec.specs.Place.{place_at, greatest_isize}
 use Rattle.bitvec.specs.Span.{Span, region_max_bits}
 use Rattle.view.specs.declared.Interval.{Interval}
 
@@ -15,4 +15,4 @@ no_span = record { word = pos 0; head = 0; len = 0 }
 
 -- `BitSpan::new` accepts the numbers of the span
 abbrev pub IsSpan : ℕ → Span → Type 0
-IsSpan bits span = (span.head < bits) × (span.len ≤ region_max_bits) × (int_div_euclid (place_at bits span.word span.head +ℤ pos span.len) (pos bits) ≤ℤ pos 9223372036854775807)
+IsSpan bits span = (span.head < bits) × (span.len ≤ region_max_bits) × (int_div_euclid (place_at bits span.word span.head +ℤ pos span.len) (pos bits) ≤ℤ greatest_isize)

@@ -3,12 +3,11 @@
 //! Each part is the bits of a span, and is seen as a list of truth values of its own: what is
 //! written through one part changes the list of no other, even where they share a word.
 
-ghost use Rattle.std.specs.Prelude.{◌≡◌, ◌≢◌, ℕ, pos, ◌<◌, ◌≤◌, ◌↔◌, IsTrue, length, map};
+ghost use Rattle.std.specs.Prelude.{◌≡◌, ◌≢◌, ℕ, ◌<◌, ◌≤◌, ◌↔◌, IsTrue, length, map};
 ghost use Rattle.std.specs.Prelude.{slice_set, IsSome, IfSome, All};
 ghost use Rattle.bitvec.specs.BitSpan.{span_of, list_by};
-ghost use Rattle.bitvec.specs.Memory.{bit_of};
-ghost use Rattle.bitvec.specs.Span.{Fits, Covers, element};
-ghost use Rattle.bitvec.specs.Run.{CanRun, IsOutside};
+ghost use Rattle.bitvec.specs.Span.{Fits, KeepsOthers, element};
+ghost use Rattle.bitvec.specs.Run.{CanRun};
 ghost use Rattle.view.specs.Fill.{with_filled};
 ghost use Rattle.view.specs.Interval.{interval_span, IsSpan};
 
@@ -39,9 +38,8 @@ fn write_bit<R: BitRegister, O: BitOrder<R>>(
     requires inside { i < (span_of span).len }
     ensures list { list_by span O.at_of memory.new
         ≡ slice_set (list_by span O.at_of memory.old) i bit }
-    ensures others { (place : ℕ) → ¬ Covers R.BITS (span_of span) (pos place)
-        → bit_of R.BITS O.at_of (map R.number memory.new) place
-        ≡ bit_of R.BITS O.at_of (map R.number memory.old) place }
+    ensures others { KeepsOthers R.BITS O.at_of (span_of span) (map R.number memory.old)
+        (map R.number memory.new) }
     ensures words { length memory.new ≡ length memory.old }
 {
     span.bitptr(i).write(memory, bit);
@@ -61,9 +59,8 @@ fn fill_bits<R: BitRegister, O: BitOrder<R>>(
     ensures list { list_by span O.at_of memory.new
         ≡ with_filled (list_by span O.at_of memory.old) from to
         bit }
-    ensures others { (place : ℕ) → ¬ Covers R.BITS (span_of span) (pos place)
-        → bit_of R.BITS O.at_of (map R.number memory.new) place
-        ≡ bit_of R.BITS O.at_of (map R.number memory.old) place }
+    ensures others { KeepsOthers R.BITS O.at_of (span_of span) (map R.number memory.old)
+        (map R.number memory.new) }
     ensures words { length memory.new ≡ length memory.old }
 {
     for i in from..to {
@@ -139,7 +136,7 @@ impl<R: BitRegister, O: BitOrder<R>, const N: usize> Drop for Parts<'_, R, O, N>
 }
 
 impl<'a, R: BitRegister, O: BitOrder<R>, const N: usize> Parts<'a, R, O, N> {
-    ghost use Rattle.view.specs.View.{lent_memory, part_spans, part_span, part_list};
+    ghost use Rattle.view.specs.View.{lent_memory, part_spans, part_span, part_list, KeepsOutside};
 
     // Where a part lies.
     fn span(&self, part: usize) -> BitSpan<R, O>
@@ -201,8 +198,8 @@ impl<'a, R: BitRegister, O: BitOrder<R>, const N: usize> Parts<'a, R, O, N> {
         read_bit(self.span(part), self.memory, i)
     }
 
-    /// Writes bit `i` of a part, and changes no other bit of the memory. Requires that there is such
-    /// a part, and that it has such a bit.
+    /// Writes bit `i` of a part, and changes no other bit of the memory. Requires that there is
+    /// such a part, and that it has such a bit.
     pub fn set(&mut self, part: usize, i: usize, bit: bool)
         requires part { part < N }
         requires inside { i < (part_span self.old part).len }
@@ -210,9 +207,7 @@ impl<'a, R: BitRegister, O: BitOrder<R>, const N: usize> Parts<'a, R, O, N> {
         ensures spans { part_spans self.new ≡ part_spans self.old }
         ensures edited { part_list self.new part ≡ slice_set (part_list self.old part) i bit }
         ensures kept { (s : ℕ) → s ≢ part → part_list self.new s ≡ part_list self.old s }
-        ensures others { (place : ℕ) → IsOutside R.BITS (λ span. span) (part_spans self.old) place
-            → bit_of R.BITS O.at_of (map R.number (lent_memory self.new).now) place
-            ≡ bit_of R.BITS O.at_of (map R.number (lent_memory self.old).now) place }
+        ensures others { KeepsOutside self.old self.new }
         ensures words { length (lent_memory self.new).now ≡ length (lent_memory self.old).now }
     {
         let own = self.span(part);
@@ -229,11 +224,10 @@ impl<'a, R: BitRegister, O: BitOrder<R>, const N: usize> Parts<'a, R, O, N> {
         requires inside { to ≤ (part_span self.old part).len }
         ensures reference { (lent_memory self.new).ghost_name ≡ (lent_memory self.old).ghost_name }
         ensures spans { part_spans self.new ≡ part_spans self.old }
-        ensures edited { part_list self.new part ≡ with_filled (part_list self.old part) from to bit }
+        ensures edited { part_list self.new part
+            ≡ with_filled (part_list self.old part) from to bit }
         ensures kept { (s : ℕ) → s ≢ part → part_list self.new s ≡ part_list self.old s }
-        ensures others { (place : ℕ) → IsOutside R.BITS (λ span. span) (part_spans self.old) place
-            → bit_of R.BITS O.at_of (map R.number (lent_memory self.new).now) place
-            ≡ bit_of R.BITS O.at_of (map R.number (lent_memory self.old).now) place }
+        ensures others { KeepsOutside self.old self.new }
         ensures words { length (lent_memory self.new).now ≡ length (lent_memory self.old).now }
     {
         let span = self.span(part);
