@@ -160,12 +160,12 @@ impl<R: BitRegister, O> BitPtrRange<R, O> {
     /// Where there is none it returns `None` and leaves the range empty, at its end.
     pub fn nth(&mut self, n: usize) -> Option<BitPtr<R, O>>
         ensures end { (range_of self.new).end ≡ (range_of self.old).end }
-        ensures item { MatchOption result
-            ((count_of R.BITS (range_of self.old) ≤ n)
-            × ((range_of self.new).start ≡ (range_of self.old).end))
-            (λ p. (n < count_of R.BITS (range_of self.old))
-            × (place_of R.BITS (ptr_of p) ≡ place_of R.BITS (range_of self.old).start +ℤ pos n)
-            × (place_of R.BITS (range_of self.new).start ≡ place_of R.BITS (ptr_of p) +ℤ pos 1)) }
+        ensures item { let before = range_of self.old in
+            let after = range_of self.new in
+            MatchOption result ((count_of R.BITS before ≤ n) × (after.start ≡ before.end))
+            (λ p. (n < count_of R.BITS before)
+            × (place_of R.BITS (ptr_of p) ≡ place_of R.BITS before.start +ℤ pos n)
+            × (place_of R.BITS after.start ≡ place_of R.BITS (ptr_of p) +ℤ pos 1)) }
     {
         if n >= self.left() {
             self.start = self.end;
@@ -181,12 +181,12 @@ impl<R: BitRegister, O> BitPtrRange<R, O> {
     /// Where there is none it returns `None` and leaves the range empty, at its start.
     pub fn nth_back(&mut self, n: usize) -> Option<BitPtr<R, O>>
         ensures start { (range_of self.new).start ≡ (range_of self.old).start }
-        ensures item { MatchOption result
-            ((count_of R.BITS (range_of self.old) ≤ n)
-            × ((range_of self.new).end ≡ (range_of self.old).start))
-            (λ p. (n < count_of R.BITS (range_of self.old))
-            × (place_of R.BITS (range_of self.old).end ≡ place_of R.BITS (ptr_of p) +ℤ pos (n + 1))
-            × ((range_of self.new).end ≡ ptr_of p)) }
+        ensures item { let before = range_of self.old in
+            let after = range_of self.new in
+            MatchOption result ((count_of R.BITS before ≤ n) × (after.end ≡ before.start))
+            (λ p. (n < count_of R.BITS before)
+            × (place_of R.BITS before.end ≡ place_of R.BITS (ptr_of p) +ℤ pos (n + 1))
+            × (after.end ≡ ptr_of p)) }
     {
         let count = self.left();
         if n >= count {
