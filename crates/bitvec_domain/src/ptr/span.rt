@@ -451,6 +451,7 @@ impl<R: BitRegister, O> BitSpan<R, O> {
     }
 
     // How many words the span meets, and one past the index of its last bit in the last of them.
+    #[inline(always)]
     pub(crate) fn extent(&self) -> (usize, BitEnd<R>)
         ensures elements { result.0
             ≡ words_met R.BITS (span_of self.now).head (span_of self.now).len }
@@ -483,6 +484,7 @@ impl<R: BitRegister, O> BitSpan<R, O> {
 
     // The bounds of the span's bits in the `k`-th word, of those that it meets, where it ends
     // before the index `tail` of the last.
+    #[inline(always)]
     pub(crate) fn bounds_among(
         &self,
         k: usize,

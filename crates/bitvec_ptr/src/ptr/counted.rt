@@ -1,7 +1,8 @@
 //! Copies through a writer: each word of the target is gathered and put once.
 //!
 //! The functions that loop over a writer are inlined as far as the function that makes the writer,
-//! so that its mark and count are kept in registers.
+//! so that its mark and count are kept in registers; and so is the one that finds a copy's pieces,
+//! so that each loop knows where it starts.
 
 ghost use Rattle.std.specs.Prelude.{◌≡◌, ℕ, ◌+◌, ◌-◌, ◌*◌, ◌<◌, ◌≤◌, ◌⊎◌, true, false, length, map};
 ghost use Rattle.std.specs.Prelude.{slice_index};
@@ -309,6 +310,7 @@ struct Pieces<R: BitRegister> {
 }
 
 // The pieces of a copy of `count` bits from a place on, to the words that it enters at an index.
+#[inline(always)]
 fn pieces_from<R: BitRegister, R2: BitRegister>(from: Cursor<R>, bit: u8, count: usize) -> Pieces<R>
     requires bit_in { bit < R2.BITS }
     requires more { R2.BITS < bit + count }
