@@ -1,9 +1,22 @@
 //! What the lines of a file come to.
 
-use crate::line::Line;
-use crate::question;
+use crate::line::{Line, Topic};
 use std::alloc::{AllocError, Allocator};
 use std::fmt::Write as _;
+
+/// A library that is asked.
+pub trait Library {
+    /// Its answer to a question of a kind, as text, or `None` where it has none.
+    ///
+    /// The words are those of the question, after its kind.
+    fn answer<'a, A: Allocator>(
+        &self,
+        alloc: &'a A,
+        topic: Topic,
+        kind: &str,
+        words: &[&str],
+    ) -> Result<Option<String<&'a A>>, AllocError>;
+}
 
 // How many lines of a kind there are, and in how many of them the answers are the same.
 #[derive(Drop)]
@@ -21,15 +34,15 @@ pub struct Report<'t, 'a, A: Allocator> {
 }
 
 impl<'t, 'a, A: Allocator> Report<'t, 'a, A> {
-    /// The report on the lines of a text.
-    pub fn of(alloc: &'a A, lines: &'t str) -> Result<Self, AllocError> {
+    /// The report on the lines of a text, and a library's answers to the same questions.
+    pub fn of<L: Library>(alloc: &'a A, lines: &'t str, library: &L) -> Result<Self, AllocError> {
         let mut report = Report {
             tallies: Vec::new(alloc),
             text: String::new(alloc),
         };
         for line in lines.lines() {
             let (kind, rest) = line.split_once(' ').unwrap_or((line, ""));
-            let agrees = write_difference(&mut report.text, alloc, kind, rest)?;
+            let agrees = write_difference(&mut report.text, alloc, kind, rest, library)?;
             report.count(kind, agrees)?;
         }
         report.write_counts()?;
@@ -77,14 +90,18 @@ impl<'t, 'a, A: Allocator> Report<'t, 'a, A> {
 
 // Asks the question of a line. Where the answer is another than the line's, writes the line and the
 // answer, and tells whether they are the same.
-fn write_difference<'a, A: Allocator>(
+fn write_difference<'a, L: Library, A: Allocator>(
     text: &mut String<&'a A>,
     alloc: &'a A,
     kind: &str,
     rest: &str,
+    library: &L,
 ) -> Result<bool, AllocError> {
     match Line::of(alloc, kind, rest)? {
-        Some(line) => write_other_answer(text, alloc, kind, rest, &line),
+        Some(line) => {
+            let ours = library.answer(alloc, line.topic, kind, &line.question)?;
+            write_other_answer(text, kind, rest, line.answer, ours)
+        }
         None => {
             writeln!(text, "unknown: {kind} {rest}")?;
             Ok(false)
@@ -93,15 +110,15 @@ fn write_difference<'a, A: Allocator>(
 }
 
 // Writes a line and the library's answer, where that is another than the line's.
-fn write_other_answer<'a, A: Allocator>(
-    text: &mut String<&'a A>,
-    alloc: &'a A,
+fn write_other_answer<A: Allocator>(
+    text: &mut String<A>,
     kind: &str,
     rest: &str,
-    line: &Line<&'a A>,
+    theirs: &str,
+    ours: Option<String<A>>,
 ) -> Result<bool, AllocError> {
-    match question::answer(alloc, line.topic, kind, &line.question)? {
-        Some(ours) if ours.as_str() == line.answer => return Ok(true),
+    match ours {
+        Some(ours) if ours.as_str() == theirs => return Ok(true),
         Some(ours) => write_ours(text, kind, rest, ours.as_str())?,
         None => write_ours(text, kind, rest, "no question")?,
     }

@@ -6,9 +6,15 @@
 //! does, of the file that lies in `data/`.
 #![tactic(auto)]
 
-#[cfg(test)]
-mod tests;
+mod domains;
+mod index;
+mod memories;
+mod pairs;
+mod pointers;
+mod question;
+mod shown;
 
+use question::Ours;
 use questions::report::Report;
 use std::env::{self, Env};
 use std::fs;
@@ -36,7 +42,7 @@ fn replay<R: Env + Files + AllocGlobal + Print>(rt: &R) -> io::Result<bool> {
         return Ok(false);
     };
     let lines = fs::read_to_string(rt, path.as_str())?;
-    let report = Report::of(&alloc, lines.as_str())?;
+    let report = Report::of(&alloc, lines.as_str(), &Ours)?;
     let mut out = io::writer(rt);
     out.write_all(report.text().as_bytes())?;
     out.flush()?;

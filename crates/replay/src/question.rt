@@ -1,32 +1,38 @@
-//! A question, for the register and the order that it names.
+//! A question to this library, for the register and the order that it names.
 
-use crate::line::Topic;
 use crate::{domains, index, memories, pairs, pointers};
 use bitvec::mem::BitRegister;
 use bitvec::order::BitOrder;
 use notation::names::{self, Call};
+use questions::line::Topic;
+use questions::report::Library;
 use std::alloc::{AllocError, Allocator};
 
-/// The library's answer to a question of a kind, as text, or `None` where it is none.
-pub fn answer<'a, A: Allocator>(
-    alloc: &'a A,
-    topic: Topic,
-    kind: &str,
-    words: &[&str],
-) -> Result<Option<String<&'a A>>, AllocError> {
-    let Some((order, words)) = order_of(topic, words) else {
-        return Ok(None);
-    };
-    let Some((register, words)) = words.split_first() else {
-        return Ok(None);
-    };
-    let question = Question {
-        alloc,
-        topic,
-        kind,
-        words,
-    };
-    names::answer_at(order, register, &question).unwrap_or(Ok(None))
+/// This library.
+pub struct Ours;
+
+impl Library for Ours {
+    fn answer<'a, A: Allocator>(
+        &self,
+        alloc: &'a A,
+        topic: Topic,
+        kind: &str,
+        words: &[&str],
+    ) -> Result<Option<String<&'a A>>, AllocError> {
+        let Some((order, words)) = order_of(topic, words) else {
+            return Ok(None);
+        };
+        let Some((register, words)) = words.split_first() else {
+            return Ok(None);
+        };
+        let question = Question {
+            alloc,
+            topic,
+            kind,
+            words,
+        };
+        names::answer_at(order, register, &question).unwrap_or(Ok(None))
+    }
 }
 
 // The name of a question's order, and the words after it. Where a question names no order, its

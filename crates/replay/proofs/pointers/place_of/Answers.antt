@@ -2,8 +2,8 @@ use Rattle.std.proofs.Common.{◌∙◌, ap, pos, arith}
 use Rattle.std.specs.Prelude.{FitsSigned}
 use Rattle.std.specs.Int.{w64}
 use Rattle.std.proofs.lemmas.Int.{ints}
-use Rattle.questions.proofs.PlaceLemmas.{word_fits, product_fits, sum_fits}
-use Rattle.questions.proofs.pointers.place_of.Goals as goal
+use Rattle.replay.proofs.PlaceLemmas.{word_fits, product_fits, sum_fits}
+use Rattle.replay.proofs.pointers.place_of.Goals as goal
 
 pub overflow_cast-result : goal.overflow_cast-result
 overflow_cast-result g c = let f : FitsSigned w64 c.args.pointer.word = omega (arith, ints) in word_fits c.raw_parts-word.result.0 (omega (arith, ints, f, c.raw_parts-word.ensures.word))
