@@ -71,8 +71,8 @@ impl<'a, R: BitRegister, O> Copy for PartialElement<'a, R, O> {}
 impl<'a, R: BitRegister, O> PartialElement<'a, R, O> {
     ghost use Rattle.bitvec_domain.specs.Domain.{element_part};
 
-    /// The bits of the word `at` of a memory with indices from `head` to before `tail`. Our own.
-    pub fn new(memory: &'a [R], at: usize, head: BitIdx<R>, tail: BitEnd<R>) -> Self
+    // The bits of the word `at` of a memory with indices from `head` to before `tail`.
+    fn new(memory: &'a [R], at: usize, head: BitIdx<R>, tail: BitEnd<R>) -> Self
         requires at { at < length memory.now }
         requires ordered { head ≤ tail }
         ensures { element_part R.number result

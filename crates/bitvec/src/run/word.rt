@@ -6,7 +6,6 @@ ghost use Rattle.bitvec_domain.specs.Span.{Fits};
 ghost use Rattle.bitvec_domain.specs.BitSpan.{span_of};
 ghost use Rattle.bitvec.specs.Words.{LoadsWord, EditsWord};
 
-use crate::domain::{PartialElement, PartialElementMut};
 use crate::mem::BitRegister;
 use crate::order::BitOrder;
 use crate::ptr::span::BitSpan;
@@ -20,9 +19,11 @@ pub(crate) fn load<R: BitRegister, O: BitOrder<R>>(
     requires { Fits R.BITS (span_of span) (length memory.now) }
     ensures { LoadsWord span k O.at_of memory.now result }
 {
-    let (head, tail) = span.part_bounds(k)?;
-    let at = span.address() as usize + k;
-    Some(PartialElement::<R, O>::new(memory, at, head, tail).load_value())
+    if k < span.elements() {
+        Some(span.part(memory, k).load_value())
+    } else {
+        None
+    }
 }
 
 // Puts the digits of a number in place into that word.
@@ -36,10 +37,12 @@ pub(crate) fn store<R: BitRegister, O: BitOrder<R>>(
     ensures { EditsWord span k O.at_of (λ word i. digit (R.number value) (O.at_of i))
         memory.old memory.new result }
 {
-    let (head, tail) = span.part_bounds(k)?;
-    let at = span.address() as usize + k;
-    let mut part = PartialElementMut::<R, O>::new(memory, at, head, tail);
-    Some(part.store_value(value))
+    if k < span.elements() {
+        let mut part = span.part_mut(memory, k);
+        Some(part.store_value(value))
+    } else {
+        None
+    }
 }
 
 // Turns the span's bits in that word over.
@@ -52,10 +55,12 @@ pub(crate) fn invert<R: BitRegister, O: BitOrder<R>>(
     ensures { EditsWord span k O.at_of (λ word i. not (digit word (O.at_of i)))
         memory.old memory.new result }
 {
-    let (head, tail) = span.part_bounds(k)?;
-    let at = span.address() as usize + k;
-    let mut part = PartialElementMut::<R, O>::new(memory, at, head, tail);
-    Some(part.invert())
+    if k < span.elements() {
+        let mut part = span.part_mut(memory, k);
+        Some(part.invert())
+    } else {
+        None
+    }
 }
 
 // Makes the span's bits in that word zero.
@@ -67,10 +72,12 @@ pub(crate) fn clear<R: BitRegister, O: BitOrder<R>>(
     requires { Fits R.BITS (span_of span) (length memory.old) }
     ensures { EditsWord span k O.at_of (λ word i. false) memory.old memory.new result }
 {
-    let (head, tail) = span.part_bounds(k)?;
-    let at = span.address() as usize + k;
-    let mut part = PartialElementMut::<R, O>::new(memory, at, head, tail);
-    Some(part.clear())
+    if k < span.elements() {
+        let mut part = span.part_mut(memory, k);
+        Some(part.clear())
+    } else {
+        None
+    }
 }
 
 // Makes the span's bits in that word one.
@@ -82,8 +89,10 @@ pub(crate) fn set<R: BitRegister, O: BitOrder<R>>(
     requires { Fits R.BITS (span_of span) (length memory.old) }
     ensures { EditsWord span k O.at_of (λ word i. true) memory.old memory.new result }
 {
-    let (head, tail) = span.part_bounds(k)?;
-    let at = span.address() as usize + k;
-    let mut part = PartialElementMut::<R, O>::new(memory, at, head, tail);
-    Some(part.set())
+    if k < span.elements() {
+        let mut part = span.part_mut(memory, k);
+        Some(part.set())
+    } else {
+        None
+    }
 }

@@ -74,9 +74,9 @@ fn stored<R: BitRegister>(old: R, mask: R, value: R) -> R
 impl<'a, R: BitRegister, O> PartialElementMut<'a, R, O> {
     ghost use Rattle.bitvec_domain.specs.PartialElementMut.{memory_of, slot_in};
 
-    /// The bits of the word `word` of a memory with indices from `head` to before `tail`, for
-    /// writing. Our own.
-    pub fn new(memory: &'a mut [R], word: usize, head: BitIdx<R>, tail: BitEnd<R>) -> Self
+    // The bits of the word `word` of a memory with indices from `head` to before `tail`, for
+    // writing.
+    fn new(memory: &'a mut [R], word: usize, head: BitIdx<R>, tail: BitEnd<R>) -> Self
         requires word { word < length memory.old }
         requires ordered { head ≤ tail }
         ensures reference { (memory_of result).ghost_name ≡ memory.entry.ghost_name }

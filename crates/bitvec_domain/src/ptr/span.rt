@@ -2,7 +2,7 @@
 
 ghost use Rattle.std.specs.Prelude.{◌≡◌, ⊤, ℕ, ℤ, pos, ◌+◌, ◌-◌, ◌*◌, ◌/◌, ◌%◌, ◌==◌};
 ghost use Rattle.std.specs.Prelude.{if◌then◌else◌, ◌+ℤ◌, ◌≤ℤ◌, ◌<ℤ◌, ◌<◌, ◌≤◌, ◌↔◌, IsTrue, IsOk};
-ghost use Rattle.std.specs.Prelude.{IfOk, IfSome, MatchOption, List, ◌++◌, codes, Some};
+ghost use Rattle.std.specs.Prelude.{IfOk, List, ◌++◌, codes, Some};
 ghost use Rattle.std.specs.Int.{int_div_euclid};
 ghost use Rattle.std.specs.Fmt.{DisplaysOnOk, WritesStyledOnOk};
 ghost use Rattle.bitvec_ptr.specs.Place.{place_at, place_of, words_met, tail_of, greatest_isize};
@@ -459,27 +459,6 @@ impl<R: BitRegister, O> BitSpan<R, O> {
         ensures tail { result.1 ≡ tail_of R.BITS (span_of self.now).head (span_of self.now).len }
     {
         self.head().span(self.len)
-    }
-
-    /// The bounds of the span's bits in the `k`-th word that it meets, counted from 0: the index of
-    /// the first of them, and one past that of the last. `None` where the span meets no such word.
-    ///
-    /// They are those of [`part`](BitSpan::part), which wants a word that is met: both tests, and
-    /// the way to the span's end, are made once. Our own.
-    pub fn part_bounds(&self, k: usize) -> Option<(BitIdx<R>, BitEnd<R>)>
-        ensures bounds { let span = span_of self.now in MatchOption result
-            (words_met R.BITS span.head span.len ≤ k)
-            (λ bounds. (k < words_met R.BITS span.head span.len)
-            × (bounds.0 ≡ part_head span.head k)
-            × (bounds.1 ≡ part_tail R.BITS span.head span.len k)) }
-        ensures ordered { IfSome result (λ bounds. bounds.0 ≤ bounds.1) }
-    {
-        let (elements, tail) = self.extent();
-        if k < elements {
-            Some(self.bounds_among(k, elements, tail))
-        } else {
-            None
-        }
     }
 
     // The bounds of the span's bits in the `k`-th word, of those that it meets, where it ends
