@@ -28,7 +28,7 @@ is_past_end bits head (Swap i j) xs = not (nat_lt i (length xs) && nat_lt j (len
 is_past_end bits head (Copy from to count) xs = not (nat_le (from + count) (length xs) && nat_le (to + count) (length xs))
 is_past_end bits head (Fill from to value) xs = not (nat_le from to && nat_le to (length xs))
 
--- what a command that is not past the end returns
+-- what a command that is not past the end returns: a word, a bit, or that it is done
 abbrev pub answer_of : ℕ → (ℕ → ℕ) → ℕ → Command ℕ → List Bool → Reply ℕ
 answer_of bits at head (Load k) xs = Word (word_of bits at head xs k)
 answer_of bits at head (Store k v) xs = Word (word_of bits at head xs k)
@@ -37,9 +37,7 @@ answer_of bits at head (Clear k) xs = Word (word_of bits at head xs k)
 answer_of bits at head (Invert k) xs = Word (word_of bits at head xs k)
 answer_of bits at head (Read i) xs = Bit (element xs i)
 answer_of bits at head (Replace i b) xs = Bit (element xs i)
-answer_of bits at head (Swap i j) xs = Done
-answer_of bits at head (Copy from to count) xs = Done
-answer_of bits at head (Fill from to value) xs = Done
+answer_of bits at head command xs = Done
 
 -- the list that it leaves
 abbrev pub edited_list : ℕ → (ℕ → ℕ) → ℕ → Command ℕ → List Bool → List Bool
@@ -104,6 +102,5 @@ own_commands s (request ∷ requests) = if request.span == s then request.comman
 
 -- the replies to the requests that name span s, in their order
 abbrev pub own_replies : ℕ → List (Request ℕ) → List (Reply ℕ) → List (Reply ℕ)
-own_replies s [] replies = []
-own_replies s (request ∷ requests) [] = []
 own_replies s (request ∷ requests) (reply ∷ replies) = if request.span == s then reply ∷ own_replies s requests replies else own_replies s requests replies
+own_replies s requests replies = []

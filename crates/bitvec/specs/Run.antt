@@ -33,9 +33,8 @@ alone_list bits at span words commands = list_after_all bits at span.head comman
 -- of so many spans
 abbrev pub AnswersNoSpan : ℕ → List (Request ℕ) → List (Reply ℕ) → Type 0
 AnswersNoSpan spans [] [] = Unit {0}
-AnswersNoSpan spans [] (reply ∷ replies) = ⊥
-AnswersNoSpan spans (request ∷ requests) [] = ⊥
 AnswersNoSpan spans (request ∷ requests) (reply ∷ replies) = ((reply ≡ NoSpan) ↔ (spans ≤ request.span)) × AnswersNoSpan spans requests replies
+AnswersNoSpan spans requests replies = ⊥
 
 -- the place lies in none of the spans
 abbrev pub IsOutside : {S : Type 0} → ℕ → (S → Span) → List S → ℕ → Type 0

@@ -6,7 +6,7 @@ use Rattle.std.proofs.lemmas.Bool.{cases_eq, cases_lt}
 use Rattle.std.proofs.lemmas.Int.{ints}
 use Rattle.std.proofs.lemmas.Nat.{div-add-mod', mod_below}
 use Rattle.std.proofs.Math.Nat.{mul-le-mul_right}
-use Rattle.bitvec.specs.Place.{Ptr, index_of, place_at, words_met, region_max_bits}
+use Rattle.bitvec.specs.Place.{Ptr, index_of, place_at, words_met, region_max_bits, greatest_isize}
 use Rattle.bitvec.specs.Span.{Span, Fits, KeepsOthers, list_of}
 use Rattle.bitvec.specs.Steps.{IsIn, RangeIsIn}
 use Rattle.bitvec.proofs.MemoryLemmas.{place_parts}
@@ -97,7 +97,7 @@ range_fits bits words start count s some is h =
 
 -- the word in which a range ends is an `isize`
 pub end_low : (bits width start count head : ℕ) → width ≡ bits → 8 ≤ bits → start < 18446744073709551616 → count ≤ region_max_bits → head ≡ start % width
-    → int_div_euclid (place_at bits (to_z w64 (start / width)) head +ℤ pos count) (pos bits) ≤ℤ pos 9223372036854775807
+    → int_div_euclid (place_at bits (to_z w64 (start / width)) head +ℤ pos count) (pos bits) ≤ℤ greatest_isize
 end_low bits width start count head e wide h short is_head =
     let some : 0 < bits = omega arith in
     let word = word_is bits width start e wide h in

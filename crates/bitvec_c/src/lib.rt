@@ -1,6 +1,6 @@
 //! Bits in words, for callers in C and in Rust.
 //!
-//! Each call tests what the library asks of its caller and answers a status: 0, or the first of its
+//! Each call tests what the library asks of its caller and returns a status: 0, or the first of its
 //! conditions that does not hold, and then nothing is changed. A place counts the bits of a memory
 //! from 0 on, and a range has the place of its first bit and a count.
 #![tactic(auto)]

@@ -3,7 +3,7 @@ use Rattle.std.proofs.Common.{◌≡◌, pos, ◌-◌, ◌≤◌, ◌+ℤ◌, �
 use Rattle.std.specs.Int.{int_div_euclid}
 use Rattle.std.proofs.Math.Bridge.{le_prop}
 use mathlib.Core.HLevel.{is_prop→PathP}
-use Rattle.bitvec_ptr.specs.Place.{place_at}
+use Rattle.bitvec_ptr.specs.Place.{place_at, greatest_isize}
 use Rattle.bitvec_ptr.proofs.RangeLemmas.{le_z_same}
 use Rattle.bitvec_domain.specs.declared.ptr.span.BitSpan.{BitSpan}
 use Rattle.bitvec_domain.specs.Span.{region_max_bits}
@@ -17,5 +17,5 @@ span_same {a = own} p q w h l = λ i. record {
   of = record {};
   in_word = is_prop→PathP (λ j. h j ≤ own.BITS - 1) (λ j. le_prop) p.in_word q.in_word i;
   short = is_prop→PathP (λ j. l j ≤ region_max_bits) (λ j. le_prop) p.short q.short i;
-  low = is_prop→PathP (λ j. int_div_euclid (place_at own.BITS (w j) (h j) +ℤ pos (l j)) (pos own.BITS) ≤ℤ pos 9223372036854775807) (λ j. le_z_same _ _) p.low q.low i;
+  low = is_prop→PathP (λ j. int_div_euclid (place_at own.BITS (w j) (h j) +ℤ pos (l j)) (pos own.BITS) ≤ℤ greatest_isize) (λ j. le_z_same _ _) p.low q.low i;
 }

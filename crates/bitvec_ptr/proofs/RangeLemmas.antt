@@ -11,7 +11,7 @@ use mathlib.Core.HLevel.{is_prop→PathP}
 use Rattle.bitvec_ptr.specs.declared.ptr.range.BitPtrRange.{BitPtrRange}
 use Rattle.bitvec_ptr.specs.BitPtr.{ptr_of}
 use Rattle.bitvec_ptr.specs.Memory.{tabulate}
-use Rattle.bitvec_ptr.specs.Place.{Ptr, place_of}
+use Rattle.bitvec_ptr.specs.Place.{Ptr, place_of, greatest_isize}
 use Rattle.bitvec_ptr.specs.Steps.{distance}
 use Rattle.bitvec_ptr.specs.PtrRange.{PtrRange, count_of, places_of}
 use Rattle.bitvec_ptr.proofs.MemoryLemmas.{length-tabulate, get_or-tabulate, tabulate-from_elements, tabulate_same}
@@ -26,7 +26,7 @@ range_same {a = own} p q s e = λ i. record {
   start = s i;
   end = e i;
   ordered = is_prop→PathP (λ j. place_of own.BITS (ptr_of (s j)) ≤ℤ place_of own.BITS (ptr_of (e j))) (λ j. le_z_same _ _) p.ordered q.ordered i;
-  near = is_prop→PathP (λ j. distance own.BITS (ptr_of (e j)) (ptr_of (s j)) ≤ℤ pos 9223372036854775807) (λ j. le_z_same _ _) p.near q.near i;
+  near = is_prop→PathP (λ j. distance own.BITS (ptr_of (e j)) (ptr_of (s j)) ≤ℤ greatest_isize) (λ j. le_z_same _ _) p.near q.near i;
 }
 
 -- a table from its first entry, and from its last

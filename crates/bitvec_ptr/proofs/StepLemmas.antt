@@ -9,7 +9,7 @@ use Rattle.std.proofs.lemmas.Nat.{div-add-mod'}
 use Rattle.std.proofs.Math.Nat.{mul-le-mul, mul-le-mul_left}
 use borrow.Author.Differences.{sum_is_lem, product_is}
 use mir.Val.{to_z, of_z}
-use Rattle.bitvec_ptr.specs.Place.{Ptr, place_at, place_of}
+use Rattle.bitvec_ptr.specs.Place.{Ptr, place_at, place_of, greatest_isize}
 use Rattle.bitvec_ptr.specs.Steps.{wrapped_ptr}
 
 -- the quotient and the remainder make up the number
@@ -74,8 +74,8 @@ neg-cast_signed n h =
 pub place_far : (bits bit : ℕ) (word : ℤ) → bits ≤ 128 → bit ≤ bits - 1 → FitsSigned w64 word
     → (neg_ℤ (pos 2361183241434822606848) ≤ℤ place_at bits word bit) × (place_at bits word bit ≤ℤ pos 2361183241434822606848)
 place_far bits bit (pos w) h k f =
-    let small : w ≤ 9223372036854775807 = omega (arith, ints) in
-    let product : w * bits ≤ 9223372036854775807 * 128 = mul-le-mul small h in
+    let small : w ≤ nat_abs greatest_isize = omega (arith, ints) in
+    let product : w * bits ≤ nat_abs greatest_isize * 128 = mul-le-mul small h in
     (omega (arith, ints), omega (arith, ints))
 place_far bits bit (negsuc w) h k f =
     let small : suc w ≤ 9223372036854775808 = omega (arith, ints) in

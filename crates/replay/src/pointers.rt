@@ -222,8 +222,8 @@ fn bit_at<R: BitRegister, O: BitOrder<R>>(place: &str) -> Option<BitPtr<R, O>> {
 
 // The place of a pointer's bit.
 fn place_of<R: BitRegister, O: BitOrder<R>>(pointer: BitPtr<R, O>) -> i128 {
-    let (word, bit) = pointer.raw_parts();
-    word as i128 * i128::from(R::BITS) + i128::from(bit.into_inner())
+    let bit = pointer.bit().into_inner();
+    pointer.address() as i128 * i128::from(R::BITS) + i128::from(bit)
 }
 
 // What a range answers to a call.

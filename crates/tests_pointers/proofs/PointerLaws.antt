@@ -6,7 +6,7 @@ use Rattle.std.proofs.lemmas.Int.{ints, int_wrap_fits, int_wrap-add_left, int_wr
 use Rattle.std.proofs.lemmas.Nat.{div-add-mod', mod_below}
 use Rattle.std.proofs.Math.Nat.{div-eq_of_lt-le}
 use borrow.Author.Differences.{product_is}
-use Rattle.bitvec_ptr.specs.Place.{Ptr}
+use Rattle.bitvec_ptr.specs.Place.{Ptr, greatest_isize}
 use Rattle.bitvec_ptr.specs.Steps.{wrapped_ptr}
 use Rattle.bitvec_ptr.proofs.PlaceLemmas.{floor_place}
 use Rattle.bitvec_ptr.proofs.StepLemmas.{euclid_parts}
@@ -30,7 +30,7 @@ rest_back bits bit q h =
     let same = words_back bits bit q h in
     omega (arith, ints, parts_back, same)
 
-pub wrapped_back : (bits count : ℕ) (p : Ptr) → p.bit < bits → bits ≤ 128 → FitsSigned w64 p.word → p.bit + count ≤ 9223372036854775807
+pub wrapped_back : (bits count : ℕ) (p : Ptr) → p.bit < bits → bits ≤ 128 → FitsSigned w64 p.word → p.bit + count ≤ nat_abs greatest_isize
     → wrapped_ptr bits (wrapped_ptr bits p (int_wrap w64 (pos count))) (int_wrap w64 (neg_ℤ (pos count))) ≡ p
 wrapped_back bits count p h limit fits short =
     let some : 0 < bits = omega arith in

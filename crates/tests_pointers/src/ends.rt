@@ -80,7 +80,7 @@ fn a_distance_is_an_isize(rt: HostRuntime) {
 fn greatest_range(start: BitPtr<u8, Lsb0>, end: BitPtr<u8, Lsb0>) -> BitPtrRange<u8, Lsb0>
     requires start { ptr_of start ≡ record { word = pos 0; bit = 0 } }
     requires end { ptr_of end ≡ record { word = pos 1152921504606846975; bit = 7 } }
-    ensures { count_of 8 (range_of result) ≡ 9223372036854775807 }
+    ensures { pos (count_of 8 (range_of result)) ≡ isize.MAX }
 {
     BitPtrRange::from_range(start..end)
 }
@@ -93,8 +93,8 @@ fn ends(range: &BitPtrRange<u8, Lsb0>) -> [(isize, u8); 2] {
 #[test]
 fn takes_the_last_place_of_the_greatest_range(rt: HostRuntime) {
     let mut range = greatest_range(bit_at(0, 0), bit_at(FAR, 7));
-    same(&rt, range.len(), 9223372036854775807);
-    let last = range.nth(9223372036854775806).map(parts::<u8, Lsb0>);
+    same(&rt, range.len(), isize::MAX as usize);
+    let last = range.nth(isize::MAX as usize - 1).map(parts::<u8, Lsb0>);
     same(&rt, last, Some((FAR, 6)));
     holds(&rt, range.is_empty());
     same(&rt, ends(&range), [(FAR, 7), (FAR, 7)]);

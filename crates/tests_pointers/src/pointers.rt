@@ -40,9 +40,9 @@ fn has_a_word_and_a_bit(rt: HostRuntime) {
 #[test]
 fn wraps_at_the_ends_of_the_word_index(rt: HostRuntime) {
     let first = bit_at::<u8, Lsb0>(0, 7);
-    let far = first.wrapping_add(9223372036854775807);
+    let far = first.wrapping_add(isize::MAX as usize);
     same(&rt, parts(far), (-1152921504606846976, 6));
-    let back = far.wrapping_sub(9223372036854775807);
+    let back = far.wrapping_sub(isize::MAX as usize);
     same(&rt, parts(back), (-2305843009213693952, 7));
 }
 

@@ -60,7 +60,7 @@ fn ends_lie_in_no_memory() -> [bool; 7] {
         highest.is_disjoint(&lowest),
         !lowest_fits(lowest, 0),
         !lowest_fits(lowest, 1),
-        !lowest_fits(lowest, 9223372036854775807),
+        !lowest_fits(lowest, isize::MAX as usize),
         !lowest_fits(lowest, usize::MAX),
         nothing_fits_nowhere(BitSpan::EMPTY),
     ]

@@ -1,4 +1,4 @@
-use Rattle.std.proofs.Common.{ap, ◌∙◌}
+use Rattle.std.proofs.Common.{ap, pos, ◌∙◌}
 use Rattle.bitvec_ptr.specs.PtrRange.{count_of}
 use Rattle.tests_pointers.proofs.EndLemmas.{greatest-range}
 use Rattle.tests_pointers.proofs.ends.greatest_range.Goals as goal
@@ -7,4 +7,4 @@ pub from_range-requires : goal.from_range-requires
 from_range-requires c = (greatest-range _ _ c.requires.start c.requires.end).0
 
 pub returns : goal.returns
-returns c = ap (count_of 8) c.from_range.ensures ∙ (greatest-range _ _ c.requires.start c.requires.end).1
+returns c = ap (λ z. pos (count_of 8 z)) c.from_range.ensures ∙ (greatest-range _ _ c.requires.start c.requires.end).1

@@ -1,7 +1,7 @@
 use Rattle.std.proofs.Common.{◌≡◌, pos, ◌+◌, ◌/◌, ◌<◌, ◌+ℤ◌, ◌≤ℤ◌, ap, ◌∙◌, arith, rules}
 use Rattle.std.proofs.lemmas.Int.{ints}
 use Rattle.bitvec_ptr.specs.BitPtr.{ptr_of}
-use Rattle.bitvec_ptr.specs.Place.{Ptr, place_of}
+use Rattle.bitvec_ptr.specs.Place.{Ptr, place_of, greatest_isize}
 use Rattle.bitvec_ptr.proofs.PlaceLemmas.{floor_place}
 use Rattle.bitvec_ptr.proofs.PlaceOrder.{bit_below}
 use Rattle.bitvec_domain.specs.BitSpan.{span_of}
@@ -13,7 +13,7 @@ returns-clause-steps g c =
     let width = g.R.BitRegister.BITS in
     let span = c.args.self in
     let some : 0 < width = omega (arith, g.met.R.BitRegister.width_at_least_8) in
-    let ends : (span.word +ℤ pos ((span.head + span.len) / width)) ≤ℤ pos 9223372036854775807 = rw (floor_place width span.word span.head span.len some) at span.low in
+    let ends : (span.word +ℤ pos ((span.head + span.len) / width)) ≤ℤ greatest_isize = rw (floor_place width span.word span.head span.len some) at span.low in
     let pointer : ptr_of c.new.result ≡ record { word = span.word; bit = span.head } = search rules in
     let word : c.new.result.word ≡ span.word = ap (λ (p : Ptr). p.word) pointer in
     let bit : c.new.result.bit ≡ span.head = ap (λ (p : Ptr). p.bit) pointer in
