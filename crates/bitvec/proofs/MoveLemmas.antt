@@ -1,4 +1,4 @@
--- Commands on single bits and runs of bits of a span, from what they do to the list of all bits of the memory.
+-- Commands on single bits and ranges of bits of a span, from what they do to the list of all bits of the memory.
 use Rattle.std.proofs.Common.{◌≡◌, ◌≢◌, ℕ, ◌+◌, ◌-◌, ◌*◌, ◌/◌, ◌%◌, ◌<◌, ◌≤◌, Bool, true, false, not, ◌&&◌, nat_le, nat_lt, List, length, get_or, Some, arith, sym, ◌∙◌, ap, refl, subst, inl, inr}
 use Rattle.std.specs.Prelude.{pos, nat_abs, swap, slice_get, slice_set}
 use Rattle.std.proofs.Math.ListN.{length-set}

@@ -62,7 +62,7 @@ fn write<R: BitRegister>(order: u8, memory: &mut [R], place: usize, bit: bool)
     }
 }
 
-// Writes the bit at a place where the call's conditions hold, and answers the status.
+// Writes the bit at a place where the call's conditions hold, and returns the status.
 fn set<R: BitRegister>(order: u8, memory: &mut [R], place: usize, bit: bool) -> u8
     ensures status { result ≡ range_status R.BITS order (length memory.old) place 1 }
     ensures written { result ≡ ok → WritesBit R.BITS (order_at R.BITS order) place bit

@@ -49,7 +49,7 @@ fn copy_range<R: BitRegister>(
     }
 }
 
-// Copies a range of bits where the call's conditions hold, and answers the status.
+// Copies a range of bits where the call's conditions hold, and returns the status.
 fn copy<R: BitRegister>(
     order: u8,
     source: &[R],
@@ -100,7 +100,7 @@ fn move_range<R: BitRegister>(order: u8, memory: &mut [R], from: usize, to: usiz
     }
 }
 
-// Copies a range of bits inside a memory where the call's conditions hold, and answers the status.
+// Copies a range of bits inside a memory where the call's conditions hold, and returns the status.
 fn copy_within<R: BitRegister>(
     order: u8,
     memory: &mut [R],

@@ -35,7 +35,7 @@ fn fill_range<R: BitRegister>(order: u8, memory: &mut [R], start: usize, count: 
     }
 }
 
-// Makes each bit of a range the same where the call's conditions hold, and answers the status.
+// Makes each bit of a range the same where the call's conditions hold, and returns the status.
 fn fill<R: BitRegister>(order: u8, memory: &mut [R], start: usize, count: usize, bit: bool) -> u8
     ensures status { result ≡ range_status R.BITS order (length memory.old) start count }
     ensures filled { result ≡ ok

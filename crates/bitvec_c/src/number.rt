@@ -108,7 +108,7 @@ fn put_number<R: BitRegister>(
     }
 }
 
-// Makes a range the lowest digits of a number where the call's conditions hold, and answers the
+// Makes a range the lowest digits of a number where the call's conditions hold, and returns the
 // status.
 fn store<R: BitRegister>(
     order: u8,

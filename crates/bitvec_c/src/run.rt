@@ -183,7 +183,7 @@ fn run_requests<R: BitRegister>(
     }
 }
 
-// Serves the requests where the call's conditions hold, and answers the status.
+// Serves the requests where the call's conditions hold, and returns the status.
 fn run_plain<R: BitRegister>(
     order: u8,
     spans: &[PlainSpan],

@@ -1,4 +1,4 @@
--- Runs of bits in the loans of a span's parts.
+-- Stretches of bits in the loans of a span's parts.
 use Rattle.std.proofs.Common.{◌≡◌, ℕ, ◌-◌, ◌*◌, ◌<◌, Bool, true, false, if◌then◌else◌, List, length, map, refl, sym, ap, ◌∙◌, arith}
 use Rattle.std.proofs.lemmas.List.{length-map}
 use Rattle.std.specs.Prelude.{Option, Some, None, is_some}

@@ -1,4 +1,4 @@
--- A run of numbers, from its two ends.
+-- A range of numbers, from its two ends.
 use Rattle.std.proofs.Common.{◌≡◌, ℕ, zero, suc, ◌+◌, ◌-◌, ◌<◌, List, [], ◌∷◌, ◌++◌, length, sym, ap, ◌∙◌, arith}
 use Rattle.std.specs.List.{range_with_len}
 use Rattle.std.specs.Iterator.{MakesProgress, item_count, YieldsLast}
@@ -6,11 +6,11 @@ use Rattle.std.proofs.Common.{Some, None, Option, map, ◌^◌}
 use Rattle.std.proofs.lemmas.List.{map-append}
 use Rattle.std.proofs.lemmas.List.FromFn.{length-range_with_len}
 
--- how many numbers a run has
-pub length-run : (a b : ℕ) → length (range_with_len a (b - a)) ≡ b - a
-length-run a b = length-range_with_len a (b - a)
+-- how many numbers a range has
+pub length-range : (a b : ℕ) → length (range_with_len a (b - a)) ≡ b - a
+length-range a b = length-range_with_len a (b - a)
 
-pub ruleset run_lengths = (length-run)
+pub ruleset range_lengths = (length-range)
 
 -- the first number, and the others
 pub range_first : (a b : ℕ) → a < b → range_with_len a (b - a) ≡ a ∷ range_with_len (a + 1) (b - (a + 1))

@@ -53,7 +53,7 @@ masked_outside bits at from count mask word with r j law within is h (inr l) e =
     let clear : digit mask (at j) ≡ false = digit-mask_at bits at from (from + count) mask j law within is h ∙ (rw (le-leb from j below, le-ltb j (from + count) l) refl) in
     e ∙ choose_word (digit word (at j)) (digit with (at j)) (digit mask (at j)) clear
 
--- a word put some of whose bits are a run of a memory's
+-- a word put some of whose bits are a range of a memory's
 pub part_put : (bits bits2 : ℕ) (at at2 : ℕ → ℕ) (src words : List ℕ) (s word bit count v : ℕ) → 0 < count → bit + count ≤ bits2 → word < length words → s + count ≤ length src * bits
     → ((j : ℕ) → j < count → digit v (at2 (bit + j)) ≡ bit_of bits at src (s + j))
     → ((j : ℕ) → j < bits2 → (j < bit) ⊎ (bit + count ≤ j) → digit v (at2 j) ≡ digit (slice_index words word) (at2 j))

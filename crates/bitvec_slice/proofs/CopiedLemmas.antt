@@ -1,4 +1,4 @@
--- What a copy of a run of bits makes of the list of the span that it fills.
+-- What a copy of a range of bits makes of the list of the span that it fills.
 use Rattle.std.proofs.Common.{◌≡◌, ℕ, ◌+◌, ◌-◌, ◌*◌, ◌/◌, ◌%◌, ◌<◌, ◌≤◌, Bool, false, List, length, get_or, take, drop, sym, ap, subst, ◌∙◌, inl, inr, arith}
 use Rattle.std.specs.Prelude.{pos, nat_abs}
 use Rattle.std.proofs.lemmas.Bool.{cases_eq, cases_lt}
@@ -115,7 +115,7 @@ module _ (wide : ℕ) (place_in : ℕ → ℕ) (source : Span) (from : List ℕ)
   pub copied_others : KeepsOthers bits at span old new
   copied_others = others_copied wide place_in source from bits at span old new (index_of wide p) (index_of bits q) some_wide some_bits from_fits fits many same (ap (index_of wide) e) (ap (index_of bits) f) is_whole
 
--- the run of a span's bits, from a pointer to the first
+-- the range of a span's bits, from a pointer to the first, lies in a memory that the span fits
 pub range_in : (bits words count : ℕ) (span : Span) (p : Ptr) → p ≡ record { word = span.word; bit = span.head } → count ≡ span.len → Fits bits span words → RangeIsIn bits p words count
 range_in bits words count span p e all fits =
     subst (λ (q : Ptr). RangeIsIn bits q words count) (sym e) (subst (λ n. RangeIsIn bits (record { word = span.word; bit = span.head }) words n) (sym all) fits)

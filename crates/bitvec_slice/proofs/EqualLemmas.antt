@@ -11,7 +11,6 @@ use Rattle.bitvec.specs.Memory.{bit_of, memory_bits, list_with_copy}
 use Rattle.bitvec.specs.Order.{IsOneToOne}
 use Rattle.bitvec.specs.Place.{Ptr, index_of}
 use Rattle.bitvec.specs.Span.{Span, Fits, list_of}
-use Rattle.bitvec.specs.Steps.{RangeIsIn}
 use Rattle.bitvec.proofs.CopyLemmas.{met_covers}
 use Rattle.bitvec.proofs.IndexLemmas.{same_from_indices}
 use Rattle.bitvec.proofs.MemoryLemmas.{length-tabulate, get_or-tabulate, tabulate-from_elements}
@@ -46,11 +45,6 @@ copied_first source s target t n xs none e =
     ap (λ m. list_with_copy source s target m n) none
     ∙ ap (λ (ys : List Bool). ys ++ drop (0 + n) target) e
     ∙ ap (λ m. xs ++ drop m target) (let same : 0 + n ≡ n = omega arith in same)
-
--- a run from a span's first bit on, as many as it has, is in a memory that the span fits
-pub run_fits : (bits : ℕ) (ptr : Ptr) (span : Span) (words count : ℕ) → ptr ≡ record { word = span.word; bit = span.head } → count ≡ span.len → Fits bits span words → RangeIsIn bits ptr words count
-run_fits bits ptr span words count is_ptr is_count fits =
-    subst (λ (p : Ptr). RangeIsIn bits p words count) (sym is_ptr) (subst (λ n. RangeIsIn bits (record { word = span.word; bit = span.head }) words n) (sym is_count) fits)
 
 -- words to which the bits of a span were copied
 pub copied_block : (bits : ℕ) (at : ℕ → ℕ) (span : Span) (memory : List ℕ) (width : ℕ) (order : ℕ → ℕ) (source dest : Ptr) (words before : List ℕ) (count : ℕ)

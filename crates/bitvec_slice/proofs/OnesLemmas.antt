@@ -1,4 +1,4 @@
--- The numbers of a run that pass a test, and the indices of a list's ones and zeros.
+-- The numbers of a range that pass a test, and the indices of a list's ones and zeros.
 use Rattle.std.proofs.Common.{◌≡◌, ℕ, zero, suc, ◌+◌, ◌-◌, ◌<◌, ◌≤◌, Bool, true, false, not, List, [], ◌∷◌, ◌++◌, length, length-append, Some, refl, ap, ◌∙◌, inl, inr, arith}
 use Rattle.std.specs.List.{filter, range_with_len}
 use Rattle.std.specs.Iterator.{MakesProgress, item_count}

@@ -1,4 +1,4 @@
-//! Indices, ends and masks, and the runs of bits from them on.
+//! Indices, ends and masks, and the ranges of bits from them on.
 
 use crate::shown::{write_forms, write_two};
 use bitvec::index::{BitEnd, BitIdx, BitMask, BitPos, BitSel, Limits, MaskLimits};
@@ -19,7 +19,7 @@ pub fn write_answer<R: BitRegister, O: BitOrder<R>, A: Allocator>(
         [shown] if kind == "index_text" => write_texts::<R, A>(text, shown),
         [start] => write_two(text, step_of::<R>(kind, start)),
         [start, far] if kind == "offset" => write_two(text, offset_of::<R>(start, far)),
-        [start, far] => write_two(text, run_of::<R, O>(kind, start, far)),
+        [start, far] => write_two(text, words_met::<R, O>(kind, start, far)),
         _ => Ok(false),
     }
 }
@@ -93,9 +93,9 @@ fn offset_of<R: BitRegister>(start: &str, by: &str) -> Option<(isize, u8)> {
     Some((words, index.into_inner()))
 }
 
-// The words that a run of bits meets, and its end in the last: from an index on, from an end on, or
-// as a span.
-fn run_of<R: BitRegister, O: BitOrder<R>>(
+// The words that a range of bits meets, and its end in the last: from an index on, from an end on,
+// or as a span.
+fn words_met<R: BitRegister, O: BitOrder<R>>(
     kind: &str,
     start: &str,
     len: &str,
@@ -104,14 +104,17 @@ fn run_of<R: BitRegister, O: BitOrder<R>>(
     let (elements, tail) = match kind {
         "span" => index_at::<R>(start)?.span(len),
         "end_span" => end_at::<R>(start)?.span(len),
-        "elements" => span_run::<R, O>(start, len)?,
+        "elements" => words_of_span::<R, O>(start, len)?,
         _ => return None,
     };
     Some((elements, tail.into_inner()))
 }
 
 // The words that a span meets, and its end in the last.
-fn span_run<R: BitRegister, O: BitOrder<R>>(start: &str, len: usize) -> Option<(usize, BitEnd<R>)> {
+fn words_of_span<R: BitRegister, O: BitOrder<R>>(
+    start: &str,
+    len: usize,
+) -> Option<(usize, BitEnd<R>)> {
     let span: BitSpan<R, O> = BitSpan::new(0, index_at(start)?, len).ok()?;
     Some((span.elements(), span.tail()))
 }

@@ -1,4 +1,4 @@
-//! Questions of one memory: a bit read, written or replaced, two bits exchanged, a run of bits
+//! Questions of one memory: a bit read, written or replaced, two bits exchanged, a range of bits
 //! copied.
 
 ghost use Rattle.std.specs.Prelude.{IfSome};
@@ -84,8 +84,8 @@ fn done<R: BitRegister, O: BitOrder<R>>(
         [at, with] => done_at::<R, O>(kind, at, with, memory),
         [from, to, count] if kind == "copy" => {
             let count = place(count)?;
-            let from = run_in::<R, O>(memory.len(), from, count)?;
-            let to = run_in::<R, O>(memory.len(), to, count)?;
+            let from = range_start::<R, O>(memory.len(), from, count)?;
+            let to = range_start::<R, O>(memory.len(), to, count)?;
             from.copy_within(memory, to, count as usize);
             Some(Outcome::Memory)
         }
@@ -128,9 +128,9 @@ pub fn pointer_in<R: BitRegister, O>(words: usize, at: &str) -> Option<BitPtr<R,
     }
 }
 
-/// The pointer to the first place of a run, from a text, in a memory of so many words, or `None`
-/// where the run passes it.
-pub fn run_in<R: BitRegister, O>(words: usize, at: &str, count: u64) -> Option<BitPtr<R, O>>
+/// The pointer to the first place of a range, from a text, in a memory of so many words, or `None`
+/// where the range passes it.
+pub fn range_start<R: BitRegister, O>(words: usize, at: &str, count: u64) -> Option<BitPtr<R, O>>
     ensures { IfSome result (λ pointer. RangeIsIn R.BITS (ptr_of pointer) words count) }
 {
     let pointer = pointer_at::<R, O>(place(at)?);

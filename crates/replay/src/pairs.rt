@@ -1,7 +1,7 @@
 //! Questions of two memories, each with a register and an order of its own: two bits exchanged, a
-//! run of bits copied.
+//! range of bits copied.
 
-use crate::memories::{pointer_in, run_in};
+use crate::memories::{pointer_in, range_start};
 use bitvec::mem::BitRegister;
 use bitvec::order::BitOrder;
 use notation::names::{self, Call};
@@ -118,8 +118,8 @@ fn write_swapped<R: BitRegister, O: BitOrder<R>, S: BitRegister, P: BitOrder<S>,
     Ok(true)
 }
 
-// Copies a run of bits of one memory into the other, and writes that; tells whether the runs are in
-// them.
+// Copies a range of bits of one memory into the other, and writes that; tells whether the ranges
+// are in them.
 fn write_copied<R: BitRegister, O: BitOrder<R>, S: BitRegister, P: BitOrder<S>, A: Allocator>(
     text: &mut String<A>,
     memory: &[R],
@@ -131,10 +131,10 @@ fn write_copied<R: BitRegister, O: BitOrder<R>, S: BitRegister, P: BitOrder<S>, 
     let Some(count) = place(count) else {
         return Ok(false);
     };
-    let Some(from) = run_in::<R, O>(memory.len(), from, count) else {
+    let Some(from) = range_start::<R, O>(memory.len(), from, count) else {
         return Ok(false);
     };
-    let Some(to) = run_in::<S, P>(other.len(), to, count) else {
+    let Some(to) = range_start::<S, P>(other.len(), to, count) else {
         return Ok(false);
     };
     from.copy_to(memory, to, other, count as usize);

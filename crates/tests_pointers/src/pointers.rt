@@ -61,8 +61,8 @@ fn steps_and_measures(rt: HostRuntime) {
 fn tests_that_a_memory_has_the_bits(rt: HostRuntime) {
     let pointer = bit_at::<u32, Lsb0>(0, 10);
     same(&rt, [pointer.is_in(1), pointer.is_in(0)], [true, false]);
-    let runs = [pointer.run_in(1, 22), pointer.run_in(1, 23)];
-    same(&rt, runs, [true, false]);
+    let ranges = [pointer.run_in(1, 22), pointer.run_in(1, 23)];
+    same(&rt, ranges, [true, false]);
     let end = bit_at::<u8, Lsb0>(3, 0);
     same(&rt, [end.run_in(3, 0), end.run_in(3, 1)], [true, false]);
 }

@@ -235,12 +235,12 @@ fn has_parts_of_three_words(rt: HostRuntime) {
     );
 }
 
-// The head, the length and the number of words of a run of bits.
-fn size<R: BitRegister, O>(run: BitWords<R, O>) -> (u8, usize, usize) {
-    (run.head().into_inner(), run.len(), run.words().len())
+// The head, the length and the number of words of a stretch of bits.
+fn size<R: BitRegister, O>(bits: BitWords<R, O>) -> (u8, usize, usize) {
+    (bits.head().into_inner(), bits.len(), bits.words().len())
 }
 
-// The sizes of the parts of a span's bits, behind whether they are one run alone.
+// The sizes of the parts of a span's bits, behind whether they are one stretch alone.
 fn sizes<R: BitRegister, O: BitOrder<R>>(
     memory: &[R],
     start: u32,
@@ -301,17 +301,17 @@ fn has_no_bits_by_default(rt: HostRuntime) {
     );
 }
 
-// The first word of a run, and a bit of it.
+// The first word of a stretch of bits, and a bit of it.
 fn word_and_bit<R: BitRegister, O: BitOrder<R>>(
-    run: BitWords<R, O>,
+    bits: BitWords<R, O>,
     index: usize,
 ) -> (Option<R>, Option<bool>) {
-    let bit = if index < run.len() {
-        Some(run.read(index))
+    let bit = if index < bits.len() {
+        Some(bits.read(index))
     } else {
         None
     };
-    (run.words().first().copied(), bit)
+    (bits.words().first().copied(), bit)
 }
 
 // These of the head, the body and the tail of a span's bits.
@@ -397,19 +397,19 @@ fn bounds(part: &PartialElementMut<u8, Lsb0>) -> [u8; 3] {
     ]
 }
 
-// A bit of a run before it becomes one and afterwards, where the run has it.
+// A bit of a stretch before it becomes one and afterwards, where the stretch has it.
 fn replaced<R: BitRegister, O: BitOrder<R>>(
-    run: &mut BitWordsMut<R, O>,
+    bits: &mut BitWordsMut<R, O>,
     index: usize,
 ) -> Option<[bool; 2]> {
-    if index >= run.len() {
+    if index >= bits.len() {
         return None;
     }
-    let before = run.replace(index, true);
-    Some([before, run.read(index)])
+    let before = bits.replace(index, true);
+    Some([before, bits.read(index)])
 }
 
-// The mask and the bounds of that part of a byte, and what a change of its second bit answers.
+// The mask and the bounds of that part of a byte, and what a change of its second bit returns.
 fn handed_on() -> Option<([u8; 3], Option<[bool; 2]>)> {
     let mut memory = [0xc3];
     let part = middle(&mut memory)?;
@@ -424,7 +424,7 @@ fn hands_on_the_bits_of_one_word(rt: HostRuntime) {
     assert_eq!(rt; handed_on(), Some(want));
 }
 
-// The same of a bit of each run of a span's bits.
+// The same of a bit of each stretch of a span's bits.
 fn replaces<R: BitRegister, O: BitOrder<R>>(
     memory: &mut [R],
     start: u32,

@@ -55,7 +55,7 @@ impl<R: BitRegister> BitIdx<R> {
     }
 
     /// All indices of the register.
-    #[tactic(auto, using(crate::proofs::Ranges::run_lengths))]
+    #[tactic(auto, using(crate::proofs::Ranges::range_lengths))]
     pub fn range_all() -> IdxRange<R>
         ensures items { result ≡ numbers_between 0 R.BITS }
         ensures count { length result ≡ R.BITS }
@@ -99,7 +99,7 @@ impl<R: BitRegister> DoubleEndedIterator for IdxRange<R> {
 }
 
 impl<R: BitRegister> ExactSizeIterator for IdxRange<R> {
-    #[tactic(auto, using(crate::proofs::Ranges::run_lengths))]
+    #[tactic(auto, using(crate::proofs::Ranges::range_lengths))]
     fn len(&self) -> usize {
         usize::from(self.upto - self.from)
     }
@@ -184,7 +184,7 @@ impl<R: BitRegister> DoubleEndedIterator for EndRange<R> {
 }
 
 impl<R: BitRegister> ExactSizeIterator for EndRange<R> {
-    #[tactic(auto, using(crate::proofs::Ranges::run_lengths))]
+    #[tactic(auto, using(crate::proofs::Ranges::range_lengths))]
     fn len(&self) -> usize {
         usize::from(self.before - self.from)
     }

@@ -107,7 +107,7 @@ impl<R: BitRegister, O: BitOrder<R>> BitPtr<R, O> {
     /// and changes no other bit: [`run_in`](BitPtr::run_in) is the test of each range.
     ///
     /// Bit j of the one range becomes bit j of the other, whatever their registers and orders are.
-    /// As in the Rust crate, but for two memories that are handed in, and for any two registers.
+    /// The Rust crate's call is handed no memory, since its pointers are addresses.
     ///
     /// # Examples
     ///
@@ -160,8 +160,7 @@ impl<R: BitRegister, O: BitOrder<R>> BitPtr<R, O> {
     /// Copies `count` bits of `source`, from `src` on, to those of `memory` from this pointer on,
     /// and changes no other bit: [`run_in`](BitPtr::run_in) is the test of each range.
     ///
-    /// It is [`copy_to`](BitPtr::copy_to) with the two sides in each other's place, as in the Rust
-    /// crate.
+    /// It is [`copy_to`](BitPtr::copy_to) with the two sides in each other's place.
     pub fn copy_from<R2: BitRegister, O2: BitOrder<R2>>(
         self,
         memory: &mut [R],

@@ -116,7 +116,7 @@ impl<R: BitRegister, O> BitPtr<R, O> {
         Self::from_slice(words)
     }
 
-    /// Another name of [`from_mut_slice`](BitPtr::from_mut_slice), as in the Rust crate.
+    /// Another name of [`from_mut_slice`](BitPtr::from_mut_slice).
     pub fn from_slice_mut(words: &mut [R]) -> Self
         ensures first { ptr_of result ≡ record { word = pos 0; bit = 0 } }
         ensures same { words.new ≡ words.old }
@@ -147,7 +147,7 @@ impl<R: BitRegister, O> BitPtr<R, O> {
         (self.word, self.bit())
     }
 
-    /// Another name of [`raw_parts`](BitPtr::raw_parts), as in the Rust crate.
+    /// Another name of [`raw_parts`](BitPtr::raw_parts).
     pub fn to_raw_parts(self) -> (isize, BitIdx<R>)
         ensures word { result.0 ≡ (ptr_of self).word }
         ensures bit { result.1 ≡ (ptr_of self).bit }

@@ -69,7 +69,7 @@ impl<'a, R: BitRegister, O: BitOrder<R>> BitSliceMut<'a, R, O> {
     /// Copies the bits of a range to as many from number `dest` on, word by word. What is copied is
     /// what was there before the call.
     ///
-    /// Requires that the range rises, and that both runs of bits end within the length.
+    /// Requires that the range rises, and that both ranges of bits end within the length.
     pub fn copy_within(&mut self, src: Range<usize>, dest: usize)
         requires ordered { src.start ≤ src.end }
         requires source_inside { src.end ≤ lent_len self.old }

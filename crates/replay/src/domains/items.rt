@@ -165,28 +165,28 @@ pub(super) fn write_bits<R: BitRegister, O: BitOrder<R>, A: Allocator>(
 {
     let at = span.address() as u128;
     match span.bit_domain(memory) {
-        BitDomain::Enclave(run) => write_run(text, "enclave ", at, run),
+        BitDomain::Enclave(all) => write_stretch(text, "enclave ", at, all),
         BitDomain::Region { head, body, tail } => {
             let body_at = at + u128::from(!head.is_empty());
             let tail_at = body_at + body.words().len() as u128;
-            write_run(text, "region ", at, head)?;
-            write_run(text, ";", body_at, body)?;
-            write_run(text, ";", tail_at, tail)
+            write_stretch(text, "region ", at, head)?;
+            write_stretch(text, ";", body_at, body)?;
+            write_stretch(text, ";", tail_at, tail)
         }
     }
 }
 
-// Writes the first word of a run of bits, or `-` where it has none, the index of the first in it,
-// and how many there are, behind a text.
-fn write_run<R: BitRegister, O: BitOrder<R>, A: Allocator>(
+// Writes the first word of a stretch of bits, or `-` where it has none, the index of the first in
+// it, and how many there are, behind a text.
+fn write_stretch<R: BitRegister, O: BitOrder<R>, A: Allocator>(
     text: &mut String<A>,
     before: &str,
     at: u128,
-    run: BitWords<R, O>,
+    bits: BitWords<R, O>,
 ) -> Result<(), AllocError> {
-    let head = run.head().into_inner();
-    let len = run.len();
-    if run.is_empty() {
+    let head = bits.head().into_inner();
+    let len = bits.len();
+    if bits.is_empty() {
         write!(text, "{before}- {head} {len}")
     } else {
         write!(text, "{before}{at} {head} {len}")
