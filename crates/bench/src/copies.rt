@@ -6,11 +6,11 @@ ghost use Rattle.bitvec.specs.Steps.{RangeIsIn};
 
 use crate::timer::{Job, Mode, Name, tell, time};
 use crate::words::{Formula, bytes, is_copied, words, words_of};
+use bits_text::hilo::HiLo;
 use bitvec::index::{BitIdx, Limits};
 use bitvec::mem::BitRegister;
 use bitvec::order::{BitOrder, Lsb0, Msb0};
 use bitvec::ptr::single::BitPtr;
-use notation::hilo::HiLo;
 use std::io;
 
 // A copy from one memory to another.

@@ -2,9 +2,9 @@
 
 ghost use Rattle.std.specs.Prelude.{◌<◌};
 
+use bits_text::hilo::HiLo;
 use bitvec::mem::BitRegister;
 use bitvec::order::{Lsb0, Msb0};
-use notation::hilo::HiLo;
 use std::alloc::AllocError;
 
 /// Words that look random, the same at each call.

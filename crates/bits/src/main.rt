@@ -1,6 +1,12 @@
 //! Bit addressing from the command line.
 #![tactic(auto)]
 
+mod answer;
+mod lines;
+#[cfg(test)]
+mod tests;
+pub mod view;
+
 use std::env::{self, Env};
 use std::io;
 use std::process::ExitCode;
@@ -14,11 +20,11 @@ fn status<R: Env + AllocGlobal + Print>(rt: &R) -> u8 {
     let alloc = rt.alloc();
     let mut out = io::writer(rt);
     let Ok(all) = env::args(rt) else {
-        return answers::out_of_memory(&mut out);
+        return answer::out_of_memory(&mut out);
     };
     let args: Result<Vec<String>, _> = all.skip(1).collect(alloc);
     let Ok(args) = args else {
-        return answers::out_of_memory(&mut out);
+        return answer::out_of_memory(&mut out);
     };
-    answers::answer(&alloc, &args, &mut out)
+    answer::answer(&alloc, &args, &mut out)
 }

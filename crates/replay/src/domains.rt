@@ -4,12 +4,12 @@ ghost use Rattle.std.specs.Prelude.{length};
 ghost use Rattle.bitvec.specs.BitSpan.{span_of};
 ghost use Rattle.bitvec.specs.Span.{Fits};
 
+use bits_text::number::place;
+use bits_text::places::pointer_at;
+use bits_text::words::words_of;
 use bitvec::mem::BitRegister;
 use bitvec::order::BitOrder;
 use bitvec::ptr::span::BitSpan;
-use notation::number::place;
-use notation::places::pointer_at;
-use notation::words::words_of;
 use std::alloc::{AllocError, Allocator};
 
 mod edits;

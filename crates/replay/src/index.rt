@@ -1,11 +1,11 @@
 //! Indices, ends and masks, and the ranges of bits from them on.
 
 use crate::shown::{write_forms, write_two};
+use bits_text::number::number;
 use bitvec::index::{BitEnd, BitIdx, BitMask, BitPos, BitSel, Limits, MaskLimits};
 use bitvec::mem::BitRegister;
 use bitvec::order::BitOrder;
 use bitvec::ptr::span::BitSpan;
-use notation::number::number;
 use std::alloc::{AllocError, Allocator};
 use std::fmt::{self, Write as _};
 

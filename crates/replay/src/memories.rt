@@ -5,12 +5,12 @@ ghost use Rattle.std.specs.Prelude.{IfSome};
 ghost use Rattle.bitvec.specs.BitPtr.{ptr_of};
 ghost use Rattle.bitvec.specs.Steps.{IsIn, RangeIsIn};
 
+use bits_text::number::place;
+use bits_text::places::pointer_at;
+use bits_text::words::{words_of, write_words};
 use bitvec::mem::BitRegister;
 use bitvec::order::BitOrder;
 use bitvec::ptr::single::BitPtr;
-use notation::number::place;
-use notation::places::pointer_at;
-use notation::words::{words_of, write_words};
 use std::alloc::{AllocError, Allocator};
 use std::fmt::Write as _;
 

@@ -2,11 +2,11 @@
 //! range of bits copied.
 
 use crate::memories::{pointer_in, range_start};
+use bits_text::names::{self, Call};
+use bits_text::number::place;
+use bits_text::words::{words_of, write_words};
 use bitvec::mem::BitRegister;
 use bitvec::order::BitOrder;
-use notation::names::{self, Call};
-use notation::number::place;
-use notation::words::{words_of, write_words};
 use std::alloc::{AllocError, Allocator};
 use std::marker::PhantomData;
 

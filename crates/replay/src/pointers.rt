@@ -2,12 +2,12 @@
 
 use crate::index::index_at;
 use crate::shown::write_two;
+use bits_text::places::pointer_at;
 use bitvec::mem::BitRegister;
 use bitvec::order::BitOrder;
 use bitvec::ptr::range::BitPtrRange;
 use bitvec::ptr::single::BitPtr;
 use bitvec::ptr::span::{BitSpan, BitSpanError};
-use notation::places::pointer_at;
 use std::alloc::{AllocError, Allocator};
 use std::fmt::Write as _;
 

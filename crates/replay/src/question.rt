@@ -1,9 +1,9 @@
 //! A question to this library, for the register and the order that it names.
 
 use crate::{domains, index, memories, pairs, pointers};
+use bits_text::names::{self, Call};
 use bitvec::mem::BitRegister;
 use bitvec::order::BitOrder;
-use notation::names::{self, Call};
 use questions::line::Topic;
 use questions::report::Library;
 use std::alloc::{AllocError, Allocator};

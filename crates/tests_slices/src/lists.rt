@@ -3,11 +3,11 @@
 ghost use Rattle.std.specs.Prelude.{◌+◌, ◌≤◌};
 ghost use Rattle.tests_slices.specs.Orders.{mixed_position, mixed_one_to_one};
 
+use bits_text::hilo::HiLo;
 use bitvec::index::BitIdx;
 use bitvec::order::{BitOrder, ByPosition, Lsb0, Msb0, OneToOne, Positions};
 use bitvec::ptr::span::BitSpan;
 use bitvec_slice::slice::{BitSlice, BitSliceMut};
-use notation::hilo::HiLo;
 
 /// The positions of a byte by a table.
 pub struct Mixed;

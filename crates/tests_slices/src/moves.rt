@@ -4,11 +4,11 @@ ghost use Rattle.std.specs.Prelude.{◌+◌, ◌≤◌, length};
 ghost use Rattle.bitvec_slice.specs.BitSliceMut.{lent_len};
 
 use crate::lists::{MEMORY, Mix, bits_of, span_at};
+use bits_text::hilo::HiLo;
 use bitvec::index::BitIdx;
 use bitvec::order::{BitOrder, Lsb0, Msb0};
 use bitvec::ptr::span::BitSpan;
 use bitvec_slice::slice::{BitSlice, BitSliceMut};
-use notation::hilo::HiLo;
 
 /// A move of bits by so many places: two shifts, a rotation, and two copies of those that stay
 /// inside.

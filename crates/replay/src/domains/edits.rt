@@ -5,12 +5,12 @@ ghost use Rattle.bitvec.specs.BitSpan.{span_of};
 ghost use Rattle.bitvec.specs.Span.{Fits};
 
 use crate::domains::lists::{end_list, write_value};
+use bits_text::number::number;
+use bits_text::words::write_words;
 use bitvec::domain::{DomainMut, PartialElementMut};
 use bitvec::mem::BitRegister;
 use bitvec::order::BitOrder;
 use bitvec::ptr::span::BitSpan;
-use notation::number::number;
-use notation::words::write_words;
 use std::alloc::{AllocError, Allocator};
 
 // An edit of some bits of a word.

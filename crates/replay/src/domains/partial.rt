@@ -1,13 +1,13 @@
 //! One part of one word, read or edited.
 
 use crate::domains::edits::Edit;
+use bits_text::number::number;
+use bits_text::words::write_words;
 use bitvec::domain::Domain;
 use bitvec::index::BitIdx;
 use bitvec::mem::BitRegister;
 use bitvec::order::BitOrder;
 use bitvec::ptr::span::BitSpan;
-use notation::number::number;
-use notation::words::write_words;
 use std::alloc::{AllocError, Allocator};
 use std::fmt::Write as _;
 

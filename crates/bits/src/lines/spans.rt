@@ -1,0 +1,19 @@
+//! Spans from numbers.
+
+use crate::lines::fault::Fault;
+use bits_text::places::pointer_at;
+use bitvec::mem::BitRegister;
+use bitvec::ptr::span::BitSpan;
+use std::alloc::Allocator;
+
+/// The span of `len` bits from a place on, or the fault of its refusal.
+pub fn span_at<'a, R: BitRegister, O, A: Allocator>(
+    alloc: &'a A,
+    start: u64,
+    len: u64,
+) -> Result<BitSpan<R, O>, Fault<&'a A>> {
+    match BitSpan::from_bitptr(pointer_at(start), len as usize) {
+        Ok(span) => Ok(span),
+        Err(error) => Err(Fault::line(alloc, &error)),
+    }
+}

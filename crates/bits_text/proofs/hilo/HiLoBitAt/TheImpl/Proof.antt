@@ -1,0 +1,18 @@
+-- The block meets its trait: each of its methods meets what the trait asks (`Block`).
+use Rattle.bitvec.proofs.Block.{block_meets}
+use Rattle.bits_text.proofs.hilo.HiLoBitAt.at.Met as met-at
+use Rattle.bits_text.proofs.hilo.HiLoBitAt.at.Symbol as symbol-at
+use Rattle.bits_text.proofs.hilo.HiLoBitAt.TheImpl.Statement
+use Rattle.bits_text.specs.contracts.hilo.HiLoBitAt.at as at
+use contract.Running.{within}
+use mathlib.Core.Path.{refl}
+
+pub bound : Statement.statement
+bound = λ γ w R laws copies b1 d1 b2 d2 b3 d3 b4 d4 b5 d5 b6 d6 b7 d7 b8 d8 b9 d9 M 𝓤 𝓛 𝓜 𝓡 m1 m2 m3 m4 m5 m6 m7 m8 m9.
+    let inner = within 𝓤 𝓛.H 𝓜 𝓡 γ in
+    record {
+      at =
+          let S = at.signature R b1 d1 b2 d2 b3 d3 b4 d4 b5 d5 b6 d6 b7 d7 b8 d8 b9 d9 in
+          block_meets 𝓛 𝓜 𝓡 γ S.params S.result (at.spec R b1 d1 b2 d2 b3 d3 b4 d4 b5 d5 b6 d6 b7 d7 b8 d8 b9 d9 𝓛 𝓜.mem 𝓡.returns) _ _ _ (symbol-at.as_method γ w) refl
+          (met-at.met 𝓤 𝓛 𝓜 inner w R laws copies b1 d1 b2 d2 b3 d3 b4 d4 b5 d5 b6 d6 b7 d7 b8 d8 b9 d9 m1 m2 m3 m4 m5 m6 m7 m8 m9);
+    }
