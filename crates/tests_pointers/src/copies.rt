@@ -148,14 +148,26 @@ fn counts_a_copy_up_over_three_words(rt: HostRuntime) {
     same(&rt, memory, [0x22, 0x41, 0x53]);
 }
 
+// The first three words of a writer as they are now, zero for each that is missing.
+fn words_now(writer: &WordWriter<u8>) -> [u8; 3] {
+    let mut words = [0; 3];
+    for k in 0..3 {
+        if k < writer.len() {
+            words[k] = writer.get(k);
+        }
+    }
+    words
+}
+
 #[test]
 fn counts_two_copies_through_one_writer(rt: HostRuntime) {
     let mut memory = [0u8; 3];
     let from = bit_at::<u8, Lsb0>(0, 0);
     let mut writer = WordWriter::rising(&mut memory);
-    from.copy_through(&[0xFF], bit_at::<u8, Lsb0>(0, 4), &mut writer, 8);
+    from.copy_through(&[0xFF, 0xFF], bit_at::<u8, Lsb0>(0, 4), &mut writer, 8);
+    same(&rt, words_now(&writer), [0xF0, 0x0F, 0x00]);
     same(&rt, progress(&writer), (2, 2));
-    from.copy_through(&[0xFF], bit_at::<u8, Lsb0>(2, 0), &mut writer, 8);
+    from.copy_through(&[0xFF, 0xFF], bit_at::<u8, Lsb0>(2, 0), &mut writer, 8);
     same(&rt, progress(&writer), (3, 3));
     same(&rt, memory, [0xF0, 0x0F, 0xFF]);
 }
@@ -172,6 +184,14 @@ fn copies_a_word_of_128_bits(rt: HostRuntime) {
     let (word, first) = (bit_at::<u128, Msb0>(0, 0), bit_at::<u8, Lsb0>(0, 0));
     word.copy_through(&WORD, first, &mut writer, 128);
     same(&rt, progress(&writer), (16, 16));
+    same(&rt, bytes, BYTES);
+}
+
+#[test]
+fn copies_a_word_of_128_bits_to_bytes(rt: HostRuntime) {
+    let mut bytes = [0u8; 16];
+    let (word, first) = (bit_at::<u128, Msb0>(0, 0), bit_at::<u8, Lsb0>(0, 0));
+    word.copy_to(&WORD, first, &mut bytes, 128);
     same(&rt, bytes, BYTES);
 }
 

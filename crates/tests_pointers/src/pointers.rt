@@ -58,6 +58,15 @@ fn steps_and_measures(rt: HostRuntime) {
 }
 
 #[test]
+fn measures_either_way(rt: HostRuntime) {
+    let base = bit_at::<u32, Lsb0>(0, 0);
+    let low = base.add(10);
+    let high = low.add(15);
+    same(&rt, high.offset_from(low), 15);
+    same(&rt, low.offset_from(high), -15);
+}
+
+#[test]
 fn tests_that_a_memory_has_the_bits(rt: HostRuntime) {
     let pointer = bit_at::<u32, Lsb0>(0, 10);
     same(&rt, [pointer.is_in(1), pointer.is_in(0)], [true, false]);
@@ -216,12 +225,26 @@ fn swaps_bits_of_two_memories(rt: HostRuntime) {
 }
 
 #[test]
+fn swaps_the_first_bits_of_two_memories(rt: HostRuntime) {
+    let (mut memory, mut other) = ([0x01u8], [0u16]);
+    bit_at::<u8, Lsb0>(0, 0).swap(&mut memory, bit_at::<u16, Msb0>(0, 0), &mut other);
+    same(&rt, (memory, other), ([0x00], [0x8000]));
+}
+
+#[test]
 fn copies_inside_one_memory(rt: HostRuntime) {
     let mut memory = [0x0Du8];
     bit_at::<u8, Lsb0>(0, 0).copy_within(&mut memory, bit_at(0, 2), 6);
     same(&rt, memory, [0x35]);
     bit_at::<u8, Lsb0>(0, 0).copy_from_within(&mut memory, bit_at(0, 2), 6);
     same(&rt, memory, [0x0D]);
+}
+
+#[test]
+fn copies_up_over_three_words(rt: HostRuntime) {
+    let mut memory = [0x12u8, 0x34, 0x56];
+    bit_at::<u8, Lsb0>(0, 0).copy_within(&mut memory, bit_at(0, 4), 16);
+    same(&rt, memory, [0x22, 0x41, 0x53]);
 }
 
 #[test]

@@ -10,6 +10,8 @@ mod examples;
 #[cfg(test)]
 mod laws;
 #[cfg(test)]
+mod no_memory;
+#[cfg(test)]
 mod prelude;
 #[cfg(test)]
 mod run;

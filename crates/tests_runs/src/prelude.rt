@@ -1,6 +1,29 @@
 //! The names that one line brings in.
+//!
+//! Which order each of the line's names stands for is proved, as the values that a test compares
+//! would be the same of one order under the other's name.
+
+ghost use Rattle.std.specs.Prelude.{◌≡◌, ◌-◌};
 
 use bitvec::prelude::*;
+
+fn position_in_lsb0<R: BitRegister>(index: BitIdx<R>) -> BitPos<R>
+    ensures { result ≡ index }
+{
+    <Lsb0 as BitAt<R>>::at(index)
+}
+
+fn position_in_msb0<R: BitRegister>(index: BitIdx<R>) -> BitPos<R>
+    ensures { result ≡ R.MASK - index }
+{
+    <Msb0 as BitAt<R>>::at(index)
+}
+
+fn position_in_local_bits<R: BitRegister>(index: BitIdx<R>) -> BitPos<R>
+    ensures { result ≡ index }
+{
+    <LocalBits as BitAt<R>>::at(index)
+}
 
 #[test]
 fn one_line_serves(rt: HostRuntime) {

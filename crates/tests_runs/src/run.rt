@@ -6,18 +6,18 @@ use bitvec::ptr::span::BitSpan;
 use bitvec::run::{Command, Reply, Request, can_run, run};
 
 // The span of `len` bits from a place of a memory of `u8` on.
-fn span_at(start: u8, len: usize) -> BitSpan<u8, Lsb0> {
+pub fn span_at(start: u8, len: usize) -> BitSpan<u8, Lsb0> {
     let head = BitIdx::new_unchecked(start % 8);
     BitSpan::new(isize::from(start / 8), head, len).unwrap_or_default()
 }
 
 // A request to the span of a number.
-fn to(span: usize, command: Command<u8>) -> Request<u8> {
+pub fn to(span: usize, command: Command<u8>) -> Request<u8> {
     Request { span, command }
 }
 
 // The replies to requests and the memory after them, or `None` where they cannot run.
-fn ran<const S: usize, const N: usize>(
+pub fn ran<const S: usize, const N: usize>(
     spans: [BitSpan<u8, Lsb0>; S],
     requests: [Request<u8>; N],
 ) -> Option<([Reply<u8>; N], [u8; 2])> {
@@ -31,7 +31,7 @@ fn ran<const S: usize, const N: usize>(
 }
 
 // A copy inside a span.
-fn copy(from: usize, to: usize, count: usize) -> Command<u8> {
+pub fn copy(from: usize, to: usize, count: usize) -> Command<u8> {
     Command::Copy { from, to, count }
 }
 

@@ -382,7 +382,7 @@ fn is_copied_out_of_a_slice(rt: HostRuntime) {
 }
 
 // What the head and the tail of sixteen bits answer to edits while the word between is written.
-fn writes_all(memory: &mut [u8]) -> Option<[u8; 2]> {
+pub fn writes_all(memory: &mut [u8]) -> Option<[u8; 2]> {
     let span = span_at::<u8, Lsb0>(4, 16)?;
     if !span.fits(memory.len()) {
         return None;

@@ -104,6 +104,22 @@ fn range_of_ends(rt: HostRuntime) {
 }
 
 #[test]
+fn range_of_positions(rt: HostRuntime) {
+    let mut positions = BitPos::<u8>::range_all();
+    same(&rt, positions.next(), BitPos::new(0));
+    same(&rt, positions.next_back(), BitPos::new(7));
+    same(&rt, positions.count(), 6);
+}
+
+#[test]
+fn range_of_selectors(rt: HostRuntime) {
+    let mut selectors = BitSel::<u8>::range_all();
+    same(&rt, selectors.next(), BitSel::new(1));
+    same(&rt, selectors.next_back(), BitSel::new(128));
+    same(&rt, selectors.count(), 6);
+}
+
+#[test]
 fn both_ends(rt: HostRuntime) {
     let mut indices = BitIdx::<u8>::new_unchecked(3).range(BitEnd::new_unchecked(5));
     same(&rt, indices.len(), 2);
@@ -125,8 +141,10 @@ fn neighbours<R: BitRegister>(index: u8) -> Option<[(u8, bool); 2]> {
 
 #[test]
 fn index_cycle(rt: HostRuntime) {
+    same(&rt, neighbours::<u8>(6), Some([(5, false), (7, false)]));
     same(&rt, neighbours::<u8>(7), Some([(6, false), (0, true)]));
     same(&rt, neighbours::<u8>(0), Some([(7, true), (1, false)]));
+    same(&rt, neighbours::<u16>(14), Some([(13, false), (15, false)]));
     same(&rt, neighbours::<u16>(15), Some([(14, false), (0, true)]));
     same(&rt, neighbours::<u16>(0), Some([(15, true), (1, false)]));
 }

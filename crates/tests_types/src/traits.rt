@@ -294,12 +294,14 @@ fn names() -> (
     &'static str,
     &'static str,
     &'static str,
+    &'static str,
 )
     ensures u8 { result.0.now ≡ codes "u8" }
     ensures u16 { result.1.now ≡ codes "u16" }
     ensures u32 { result.2.now ≡ codes "u32" }
     ensures u64 { result.3.now ≡ codes "u64" }
     ensures usize { result.4.now ≡ codes "usize" }
+    ensures u128 { result.5.now ≡ codes "u128" }
 {
     (
         <u8 as BitRegister>::NAME,
@@ -307,6 +309,7 @@ fn names() -> (
         <u32 as BitRegister>::NAME,
         <u64 as BitRegister>::NAME,
         <usize as BitRegister>::NAME,
+        <u128 as BitRegister>::NAME,
     )
 }
 
