@@ -1,11 +1,13 @@
 -- The blocks of words as a slice's bits.
-use Rattle.std.proofs.Common.{◌≡◌, ℕ, ◌+◌, ◌-◌, ◌*◌, Bool, false, List, ◌++◌, length, map, take, drop, replicate, refl, sym, ap, ◌∙◌, arith}
-use Rattle.std.proofs.lemmas.List.{map-id, length-replicate}
-use Rattle.bitvec.specs.Span.{Span, list_of}
+use Rattle.std.proofs.Common.{◌≡◌, ℕ, ◌+◌, ◌-◌, ◌*◌, ◌<◌, ◌≤◌, ◌↔◌, Bool, true, false, List, ◌++◌, length, map, take, drop, replicate, refl, sym, ap, subst, ◌∙◌, arith}
+use Rattle.std.proofs.lemmas.List.{map-id, length-replicate, length-drop, length-take-le, get_or-take, get_or-drop}
+use Rattle.std.specs.Prelude.{slice_range}
+use Rattle.bitvec.specs.Span.{Span, element, list_of}
 use Rattle.bitvec.proofs.PartLemmas.{length-list_of}
 use Rattle.bitvec_slice.proofs.SlicePartLemmas.{list_of-zeros}
+use Rattle.bitvec_slice.specs.Bits.{AllAre}
 use Rattle.bitvec_slice.specs.Whole.{whole_span}
-use Rattle.freemap.specs.Blocks.{blocks_of, marked}
+use Rattle.freemap.specs.Blocks.{blocks_of, marked, AreInUse}
 
 -- how many blocks there are
 pub blocks_long : (words : List ℕ) → length (blocks_of words) ≡ length words * 64
@@ -28,3 +30,25 @@ blocks_marked span old new at count used e same filled =
 -- the blocks of words that are all zero are free
 pub blocks_free : (n : ℕ) → blocks_of (replicate n 0) ≡ replicate (n * 64) false
 blocks_free n = list_of-zeros 64 (λ i. i) (whole_span 64 (length (replicate n 0))) n ∙ ap (λ m. replicate (m * 64) false) (length-replicate n 0)
+
+-- blocks of which a stretch is `part`
+module _ (blocks part : List Bool) (at count upto : ℕ) (ends : at + count ≡ upto) (inside : upto ≤ length blocks) (is_part : part ≡ slice_range blocks at upto) where
+  part_long : length part ≡ count
+  part_long = ap length is_part ∙ length-take-le (upto - at) (drop at blocks) (omega (arith, ends, inside, length-drop at blocks)) ∙ omega (arith, ends)
+
+  part_element : (j : ℕ) → j < count → element part j ≡ element blocks (at + j)
+  part_element j h =
+      ap (λ (xs : List Bool). element xs j) is_part
+      ∙ get_or-take (upto - at) (drop at blocks) j false (omega (arith, ends, h))
+      ∙ get_or-drop at blocks j false
+
+  -- they are in use where it is all ones
+  pub part_in_use : AllAre true part ↔ AreInUse blocks at count
+  part_in_use =
+      (λ ones. (omega (arith, ends, inside), λ k from before.
+          let past : at + (k - at) ≡ k = omega (arith, from) in
+          let near : k - at < count = omega (arith, from, before) in
+          subst (λ n. element blocks n ≡ true) past (sym (part_element (k - at) near) ∙ ones (k - at) (omega (arith, near, part_long)))),
+       λ used j h.
+          let near : j < count = omega (arith, h, part_long) in
+          part_element j near ∙ used.1 (at + j) (omega arith) (omega (arith, near)))

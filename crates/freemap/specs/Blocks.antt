@@ -1,6 +1,6 @@
 -- The blocks of a store, one bit each.
-use Rattle.std.specs.Prelude.{ℕ, ◌+◌, ◌<◌, Bool, List, ◌++◌, length, take, drop, replicate}
-use Rattle.bitvec.specs.Span.{list_of}
+use Rattle.std.specs.Prelude.{◌≡◌, ℕ, ◌+◌, ◌<◌, ◌≤◌, Bool, true, List, ◌++◌, length, take, drop, replicate}
+use Rattle.bitvec.specs.Span.{element, list_of}
 use Rattle.bitvec_slice.specs.Bits.{AreFree}
 use Rattle.bitvec_slice.specs.Whole.{whole_span}
 
@@ -11,6 +11,10 @@ blocks_of words = list_of 64 (λ i. i) (whole_span 64 (length words)) words
 -- the blocks with `count` of them, from block `at` on, in use or free, and all others as they are
 abbrev pub marked : List Bool → ℕ → ℕ → Bool → List Bool
 marked blocks at count used = take at blocks ++ replicate count used ++ drop (at + count) blocks
+
+-- there are `count` blocks from block `at` on, and each is in use
+abbrev pub AreInUse : List Bool → ℕ → ℕ → Type 0
+AreInUse blocks at count = (at + count ≤ length blocks) × ((k : ℕ) → at ≤ k → k < at + count → element blocks k ≡ true)
 
 -- block `at` is the first from which `count` blocks in a row are free
 abbrev pub IsFirstFree : List Bool → ℕ → ℕ → Type 0

@@ -15,7 +15,9 @@ fn main(rt: HostRuntime) -> io::Result<()> {
     show_answer(&rt, "20 blocks", first, &map)?;
     let second = map.alloc(10);
     show_answer(&rt, "10 blocks", second, &map)?;
-    map.free(4, 12);
+    if map.are_in_use(4, 12) {
+        map.free(4, 12);
+    }
     show(&rt, "12 blocks back from 4 on", &map)?;
     let third = map.alloc(16);
     show_answer(&rt, "16 blocks", third, &map)?;

@@ -1,12 +1,12 @@
 //! A free map: which blocks of a store are in use, one bit a block.
 
 ghost use Rattle.std.specs.Prelude.{◌≡◌, ◌↔◌, ℕ, ◌+◌, ◌*◌, ◌≤◌, true, false, None, IsSome, IfSome};
-ghost use Rattle.std.specs.Prelude.{MatchOption, replicate, length, slice_get};
+ghost use Rattle.std.specs.Prelude.{IsTrue, MatchOption, replicate, length, slice_get};
 ghost use Rattle.bitvec.specs.Place.{region_max_bits};
 ghost use Rattle.bitvec.specs.BitSpan.{span_of};
 ghost use Rattle.bitvec_slice.specs.Bits.{AreFree};
 ghost use Rattle.bitvec_slice.specs.Whole.{whole_span};
-ghost use Rattle.freemap.specs.Blocks.{blocks_of, marked, IsFirstFree};
+ghost use Rattle.freemap.specs.Blocks.{blocks_of, marked, AreInUse, IsFirstFree};
 
 use bitvec::index::{BitIdx, Limits};
 use bitvec::order::Lsb0;
@@ -35,6 +35,20 @@ fn find(words: &[u64], count: usize) -> Option<usize>
         (λ at. IsFirstFree (blocks_of words.now) count at) }
 {
     BitSlice::new(span_of_all(words.len()), words)?.find_zeros(count)
+}
+
+// Whether there are `count` blocks from block `at` on that are all in use.
+fn are_used(words: &[u64], at: usize, count: usize) -> bool
+    requires { length words.now * 64 ≤ region_max_bits }
+    ensures { IsTrue result ↔ AreInUse (blocks_of words.now) at count }
+{
+    let Some(blocks) = BitSlice::new(span_of_all(words.len()), words) else {
+        return false;
+    };
+    match blocks.get_range(at, at.saturating_add(count)) {
+        Some(part) => part.all_ones(),
+        None => false,
+    }
 }
 
 // Makes `count` blocks from block `at` on be in use, or free.
@@ -77,6 +91,13 @@ impl<const N: usize> FreeMap<N> {
         BitSlice::new(span_of_all(N), &self.words)?.get(block)
     }
 
+    /// Whether there are `count` blocks from block `at` on that are all in use.
+    pub fn are_in_use(&self, at: usize, count: usize) -> bool
+        ensures { IsTrue result ↔ AreInUse (in_use self.now) at count }
+    {
+        are_used(&self.words, at, count)
+    }
+
     /// Hands out `count` blocks in a row, the first such that are all free, and returns the first
     /// of them; `None` exactly where there are none, and then the map stays as it is.
     ///
@@ -94,9 +115,10 @@ impl<const N: usize> FreeMap<N> {
     }
 
     /// Takes `count` blocks back, from block `at` on, and leaves every other block as it is.
-    /// Requires that there are such blocks.
+    /// Requires that there are such blocks and that each is in use, so none is taken back twice:
+    /// [`are_in_use`](FreeMap::are_in_use) is the test.
     pub fn free(&mut self, at: usize, count: usize)
-        requires { at + count ≤ length (in_use self.old) }
+        requires { AreInUse (in_use self.old) at count }
         ensures { in_use self.new ≡ marked (in_use self.old) at count false }
     {
         mark(&mut self.words, at, count, false);

@@ -13,3 +13,5 @@ mod lists;
 mod moves;
 #[cfg(test)]
 mod numbers;
+#[cfg(test)]
+mod traits;

@@ -83,7 +83,7 @@ fn reads<O: BitOrder<u8>>(start: usize, len: usize) -> bool
     if !shows(slice, list) {
         return false;
     }
-    let Some(slice) = BitSliceMut::new(span_at::<O>(start, len), &mut memory) else {
+    let Ok(slice) = BitSliceMut::new(span_at::<O>(start, len), &mut memory) else {
         return false;
     };
     shows(slice.as_bitslice(), list)
@@ -95,7 +95,7 @@ fn reverses<O: BitOrder<u8>>(start: usize, len: usize) -> bool
 {
     let mut memory = MEMORY;
     let mut bits = bits_of::<O>(&memory);
-    if let Some(mut slice) = BitSliceMut::new(span_at::<O>(start, len), &mut memory) {
+    if let Ok(mut slice) = BitSliceMut::new(span_at::<O>(start, len), &mut memory) {
         slice.reverse();
     }
     bits[start..start + len].reverse();
@@ -108,7 +108,7 @@ fn fills<O: BitOrder<u8>>(start: usize, len: usize) -> bool
 {
     let mut memory = MEMORY;
     let mut bits = bits_of::<O>(&memory);
-    if let Some(mut slice) = BitSliceMut::new(span_at::<O>(start, len), &mut memory) {
+    if let Ok(mut slice) = BitSliceMut::new(span_at::<O>(start, len), &mut memory) {
         let third = slice.len() / 3;
         slice.fill_range(third, slice.len() - third, true);
     }
@@ -122,7 +122,7 @@ fn rotates<O: BitOrder<u8>>(start: usize, len: usize) -> bool
 {
     let mut memory = MEMORY;
     let mut bits = bits_of::<O>(&memory);
-    if let Some(mut slice) = BitSliceMut::new(span_at::<O>(start, len), &mut memory) {
+    if let Ok(mut slice) = BitSliceMut::new(span_at::<O>(start, len), &mut memory) {
         slice.rotate_left(slice.len() / 3);
     }
     bits[start..start + len].rotate_left(len / 3);
@@ -138,7 +138,7 @@ fn swaps<O: BitOrder<u8>>(start: usize, len: usize) -> bool
     }
     let mut memory = MEMORY;
     let mut bits = bits_of::<O>(&memory);
-    if let Some(mut slice) = BitSliceMut::new(span_at::<O>(start, len), &mut memory) {
+    if let Ok(mut slice) = BitSliceMut::new(span_at::<O>(start, len), &mut memory) {
         let count = slice.len();
         if 0 < count {
             slice.swap(count / 2, count - 1);

@@ -71,7 +71,7 @@ fn moves<O: BitOrder<u8>>(start: usize, len: usize, by: usize, how: Move) -> boo
 {
     let mut memory = MEMORY;
     let mut bits = bits_of::<O>(&memory);
-    if let Some(mut slice) = BitSliceMut::new(span_at::<O>(start, len), &mut memory) {
+    if let Ok(mut slice) = BitSliceMut::new(span_at::<O>(start, len), &mut memory) {
         if by <= slice.len() {
             move_bits(&mut slice, by, how);
         }
@@ -128,7 +128,7 @@ fn copies<O: BitOrder<u8>>(start: usize, len: usize) -> bool
     let Some(source) = BitSlice::new(wide_span_at(from, len), &words) else {
         return false;
     };
-    if let Some(mut slice) = BitSliceMut::new(span_at::<O>(start, len), &mut memory) {
+    if let Ok(mut slice) = BitSliceMut::new(span_at::<O>(start, len), &mut memory) {
         if source.len() == slice.len() {
             slice.copy_from_bitslice(source);
         }

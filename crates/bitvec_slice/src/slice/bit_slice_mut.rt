@@ -1,6 +1,6 @@
 //! Slices of bits for writing.
 
-ghost use Rattle.std.specs.Prelude.{◌≡◌, ◌<◌, ◌↔◌, IsTrue, IsSome, IfSome, length};
+ghost use Rattle.std.specs.Prelude.{◌≡◌, ◌<◌, ◌↔◌, IsTrue, IsOk, IfOk, IfErr, length};
 ghost use Rattle.std.specs.Prelude.{slice_get, slice_set};
 ghost use Rattle.bitvec.specs.BitSpan.{span_of};
 ghost use Rattle.std.specs.Prelude.{pos, ◌≤◌, ◌+ℤ◌, ◌≤ℤ◌};
@@ -26,7 +26,7 @@ use std::marker::PhantomData;
 /// ```
 /// let mut memory = [0x00u8, 0xFF];
 /// let span: BitSpan<u8, Msb0> = BitSpan::new(0, BitIdx::new_unchecked(4), 8).unwrap();
-/// let mut slice = BitSliceMut::new(span, &mut memory).ok_or("outside")?;
+/// let mut slice = BitSliceMut::new(span, &mut memory).map_err(|_| "outside")?;
 /// slice.reverse();
 /// drop(slice);
 /// assert_eq!(rt; memory, [0x0F, 0x0F]);
@@ -97,18 +97,23 @@ impl<'a, R: BitRegister, O: BitOrder<R>> BitSliceMut<'a, R, O> {
         }
     }
 
-    /// The bits of a span in a memory, and `None` exactly where the span does not lie in it.
-    pub fn new(span: BitSpan<R, O>, memory: &'a mut [R]) -> Option<Self>
-        ensures accepted { IsSome result ↔ Fits R.BITS (span_of span) (length memory.old) }
-        ensures reference { IfSome result (λ slice. (lent_memory slice).ghost_name
+    /// The bits of a span in a memory. It refuses exactly where the span does not lie in it, and
+    /// then gives the memory back as it was.
+    pub fn new(span: BitSpan<R, O>, memory: &'a mut [R]) -> Result<Self, &'a mut [R]>
+        ensures accepted { IsOk result ↔ Fits R.BITS (span_of span) (length memory.old) }
+        ensures reference { IfOk result (λ slice. (lent_memory slice).ghost_name
             ≡ memory.entry.ghost_name) }
-        ensures memory { IfSome result (λ slice. (lent_memory slice).now ≡ memory.old) }
-        ensures span { IfSome result (λ slice. lent_span slice ≡ span_of span) }
+        ensures memory { IfOk result (λ slice. (lent_memory slice).now ≡ memory.old) }
+        ensures span { IfOk result (λ slice. lent_span slice ≡ span_of span) }
+
+        // What is given back is the loan itself, and its words stay.
+        ensures back { IfErr result (λ rest. rest.ghost_name ≡ memory.entry.ghost_name) }
+        ensures kept { IfErr result (λ rest. rest.now ≡ memory.old) }
     {
         if span.fits(memory.len()) {
-            Some(Self::new_unchecked(span, memory))
+            Ok(Self::new_unchecked(span, memory))
         } else {
-            None
+            Err(memory)
         }
     }
 

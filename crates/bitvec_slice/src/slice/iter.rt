@@ -1,8 +1,10 @@
 //! The bits of a slice one after the other, from both ends.
 
-ghost use Rattle.std.specs.Prelude.{◌≡◌, ⊤, ◌^◌, ◌<◌, Some, length, IfSome};
+ghost use Rattle.std.specs.Prelude.{◌≡◌, ⊤, ◌^◌, ◌<◌, ◌-◌, Some, length, IfSome, MatchOption};
 ghost use Rattle.std.specs.Iterator.{YieldsFirst, YieldsLast, item_count, at_most, UpTo};
+ghost use Rattle.std.specs.Iterator.{MakesProgress};
 ghost use Rattle.std.specs.Iterator.SizeHint.{IsWithinCount};
+ghost use Rattle.bitvec_slice.specs.SpanStretch.{stretch_of};
 
 use crate::slice::BitSlice;
 use bitvec::mem::BitRegister;
@@ -38,12 +40,14 @@ impl<'a, R: BitRegister, O: BitOrder<R>> Clone for Iter<'a, R, O> {
 }
 
 impl<'a, R: BitRegister, O: BitOrder<R>> Iter<'a, R, O> {
-    ghost use Rattle.bitvec_slice.specs.BitSlice.{bits_of};
-    ghost use Rattle.bitvec_slice.specs.Iter.{rest_of};
+    ghost use Rattle.bitvec_slice.specs.BitSlice.{slice_memory, slice_span, bits_of};
+    ghost use Rattle.bitvec_slice.specs.Iter.{rest_memory, rest_span, rest_of};
 
-    /// The bits that are still to come.
+    /// The bits that are still to come, where they lie.
     pub fn as_bitslice(&self) -> BitSlice<'a, R, O>
-        ensures { bits_of result ≡ rest_of self.now }
+        ensures memory { slice_memory result ≡ rest_memory self.now }
+        ensures span { slice_span result ≡ rest_span self.now }
+        ensures bits { bits_of result ≡ rest_of self.now }
     {
         self.rest
     }
@@ -52,14 +56,23 @@ impl<'a, R: BitRegister, O: BitOrder<R>> Iter<'a, R, O> {
 impl<'a, R: BitRegister, O: BitOrder<R>> Iterator for Iter<'a, R, O> {
     type Item = bool;
 
-    ghost use Rattle.bitvec_slice.specs.Iter.{rest_of};
+    ghost use Rattle.bitvec_slice.specs.Iter.{rest_memory, rest_span, rest_of};
 
     ghost next_gives = { YieldsFirst rest_of };
 
     ghost remaining = { item_count rest_of };
 
     /// Takes the first of the bits that are left.
-    fn next(&mut self) -> Option<bool> {
+    fn next(&mut self) -> Option<bool>
+        ensures steps { YieldsFirst rest_of self.old result self.new }
+        ensures goes { MakesProgress (λ _. ⊤) (item_count rest_of) self.old result self.new }
+
+        // What is left lies in the same memory, one bit further on.
+        ensures memory { rest_memory self.new ≡ rest_memory self.old }
+        ensures span { let left = rest_span self.old
+            in MatchOption result (rest_span self.new ≡ left)
+            (λ _. rest_span self.new ≡ stretch_of R.BITS left 1 left.len) }
+    {
         let bit = self.rest.first()?;
         let (_, behind) = self.rest.split_at(1);
         self.rest = behind;
@@ -77,12 +90,21 @@ impl<'a, R: BitRegister, O: BitOrder<R>> Iterator for Iter<'a, R, O> {
 }
 
 impl<'a, R: BitRegister, O: BitOrder<R>> DoubleEndedIterator for Iter<'a, R, O> {
-    ghost use Rattle.bitvec_slice.specs.Iter.{rest_of};
+    ghost use Rattle.bitvec_slice.specs.Iter.{rest_memory, rest_span, rest_of};
 
     ghost next_back_gives = { YieldsLast rest_of };
 
     /// Takes the last of the bits that are left.
-    fn next_back(&mut self) -> Option<bool> {
+    fn next_back(&mut self) -> Option<bool>
+        ensures steps { YieldsLast rest_of self.old result self.new }
+        ensures goes { MakesProgress (λ _. ⊤) (item_count rest_of) self.old result self.new }
+
+        // What is left lies in the same memory, from the same bit on.
+        ensures memory { rest_memory self.new ≡ rest_memory self.old }
+        ensures span { let left = rest_span self.old
+            in MatchOption result (rest_span self.new ≡ left)
+            (λ _. rest_span self.new ≡ record left { len = left.len - 1 }) }
+    {
         let bit = self.rest.last()?;
         let (before, _) = self.rest.split_at(self.rest.len() - 1);
         self.rest = before;
@@ -100,16 +122,20 @@ impl<'a, R: BitRegister, O: BitOrder<R>> ExactSizeIterator for Iter<'a, R, O> {
 impl<'a, R: BitRegister, O: BitOrder<R>> FusedIterator for Iter<'a, R, O> {}
 
 impl<'a, R: BitRegister, O: BitOrder<R>> BitSlice<'a, R, O> {
-    ghost use Rattle.bitvec_slice.specs.BitSlice.{bits_of};
-    ghost use Rattle.bitvec_slice.specs.Iter.{rest_of, GivesBitsInOrder, GivesBitsInReverse};
+    ghost use Rattle.bitvec_slice.specs.BitSlice.{slice_memory, slice_span, bits_of};
+    ghost use Rattle.bitvec_slice.specs.Iter.{rest_memory, rest_span, rest_of};
+    ghost use Rattle.bitvec_slice.specs.Iter.{GivesBitsInOrder, GivesBitsInReverse};
 
     /// Its bits as truth values, in order or from the back.
     pub fn iter(&self) -> Iter<'a, R, O>
-        // All the bits are still to come.
+        // All the bits are still to come, where they lie.
         ensures rest { rest_of result ≡ bits_of self.now }
         ensures bound { length (rest_of result) < 2 ^ 64 }
+        ensures memory { rest_memory result ≡ slice_memory self.now }
+        ensures span { rest_span result ≡ slice_span self.now }
 
-        // It gives them in order, or from the back.
+        // Facts of the type, and not of this iterator alone: each run of calls gives the bits that
+        // the iterator had left that it began with, in order, or from the back.
         ensures runs { GivesBitsInOrder result }
         ensures runs_back { GivesBitsInReverse result }
     {
@@ -122,11 +148,13 @@ impl<'a, R: BitRegister, O: BitOrder<R>> IntoIterator for BitSlice<'a, R, O> {
 
     type IntoIter = Iter<'a, R, O>;
 
-    ghost use Rattle.bitvec_slice.specs.BitSlice.{bits_of};
-    ghost use Rattle.bitvec_slice.specs.Iter.{rest_of, GivesBitsInOrder, GivesBitsInReverse};
+    ghost use Rattle.bitvec_slice.specs.BitSlice.{slice_memory, slice_span, bits_of};
+    ghost use Rattle.bitvec_slice.specs.Iter.{rest_memory, rest_span, rest_of};
+    ghost use Rattle.bitvec_slice.specs.Iter.{GivesBitsInOrder, GivesBitsInReverse};
 
     ghost into_iter_gives = { λ slice it. (rest_of it ≡ bits_of slice)
-        × (length (rest_of it) < 2 ^ 64) × GivesBitsInOrder it × GivesBitsInReverse it };
+        × (length (rest_of it) < 2 ^ 64) × GivesBitsInOrder it × GivesBitsInReverse it
+        × (rest_memory it ≡ slice_memory slice) × (rest_span it ≡ slice_span slice) };
 
     fn into_iter(self) -> Iter<'a, R, O> {
         self.iter()

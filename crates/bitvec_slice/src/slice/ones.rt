@@ -3,13 +3,14 @@
 //! Each gives its indices in rising order from the front, and in falling order from the back. Taken
 //! from both ends in any mixture it gives each index once, and then `None` for good.
 
-ghost use Rattle.std.specs.Prelude.{◌≡◌, ◌≤◌, length};
+ghost use Rattle.std.specs.Prelude.{◌≡◌, ⊤, ◌≤◌, length};
 ghost use Rattle.bitvec_slice.specs.BitSlice.{slice_len, bits_of};
 ghost use Rattle.bitvec_slice.specs.Bits.{ones_between, zeros_between};
 
 use crate::slice::BitSlice;
 use bitvec::mem::BitRegister;
 use bitvec::order::BitOrder;
+use std::alloc::AllocError;
 use std::iter::FusedIterator;
 
 /// The indices of the bits that are one, in rising order, from [`BitSlice::iter_ones`].
@@ -33,6 +34,20 @@ pub struct IterOnes<'a, R: BitRegister, O: BitOrder<R>> {
     pub ghost inside: { end ≤ slice_len slice },
 }
 
+impl<'a, R: BitRegister, O: BitOrder<R>> Clone for IterOnes<'a, R, O> {
+    ghost is_clone = { λ it copy. copy ≡ it };
+
+    ghost is_infallible = { λ _. ⊤ };
+
+    fn clone(&self) -> Result<Self, AllocError> {
+        Ok(IterOnes {
+            slice: self.slice,
+            next: self.next,
+            end: self.end,
+        })
+    }
+}
+
 /// The indices of the bits that are zero, in rising order, from [`BitSlice::iter_zeros`].
 ///
 /// # Examples
@@ -50,6 +65,20 @@ pub struct IterZeros<'a, R: BitRegister, O: BitOrder<R>> {
     next: usize,
     end: usize,
     pub ghost inside: { end ≤ slice_len slice },
+}
+
+impl<'a, R: BitRegister, O: BitOrder<R>> Clone for IterZeros<'a, R, O> {
+    ghost is_clone = { λ it copy. copy ≡ it };
+
+    ghost is_infallible = { λ _. ⊤ };
+
+    fn clone(&self) -> Result<Self, AllocError> {
+        Ok(IterZeros {
+            slice: self.slice,
+            next: self.next,
+            end: self.end,
+        })
+    }
 }
 
 impl<'a, R: BitRegister, O: BitOrder<R>> BitSlice<'a, R, O> {

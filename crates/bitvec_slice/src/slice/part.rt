@@ -1,7 +1,7 @@
 //! Slices of a whole memory, and the parts of a slice.
 
-ghost use Rattle.std.specs.Prelude.{◌≡◌, pos, ◌*◌, ◌-◌, ◌^◌, ◌<◌, ◌≤◌, ◌↔◌, IsOk, IfOk, Err, min};
-ghost use Rattle.std.specs.Prelude.{IsSome, IfSome, MatchOption, length, map, take, drop};
+ghost use Rattle.std.specs.Prelude.{◌≡◌, pos, ◌*◌, ◌-◌, ◌^◌, ◌<◌, ◌≤◌, ◌↔◌, IsOk, IfOk, IfErr};
+ghost use Rattle.std.specs.Prelude.{Err, min, IsSome, IfSome, MatchOption, length, map, take, drop};
 ghost use Rattle.std.specs.Prelude.{slice_range};
 ghost use Rattle.bitvec.specs.BitSpan.{span_of};
 ghost use Rattle.bitvec.specs.Memory.{memory_bits};
@@ -140,12 +140,16 @@ impl<'a, R: BitRegister, O: BitOrder<R>> BitSliceMut<'a, R, O> {
 
     /// Every bit of a memory.
     ///
-    /// It refuses as [`all`](BitSlice::all) of a [`BitSlice`] does.
-    pub fn all(memory: &'a mut [R]) -> Result<Self, BitSpanError<R>>
+    /// It refuses as [`all`](BitSlice::all) of a [`BitSlice`] does, and then gives the memory back
+    /// as it was.
+    pub fn all(memory: &'a mut [R]) -> Result<Self, (BitSpanError<R>, &'a mut [R])>
         ensures accepted { IsOk result ↔ (length memory.old * R.BITS ≤ region_max_bits) }
         ensures refused { let bits = length memory.old * R.BITS
-            in (result ≡ Err (BitSpanError.TooLong (min bits usize.MAX)))
-            ↔ (region_max_bits < bits) }
+            in IfErr result (λ it. it.0 ≡ BitSpanError.TooLong (min bits usize.MAX)) }
+
+        // What is given back is the loan itself, and its words stay.
+        ensures back { IfErr result (λ it. it.1.ghost_name ≡ memory.entry.ghost_name) }
+        ensures kept { IfErr result (λ it. it.1.now ≡ memory.old) }
         ensures reference { IfOk result (λ slice. (lent_memory slice).ghost_name
             ≡ memory.entry.ghost_name) }
         ensures memory { IfOk result (λ slice. (lent_memory slice).now ≡ memory.old) }
@@ -154,7 +158,9 @@ impl<'a, R: BitRegister, O: BitOrder<R>> BitSliceMut<'a, R, O> {
         ensures bits { IfOk result (λ slice. lent_bits slice
             ≡ memory_bits R.BITS O.at_of (map R.number memory.old)) }
     {
-        let span = span_of_all(memory.len())?;
-        Ok(Self::new_unchecked(span, memory))
+        match span_of_all(memory.len()) {
+            Ok(span) => Ok(Self::new_unchecked(span, memory)),
+            Err(error) => Err((error, memory)),
+        }
     }
 }
