@@ -1,8 +1,8 @@
 -- The numbers of words.
-use Rattle.std.proofs.Common.{◌≡◌, ℕ, ◌^◌, ◌<◌, ◌≤◌, List, [], ◌∷◌, ◌++◌, inl, inr, length, get_or, map, take, take_all, append_assoc, refl, sym, subst, ap, ◌∙◌, arith}
+use Rattle.std.proofs.Common.{◌≡◌, ℕ, zero, suc, ◌^◌, ◌<◌, ◌≤◌, List, [], ◌∷◌, ◌++◌, inl, inr, length, get_or, map, take, take_all, append_assoc, refl, sym, subst, ap, ◌∙◌, arith}
 use Rattle.std.proofs.lemmas.Bool.{cases_lt}
 use Rattle.std.proofs.Math.Pow.{pow_mono}
-use Rattle.std.specs.Prelude.{codes}
+use Rattle.std.specs.Prelude.{codes, IsSomeAnd, slice_get}
 use Rattle.std.specs.List.{All, flat_map}
 use Rattle.std.specs.Str.Parse.{IsNumeral, digits_value}
 use Rattle.std.proofs.lemmas.List.{map-append}
@@ -33,6 +33,12 @@ pub no_memory : (bits : ℕ) (text piece : List ℕ) (k : ℕ) → (text ≡ cod
 no_memory bits text piece k some place wrong numbers (inl p) = some p.0
 no_memory bits text piece k some place wrong numbers (inr p) =
     wrong (subst (IsWordText bits) (sym place.1) (All-get_or (IsWordText bits) (pieces text) k piece place.0 p.0))
+
+-- what holds of an element read, and of the first where others were read before, holds of the first
+pub first_of : {X : Type 0} (P : X → Type 0) (xs : List X) (x : X) (k : ℕ) → (k < length xs) × (x ≡ get_or xs k x) → P x → (0 < k → IsSomeAnd (slice_get xs 0) P) → IsSomeAnd (slice_get xs 0) P
+first_of P [] x k place here before = absurd (omega (arith, place.0))
+first_of P (y ∷ ys) x zero place here before = subst P place.1 here
+first_of P (y ∷ ys) x (suc k) place here before = before (omega arith)
 
 -- a word more
 pub words_more : {X R : Type 0} (bits : ℕ) (number : R → ℕ) (now : X → List ℕ) (ys : List X) (y : X) (ws vs : List R) (w : R) → All (IsWordText bits) (map now ys) → map number ws ≡ map (digits_value 16) (map now ys) → IsWordText bits (now y) → number w ≡ digits_value 16 (now y) → vs ≡ ws ++ w ∷ [] → All (IsWordText bits) (map now (ys ++ y ∷ [])) × (map number vs ≡ map (digits_value 16) (map now (ys ++ y ∷ [])))

@@ -1,5 +1,5 @@
 -- Memories as text.
-use Rattle.std.specs.Prelude.{◌≡◌, ℕ, ◌<◌, ◌^◌, ◌⊎◌, ◌==◌, false, List, [], ◌∷◌, ◌++◌, map, codes}
+use Rattle.std.specs.Prelude.{◌≡◌, ℕ, ◌<◌, ◌^◌, ◌⊎◌, ◌==◌, false, List, [], ◌∷◌, ◌++◌, map, take, codes}
 use Rattle.std.specs.List.{All, flat_map, slice_split}
 use Rattle.std.specs.Str.Parse.{IsNumeral, digits_value}
 use Rattle.bitvec.specs.Numeral.{numeral}
@@ -26,3 +26,7 @@ pieces text = slice_split (λ b. b == 44) text
 abbrev pub IsMemoryText : ℕ → List ℕ → List ℕ → Type 0
 IsMemoryText bits text numbers =
     ((text ≡ codes "-") × (numbers ≡ [])) ⊎ (All (IsWordText bits) (pieces text) × (numbers ≡ map (digits_value 16) (pieces text)))
+
+-- behind an old text stands a front of another, perhaps all of it or none
+abbrev pub AppendsFront : List ℕ → List ℕ → List ℕ → Type 0
+AppendsFront old new text = (n : ℕ) × (new ≡ old ++ take n text)

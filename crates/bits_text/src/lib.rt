@@ -6,4 +6,6 @@ pub mod hilo;
 pub mod names;
 pub mod number;
 pub mod places;
+#[cfg(test)]
+mod tests;
 pub mod words;

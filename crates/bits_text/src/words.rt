@@ -1,38 +1,28 @@
 //! Memories as text: hexadecimal numbers with commas between them, or `-` for none.
 
-ghost use Rattle.std.specs.Prelude.{◌≡◌, ℕ, List, ◌++◌, map, string_bytes, IfOk, MatchOption, OnOk};
-ghost use Rattle.std.specs.Prelude.{Some};
-ghost use Rattle.bits_text.specs.Words.{IsMemoryText, hexadecimal, memory_text};
+ghost use Rattle.std.specs.Prelude.{◌≡◌, ℕ, ◌<◌, List, ◌∷◌, ◌++◌, map, string_bytes, slice_get};
+ghost use Rattle.std.specs.Prelude.{false, IfOk, OnOk, OnErr, MatchOption, IsSomeAnd};
+ghost use Rattle.std.specs.Fmt.{digit_glyph};
+ghost use Rattle.bits_text.specs.Words.{AppendsFront, IsMemoryText, IsWordText, hexadecimal};
+ghost use Rattle.bits_text.specs.Words.{memory_text, pieces};
 
 use crate::number::number;
 use bitvec::mem::BitRegister;
-use bitvec_mem::numeral::write_numeral;
 use std::alloc::{AllocError, Allocator};
-use std::fmt;
-
-// A number in hexadecimal. The format `{:x}` of std says what it writes of 64 bits at most.
-#[derive(Clone, Copy)]
-struct Hexadecimal(u128);
-
-impl fmt::Display for Hexadecimal {
-    ghost output = { λ h. Some (hexadecimal h.0) };
-
-    ghost styled_output = { λ h _. Some (hexadecimal h.0) };
-
-    fn fmt<W: fmt::Write>(&self, f: &mut fmt::Formatter<W>) -> fmt::Result {
-        write_numeral(f, self.0, 16, false, 1)
-    }
-}
 
 /// The words of a text; `None` where it is no such list, or where a number does not fit the
 /// register.
+///
+/// An `Err` says that memory was refused; it comes only where the text begins with a word.
 pub fn words_of<'a, R: BitRegister, A: Allocator>(
     alloc: &'a A,
     text: &str,
 ) -> Result<Option<Vec<R, &'a A>>, AllocError>
-    ensures { IfOk result (λ words. MatchOption words
+    ensures ok { IfOk result (λ words. MatchOption words
         ((numbers : List ℕ) → ¬ IsMemoryText R.BITS text.now numbers)
         (λ v. IsMemoryText R.BITS text.now (map R.number v.items))) }
+    ensures err { OnErr result
+        (IsSomeAnd (slice_get (pieces text.now) 0) (IsWordText R.BITS)) }
 {
     let mut words = Vec::new(alloc);
     if text == "-" {
@@ -50,22 +40,58 @@ pub fn words_of<'a, R: BitRegister, A: Allocator>(
     Ok(Some(words))
 }
 
-/// Writes the words of a memory.
+/// Writes the words of a memory behind a text.
+///
+/// Where memory is refused, a front of what was to be written stands there.
 pub fn write_words<R: BitRegister, A: Allocator>(
     text: &mut String<A>,
     memory: &[R],
 ) -> Result<(), AllocError>
-    ensures { OnOk result (string_bytes text.new
+    ensures ok { OnOk result (string_bytes text.new
         ≡ string_bytes text.old ++ memory_text (map R.number memory.now)) }
+    ensures err { OnErr result (AppendsFront (string_bytes text.old) (string_bytes text.new)
+        (memory_text (map R.number memory.now))) }
 {
     let Some((first, rest)) = memory.split_first() else {
         return text.push_str("-");
     };
-    let first = Hexadecimal(first.to_u128());
-    write!(text, "{first}")?;
+    write_number(text, first.to_u128())?;
     for word in rest {
-        let word = Hexadecimal(word.to_u128());
-        write!(text, ",{word}")?;
+        write_next(text, word.to_u128())?;
     }
     Ok(())
+}
+
+// Writes a comma and a number.
+fn write_next<A: Allocator>(text: &mut String<A>, n: u128) -> Result<(), AllocError>
+    ensures ok { OnOk result (string_bytes text.new
+        ≡ string_bytes text.old ++ 44 ∷ hexadecimal n) }
+    ensures err { OnErr result (AppendsFront (string_bytes text.old) (string_bytes text.new)
+        (44 ∷ hexadecimal n)) }
+{
+    text.push_str(",")?;
+    write_number(text, n)
+}
+
+// Writes a number in hexadecimal, the highest digit first. Each is pushed, since `push` says that
+// the text stays where memory is refused, and `write!` does not.
+fn write_number<A: Allocator>(text: &mut String<A>, n: u128) -> Result<(), AllocError>
+    ensures ok { OnOk result (string_bytes text.new ≡ string_bytes text.old ++ hexadecimal n) }
+    ensures err { OnErr result (AppendsFront (string_bytes text.old) (string_bytes text.new)
+        (hexadecimal n)) }
+{
+    if n >= 16 {
+        write_number(text, n / 16)?;
+    }
+    text.push(digit((n % 16) as u8))
+}
+
+// The digit of a number below 16.
+fn digit(d: u8) -> char
+    requires { d < 16 }
+    ensures value { result ≡ digit_glyph false d }
+    ensures ascii { result < 128 }
+{
+    let code = if d < 10 { b'0' + d } else { b'a' + (d - 10) };
+    code as char
 }

@@ -2,11 +2,13 @@ use Rattle.std.proofs.Common.{◌≡◌, ◌<◌, ◌^◌, ◌≤◌, inr, true,
 use Rattle.std.specs.Prelude.{codes}
 use Rattle.std.proofs.lemmas.Iterator.Consumers.{YieldsList-turn, YieldsList-end, YieldsList-at}
 use Rattle.std.proofs.lemmas.Iterator.Splits.{YieldsList-from_str_split}
-use Rattle.bits_text.proofs.WordLemmas.{no_number, no_memory, too_large, fits, words_more}
+use Rattle.bits_text.proofs.WordLemmas.{no_number, no_memory, too_large, fits, first_of, words_more}
+use Rattle.bits_text.proofs.FrontLemmas.{on_err}
+use Rattle.bits_text.specs.Words.{IsWordText, pieces}
 use Rattle.bits_text.proofs.words.words_of.Goals as goal
 
-pub returns-in_default : goal.returns-in_default
-returns-in_default g c =
+pub returns-in_default-clause-ok : goal.returns-in_default-clause-ok
+returns-in_default-clause-ok g c =
     let s = c.split-word-items.ensures in
     let road = YieldsList-at c.into_iter-word-iterator.ensures.into_iter_gives (YieldsList-from_str_split {s = c.split-word-items.result} 44 c.args.text.now (lit< tt) s.text s.has_more s.pattern) in
     let place = YieldsList-turn road c.loop-word.yielded _ c.loop-word.yielded_by _ _ c.in-Some.word c.in-Some.is c.next.ensures.steps in
@@ -14,8 +16,8 @@ returns-in_default g c =
     let some : c.args.text.now ≡ codes "-" → ⊥ = search rules in
     no_memory g.R.BitRegister.BITS c.args.text.now c.in-Some.word.now _ some place wrong
 
-pub returns-in_default-from_u128 : goal.returns-in_default-from_u128
-returns-in_default-from_u128 g c =
+pub returns-in_default-from_u128-clause-ok : goal.returns-in_default-from_u128-clause-ok
+returns-in_default-from_u128-clause-ok g c =
     let s = c.split-word-items.ensures in
     let road = YieldsList-at c.into_iter-word-iterator.ensures.into_iter_gives (YieldsList-from_str_split {s = c.split-word-items.result} 44 c.args.text.now (lit< tt) s.text s.has_more s.pattern) in
     let place = YieldsList-turn road c.loop-word.yielded _ c.loop-word.yielded_by _ _ c.in-Some.word c.in-Some.is c.next.ensures.steps in
@@ -31,11 +33,29 @@ loop-word-preserved g c =
     let small : c.in-Some-number.n < 2 ^ g.R.BitRegister.BITS =
     fits c.in-Some-number.n g.R.BitRegister.BITS (λ l. let none : true ≡ false = c.in-Some-from_u128.ensures.refused.1 l in cc) in
     let more = words_more g.R.BitRegister.BITS g.R.BitRegister.number (λ x. x.now) c.loop-word.yielded c.in-Some.word c.loop-word.words.items c.push.new.self.items c.in-Some-from_u128.word i.read i.same (n.0.0, rw n.1 at small) (rw n.1 at c.in-Some-from_u128.ensures.made) c.in_ok-push.ensures.items in
-    record { read = more.0; same = more.1 }
+    let s = c.split-word-items.ensures in
+    let road = YieldsList-at c.into_iter-word-iterator.ensures.into_iter_gives (YieldsList-from_str_split {s = c.split-word-items.result} 44 c.args.text.now (lit< tt) s.text s.has_more s.pattern) in
+    let place = YieldsList-turn road c.loop-word.yielded _ c.loop-word.yielded_by _ _ c.in-Some.word c.in-Some.is c.next.ensures.steps in
+    record {
+      read = more.0;
+      begun = λ _. first_of (IsWordText g.R.BitRegister.BITS) (pieces c.args.text.now) c.in-Some.word.now _ place (n.0.0, rw n.1 at small) i.begun;
+      same = more.1;
+    }
 
-pub returns : goal.returns
-returns g c =
+pub returns-clause-ok : goal.returns-clause-ok
+returns-clause-ok g c =
     let s = c.split-word-items.ensures in
     let road = YieldsList-at c.into_iter-word-iterator.ensures.into_iter_gives (YieldsList-from_str_split {s = c.split-word-items.result} 44 c.args.text.now (lit< tt) s.text s.has_more s.pattern) in
     let all = YieldsList-end road c.loop-word.yielded _ c.loop-word.yielded_by _ _ c.in-None.is c.next.ensures.steps in
     inr (rw all.0 at c.loop-word.invariant.read, rw all.0 at c.loop-word.invariant.same)
+
+pub returns-in_err-push-clause-err : goal.returns-in_err-push-clause-err
+returns-in_err-push-clause-err g c =
+    let i = c.loop-word.invariant in
+    let n = c.in-Some-number.ensures in
+    let small : c.in-Some-number.n < 2 ^ g.R.BitRegister.BITS =
+    fits c.in-Some-number.n g.R.BitRegister.BITS (λ l. let none : true ≡ false = c.in-Some-from_u128.ensures.refused.1 l in cc) in
+    let s = c.split-word-items.ensures in
+    let road = YieldsList-at c.into_iter-word-iterator.ensures.into_iter_gives (YieldsList-from_str_split {s = c.split-word-items.result} 44 c.args.text.now (lit< tt) s.text s.has_more s.pattern) in
+    let place = YieldsList-turn road c.loop-word.yielded _ c.loop-word.yielded_by _ _ c.in-Some.word c.in-Some.is c.next.ensures.steps in
+    on_err c.from_residual.result (first_of (IsWordText g.R.BitRegister.BITS) (pieces c.args.text.now) c.in-Some.word.now _ place (n.0.0, rw n.1 at small) i.begun)
