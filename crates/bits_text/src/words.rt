@@ -1,13 +1,13 @@
 //! Memories as text: hexadecimal numbers with commas between them, or `-` for none.
 
-ghost use Rattle.std.specs.Prelude.{◌≡◌, ℕ, ◌<◌, List, ◌∷◌, ◌++◌, map, string_bytes, slice_get};
-ghost use Rattle.std.specs.Prelude.{false, IfOk, OnOk, OnErr, MatchOption, IsSomeAnd};
-ghost use Rattle.std.specs.Fmt.{digit_glyph};
+ghost use Rattle.std.specs.Prelude.{◌≡◌, ℕ, List, ◌∷◌, ◌++◌, map, string_bytes, slice_get};
+ghost use Rattle.std.specs.Prelude.{IfOk, OnOk, OnErr, MatchOption, IsSomeAnd};
 ghost use Rattle.bits_text.specs.Words.{AppendsFront, IsMemoryText, IsWordText, hexadecimal};
 ghost use Rattle.bits_text.specs.Words.{memory_text, pieces};
 
 use crate::number::number;
 use bitvec::mem::BitRegister;
+use bitvec_mem::numeral::numeral_in;
 use std::alloc::{AllocError, Allocator};
 
 /// The words of a text; `None` where it is no such list, or where a number does not fit the
@@ -73,25 +73,13 @@ fn write_next<A: Allocator>(text: &mut String<A>, n: u128) -> Result<(), AllocEr
     write_number(text, n)
 }
 
-// Writes a number in hexadecimal, the highest digit first. Each is pushed, since `push` says that
-// the text stays where memory is refused, and `write!` does not.
+// Writes a number in hexadecimal. Its digits are pushed at once, since `push_str` says that the text
+// stays where memory is refused, and `write!` does not.
 fn write_number<A: Allocator>(text: &mut String<A>, n: u128) -> Result<(), AllocError>
     ensures ok { OnOk result (string_bytes text.new ≡ string_bytes text.old ++ hexadecimal n) }
     ensures err { OnErr result (AppendsFront (string_bytes text.old) (string_bytes text.new)
         (hexadecimal n)) }
 {
-    if n >= 16 {
-        write_number(text, n / 16)?;
-    }
-    text.push(digit((n % 16) as u8))
-}
-
-// The digit of a number below 16.
-fn digit(d: u8) -> char
-    requires { d < 16 }
-    ensures value { result ≡ digit_glyph false d }
-    ensures ascii { result < 128 }
-{
-    let code = if d < 10 { b'0' + d } else { b'a' + (d - 10) };
-    code as char
+    let mut buffer = [0u8; 128];
+    text.push_str(numeral_in(n, 16, false, 1, &mut buffer))
 }

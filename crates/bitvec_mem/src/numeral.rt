@@ -45,8 +45,9 @@ fn encode(n: u128, base: u8, upper: bool, least: usize, out: &mut [u8; 128]) -> 
     at
 }
 
-// The digits of a number in the base, with zeros before them up to `least` digits.
-fn numeral_in(n: u128, base: u8, upper: bool, least: usize, buffer: &mut [u8; 128]) -> &str
+/// The digits of a number in the base, highest first, with zeros before them up to `least` digits;
+/// `upper` chooses the letters' case. They stand in the buffer that is handed in. Our own.
+pub fn numeral_in(n: u128, base: u8, upper: bool, least: usize, buffer: &mut [u8; 128]) -> &str
     requires low { 2 ≤ base }
     requires high { base ≤ 16 }
     requires short { least ≤ 128 }
