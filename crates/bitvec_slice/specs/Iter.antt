@@ -18,8 +18,8 @@ rest_span it = slice_span it.rest
 abbrev pub rest_of : {R O : Type 0} {a b c d e f g h i : _} → Iter R O a b c d e f g h i → List Bool
 rest_of it = bits_of it.rest
 
--- A fact of the type of an iterator, and not of the one that is named: whichever iterator of this type a run of calls begins with, the
--- run gives the bits that this one had left, in order.
+-- A fact of the type of an iterator, and not of the one that is named: whichever one of this type a run of calls begins
+-- with, the run gives the bits that it had left, in order.
 abbrev pub GivesBitsInOrder : {R O : Type 0} {a b c d e f g h i : _} → Iter R O a b c d e f g h i → Type 0
 GivesBitsInOrder {R = R} {O = O} {a = a} {b = b} {c = c} {d = d} {e = e} {f = f} {g = g} {h = h} {i = i} it = YieldsInOrder (YieldsFirst (rest_of {R = R} {O = O} {a = a} {b = b} {c = c} {d = d} {e = e} {f = f} {g = g} {h = h} {i = i})) rest_of
 

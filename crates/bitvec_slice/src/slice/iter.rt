@@ -134,8 +134,8 @@ impl<'a, R: BitRegister, O: BitOrder<R>> BitSlice<'a, R, O> {
         ensures memory { rest_memory result ≡ slice_memory self.now }
         ensures span { rest_span result ≡ slice_span self.now }
 
-        // Facts of the type, and not of this iterator alone: each run of calls gives the bits that
-        // the iterator had left that it began with, in order, or from the back.
+        // Facts of the type, and not of this iterator alone: whichever one a run of calls begins
+        // with, the run gives the bits that it had left, in order, or from the back.
         ensures runs { GivesBitsInOrder result }
         ensures runs_back { GivesBitsInReverse result }
     {

@@ -5,13 +5,13 @@ use Rattle.bitvec_slice.specs.BitSliceMut.{lent_memory, lent_span}
 use Rattle.bitvec_slice.proofs.SlicePartLemmas.{list_of_whole}
 use Rattle.bitvec_slice.proofs.slice.bit_slice_mut.BitSliceMut.all.Goals as goal
 
-pub returns-clause-bits : goal.returns-clause-bits
-returns-clause-bits g c =
+pub returns-in-Ok-clause-bits : goal.returns-in-Ok-clause-bits
+returns-in-Ok-clause-bits g c =
     let width = g.R.BitRegister.BITS in
     let at = g.O.BitAt.at_of in
     let number = g.R.BitRegister.number in
     let slice = c.new_unchecked.result in
     let words = (lent_memory slice).now in
     let same = c.new_unchecked.ensures.memory in
-    list_of_whole width at (lent_span slice) (map number words) _ (c.new_unchecked.ensures.span ∙ c.in_ok-span.ensures.span) (length-map words number ∙ ap length same)
+    list_of_whole width at (lent_span slice) (map number words) _ (c.new_unchecked.ensures.span ∙ c.in-Ok.ensures.span) (length-map words number ∙ ap length same)
     ∙ ap (λ ws. memory_bits width at (map number ws)) same
