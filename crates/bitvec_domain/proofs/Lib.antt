@@ -13,6 +13,7 @@ pub mod LoanLemmas
 pub mod PartLemmas
 pub mod PlacedLemmas
 pub mod PointerLemmas
+pub mod RestLemmas
 pub mod SameSpans
 pub mod SliceLemmas
 pub mod SplitLemmas

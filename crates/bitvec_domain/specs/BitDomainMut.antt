@@ -1,13 +1,13 @@
 -- What a `BitDomainMut` shows.
-use Rattle.std.specs.Prelude.{ℕ, List, Option, Some, None, map}
+use Rattle.std.specs.Prelude.{ℕ, true, List, Option, Some, None, map}
 use Rattle.std.specs.Borrow.{Fml, GName, RattleType, MutBor}
 use Rattle.bitvec_domain.specs.declared.domain.bit_words_mut.BitWordsMut.{BitWordsMut}
 use Rattle.bitvec_domain.specs.declared.domain.bit_domain_mut.BitDomainMut.{BitDomainMut}
 pub use Rattle.bitvec_domain.specs.declared.domain.bit_domain_mut.BitDomainMut.TheVariants.{Enclave, Region}
-use Rattle.bitvec_domain.specs.Lending.{LendsNamed}
+use Rattle.bitvec_domain.specs.Lending.{LendsNamed, LoansRestIfNone}
 use Rattle.bitvec_domain.specs.Span.{Span}
 use Rattle.bitvec_domain.specs.Loans.{Loan, has_head, has_tail, words_before, body_words}
-use Rattle.bitvec_domain.specs.BitLoans.{BitLoans, names_if}
+use Rattle.bitvec_domain.specs.BitLoans.{BitLoans, names_if, words_of_bit_loans}
 use Rattle.bitvec_domain.specs.BitParts.{WordBits, BitParts, bit_enclave, bit_region}
 use Rattle.bitvec_domain.specs.Stretch.{Stretch, stretch_bits}
 use Rattle.bitvec_domain.specs.BitWordsMut.{words_memory, stretch_in}
@@ -38,3 +38,7 @@ bit_loans_of (Region head body tail) = (words_loan head, Some (words_loan body, 
 -- s ends as the last words behind the loans of the stretches of a span's domain, one behind the other, and where there is no head or no tail its words are as they were
 abbrev pub LendsBits : (R : RattleType) {O : Type 0} {a b c d e f g : _} → ℕ → Span → MutBor (List R.Denot) → BitDomainMut R.Denot O a b c d e f g → Fml
 LendsBits R bits span s domain = LendsNamed R s (words_before span) (body_words bits span) (names_if (has_head span) (has_tail bits span) (bit_loan_names domain))
+
+-- where an answer is `None`, each loan of the domain ends as the words that lie behind it now
+abbrev pub BitDomainRestsIfNone : (R : RattleType) {O A : Type 0} {a b c d e f g : _} → BitDomainMut R.Denot O a b c d e f g → Option A → Fml
+BitDomainRestsIfNone R domain answer = LoansRestIfNone R (names_if true true (bit_loan_names domain)) (words_of_bit_loans (bit_loans_of domain)) answer

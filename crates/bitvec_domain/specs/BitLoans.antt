@@ -3,7 +3,7 @@ use Rattle.std.specs.Prelude.{ℕ, ◌+◌, Bool, if◌then◌else◌, List, [],
 use Rattle.std.specs.Borrow.{GName}
 use Rattle.bitvec_domain.specs.Slot.{Slot}
 use Rattle.bitvec_domain.specs.Stretch.{Stretch, no_stretch, slot_stretch, whole_stretch}
-use Rattle.bitvec_domain.specs.Loans.{Loan, Loans}
+use Rattle.bitvec_domain.specs.Loans.{Loan, Loans, loan_words}
 
 -- the names of the loans before, in and behind the body, where those of the head and of the tail are of a part that is there
 abbrev pub names_if : Bool → Bool → GName × Option (GName × GName) → Option GName × Option GName × Option GName
@@ -13,6 +13,11 @@ names_if head tail (first, Some (body, last)) = ((if head then Some first else N
 -- the loans of a head's, the body's and a tail's stretches of bits, or that of one stretch alone
 abbrev pub BitLoans : Type 0 → Type 0
 BitLoans R = Loan R Stretch × Option (Loan R Stretch × Loan R Stretch)
+
+-- the words behind the loans of stretches, each where there is one
+abbrev pub words_of_bit_loans : {R : Type 0} → BitLoans R → Option (List R) × Option (List R) × Option (List R)
+words_of_bit_loans (first, None) = (Some (loan_words first), None, None)
+words_of_bit_loans (first, Some (body, last)) = (Some (loan_words first), Some (loan_words body), Some (loan_words last))
 
 -- how many bits the stretches have
 abbrev pub loans_len : {R : Type 0} → BitLoans R → ℕ

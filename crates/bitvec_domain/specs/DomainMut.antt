@@ -7,9 +7,9 @@ pub use Rattle.bitvec_domain.specs.declared.domain.domain_mut.DomainMut.TheVaria
 use Rattle.bitvec_domain.specs.Span.{Span}
 use Rattle.bitvec_domain.specs.Parts.{Part, Parts}
 use Rattle.bitvec_domain.specs.Slot.{Slot}
-use Rattle.bitvec_domain.specs.Loans.{Loan, Loans, loan_part, loan_parts, words_before, body_words}
+use Rattle.bitvec_domain.specs.Loans.{Loan, Loans, loan_part, loan_parts, words_of_loans, words_before, body_words}
 use Rattle.bitvec_domain.specs.PartialElementMut.{memory_of, slot_in}
-use Rattle.bitvec_domain.specs.Lending.{LendsNamed}
+use Rattle.bitvec_domain.specs.Lending.{LendsNamed, LoansRestIfNone}
 
 -- the name of a part's loan, if there is one
 abbrev pub part_name : {R O : Type 0} {a b c d e f g : _} → Option (PartialElementMut R O a b c d e f g) → Option GName
@@ -41,3 +41,7 @@ loans_of (Region head body tail) = (option_map part_loan head, Some body.now, op
 -- the parts of a domain
 abbrev pub lent_parts : {R O : Type 0} {a b c d e f g : _} → (R → ℕ) → DomainMut R O a b c d e f g → Parts
 lent_parts number domain = loan_parts number (loans_of domain)
+
+-- where an answer is `None`, each loan of the domain ends as the words that lie behind it now
+abbrev pub DomainRestsIfNone : (R : RattleType) {O A : Type 0} {a b c d e f g : _} → DomainMut R.Denot O a b c d e f g → Option A → Fml
+DomainRestsIfNone R domain answer = LoansRestIfNone R (loan_names domain) (words_of_loans (loans_of domain)) answer

@@ -1,7 +1,7 @@
 -- What a slice ends as, where parts of it are lent at once and the others are left as they were.
 use Rattle.std.specs.Prelude.{ℕ, List, ◌++◌, take, drop, Option, Some, None}
 use Rattle.std.specs.Borrow.{Fml, GName, RattleType, MutBor, Array, follows_both, fsep}
-use base.Fml.{feq, fall, fex, fwand}
+use base.Fml.{feq, fall, fex, fwand, ftrue}
 use denote.Slice.{finally}
 
 -- the name of a loan, where there is one
@@ -33,3 +33,18 @@ module _ (R : RattleType) where
   LendsNamed s i n names = fall (List R.Denot × List R.Denot × List R.Denot) (λ w. fwand
       (fsep (EndsAs names.0 (take i s.now) w.0) (fsep (EndsAs names.1 (take n (drop i s.now)) w.1) (EndsAs names.2 (drop n (drop i s.now)) w.2)))
       (finally R s.ghost_name (w.0 ++ (w.1 ++ w.2))))
+
+  -- the loan of that name ends as the list v; nothing where there is none
+  abbrev pub RestsAt : Option GName → Option (List R.Denot) → Fml
+  RestsAt (Some γ) (Some v) = finally R γ v
+  RestsAt (Some γ) None = ftrue
+  RestsAt None v = ftrue
+
+  -- each loan of these names ends as its list
+  abbrev pub LoansRest : Option GName × Option GName × Option GName → Option (List R.Denot) × Option (List R.Denot) × Option (List R.Denot) → Fml
+  LoansRest names words = fsep (RestsAt names.0 words.0) (fsep (RestsAt names.1 words.1) (RestsAt names.2 words.2))
+
+  -- the same where an answer is `None`
+  abbrev pub LoansRestIfNone : {A : Type 0} → Option GName × Option GName × Option GName → Option (List R.Denot) × Option (List R.Denot) × Option (List R.Denot) → Option A → Fml
+  LoansRestIfNone names words None = LoansRest names words
+  LoansRestIfNone names words (Some x) = ftrue

@@ -14,6 +14,14 @@ pub record Loan (R Place : Type 0) : Type 0 where
 abbrev pub Loans : Type 0 → Type 0
 Loans R = Option (Loan R Slot) × Option (List R) × Option (Loan R Slot)
 
+-- the words behind a loan
+abbrev pub loan_words : {R Place : Type 0} → Loan R Place → List R
+loan_words loan = loan.words
+
+-- the words behind the loans of a domain, each where there is one
+abbrev pub words_of_loans : {R : Type 0} → Loans R → Option (List R) × Option (List R) × Option (List R)
+words_of_loans (head, body, tail) = (option_map loan_words head, body, option_map loan_words tail)
+
 -- the part that lies in a loan
 abbrev pub loan_part : {R : Type 0} → (R → ℕ) → Loan R Slot → Part
 loan_part number loan = slot_part loan.place (map number loan.words)

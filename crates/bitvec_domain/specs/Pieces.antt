@@ -12,6 +12,10 @@ use Rattle.bitvec_domain.specs.Lending.{name_of}
 abbrev pub names_of : {X : Type 0} → Pieces X → Option GName × Option GName × Option GName
 names_of pieces = (name_of pieces.front, name_of pieces.body, name_of pieces.back)
 
+-- the lists behind the loans
+abbrev pub piece_words : {X : Type 0} → Pieces X → Option (List X) × Option (List X) × Option (List X)
+piece_words pieces = (option_map (λ r. r.now) pieces.front, option_map (λ r. r.now) pieces.body, option_map (λ r. r.now) pieces.back)
+
 -- the lists behind the loans, by the numbers of their words
 abbrev pub numbers_of : {X : Type 0} → (X → ℕ) → Pieces X → Option (List ℕ) × Option (List ℕ) × Option (List ℕ)
 numbers_of number pieces = (

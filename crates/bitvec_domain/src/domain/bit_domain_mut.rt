@@ -1,7 +1,7 @@
 //! The bits of a span by the words in which they lie, for writing.
 
 ghost use Rattle.std.specs.Prelude.{◌≡◌, ◌/◌, ◌≤◌, true, false, if◌then◌else◌, MatchOption};
-ghost use Rattle.std.specs.Prelude.{Some, None, is_some, length, map, option_map};
+ghost use Rattle.std.specs.Prelude.{Some, None, IsNone, is_some, length, map, option_map};
 ghost use Rattle.std.specs.Borrow.{sem};
 ghost use Rattle.bitvec_domain.specs.Span.{region_max_bits, Fits};
 ghost use Rattle.bitvec_domain.specs.Parts.{HasShortBody, parts_of};
@@ -9,8 +9,10 @@ ghost use Rattle.bitvec_domain.specs.Loans.{span_loans};
 ghost use Rattle.bitvec_domain.specs.BitParts.{optional_bits, body_bits};
 ghost use Rattle.bitvec_domain.specs.BitParts.{bit_parts_of, is_bit_enclave};
 ghost use Rattle.bitvec_domain.specs.BitLoans.{names_if, stretch_loan, whole_loan, stretch_loans};
+ghost use Rattle.bitvec_domain.specs.BitLoans.{words_of_bit_loans};
 
 use crate::domain::{BitWordsMut, DomainMut, PartialElementMut};
+use crate::lend::Pieces;
 use crate::ptr::span::BitSpan;
 use bitvec_mem::mem::BitRegister;
 use bitvec_order::order::Lsb0;
@@ -79,25 +81,105 @@ impl<'a, R: BitRegister, O> Default for BitDomainMut<'a, R, O> {
 
 impl<'a, R: BitRegister, O> BitDomainMut<'a, R, O> {
     ghost use Rattle.bitvec_domain.specs.BitDomainMut.{Enclave, Region, lent_bits};
+    ghost use Rattle.bitvec_domain.specs.BitDomainMut.{bit_loan_names, bit_loans_of};
+    ghost use Rattle.bitvec_domain.specs.BitDomainMut.{BitDomainRestsIfNone};
+    ghost use Rattle.bitvec_domain.specs.Pieces.{names_of, piece_words};
 
-    /// The bits of one word, where the domain is those alone.
-    ///
-    /// The stretch keeps its loan. The Rust crate gives a bit slice.
-    pub fn enclave(self) -> Option<BitWordsMut<'a, R, O>>
-        ensures { MatchOption result (is_bit_enclave (lent_bits R.number self.entry) ≡ false)
+    // The bits of one word, where the domain is those alone; else the words that it borrows.
+    fn enclave_or_loans(self) -> (Option<BitWordsMut<'a, R, O>>, Pieces<'a, R>)
+        ensures stretch { MatchOption result.0
+            (is_bit_enclave (lent_bits R.number self.entry) ≡ false)
             (λ stretch. self.entry ≡ Enclave stretch) }
+        ensures names { IsNone result.0
+            → names_of result.1 ≡ names_if true true (bit_loan_names self.entry) }
+        ensures words { IsNone result.0
+            → piece_words result.1 ≡ words_of_bit_loans (bit_loans_of self.entry) }
     {
         match self {
-            BitDomainMut::Enclave(stretch) => Some(stretch),
-            BitDomainMut::Region {
-                head: _head,
-                body: _body,
-                tail: _tail,
-            } => None,
+            BitDomainMut::Enclave(stretch) => (
+                Some(stretch),
+                Pieces {
+                    front: None,
+                    body: None,
+                    back: None,
+                },
+            ),
+            BitDomainMut::Region { head, body, tail } => (
+                None,
+                Pieces {
+                    front: Some(head.into_memory()),
+                    body: Some(body.into_memory()),
+                    back: Some(tail.into_memory()),
+                },
+            ),
         }
     }
 
-    /// The head, the body and the tail, where the domain is not one stretch alone.
+    /// The bits of one word, where the domain is those alone; where it is not, its loans are over,
+    /// and their words stay as they are.
+    ///
+    /// The stretch keeps its loan. The Rust crate gives a bit slice.
+    pub fn enclave(self) -> Option<BitWordsMut<'a, R, O>>
+        ensures* rest { sem 𝓛 (BitDomainRestsIfNone R.row self.entry result) }
+        ensures stretch { MatchOption result
+            (is_bit_enclave (lent_bits R.number self.entry) ≡ false)
+            (λ stretch. self.entry ≡ Enclave stretch) }
+    {
+        let (
+            stretch,
+            Pieces {
+                front: _,
+                body: _,
+                back: _,
+            },
+        ) = self.enclave_or_loans();
+        stretch
+    }
+
+    // The head, the body and the tail, where the domain is not one stretch alone; else the words
+    // that it borrows.
+    fn region_or_loans(
+        self,
+    ) -> (
+        Option<
+            (
+                BitWordsMut<'a, R, O>,
+                BitWordsMut<'a, R, O>,
+                BitWordsMut<'a, R, O>,
+            ),
+        >,
+        Pieces<'a, R>,
+    )
+        ensures stretches { MatchOption result.0
+            (is_bit_enclave (lent_bits R.number self.entry) ≡ true)
+            (λ all. self.entry ≡ Region all.0 all.1 all.2) }
+        ensures names { IsNone result.0
+            → names_of result.1 ≡ names_if true true (bit_loan_names self.entry) }
+        ensures words { IsNone result.0
+            → piece_words result.1 ≡ words_of_bit_loans (bit_loans_of self.entry) }
+    {
+        match self {
+            BitDomainMut::Enclave(stretch) => (
+                None,
+                Pieces {
+                    front: Some(stretch.into_memory()),
+                    body: None,
+                    back: None,
+                },
+            ),
+            BitDomainMut::Region { head, body, tail } => (
+                Some((head, body, tail)),
+                Pieces {
+                    front: None,
+                    body: None,
+                    back: None,
+                },
+            ),
+        }
+    }
+
+    /// The head, the body and the tail, where the domain is not one stretch alone; where it is,
+    /// its loan is over, and the words stay as they are.
     ///
     /// Each stretch keeps its loan. The Rust crate gives bit slices.
     pub fn region(
@@ -109,13 +191,20 @@ impl<'a, R: BitRegister, O> BitDomainMut<'a, R, O> {
             BitWordsMut<'a, R, O>,
         ),
     >
-        ensures { MatchOption result (is_bit_enclave (lent_bits R.number self.entry) ≡ true)
+        ensures* rest { sem 𝓛 (BitDomainRestsIfNone R.row self.entry result) }
+        ensures stretches { MatchOption result
+            (is_bit_enclave (lent_bits R.number self.entry) ≡ true)
             (λ all. self.entry ≡ Region all.0 all.1 all.2) }
     {
-        match self {
-            BitDomainMut::Enclave(_) => None,
-            BitDomainMut::Region { head, body, tail } => Some((head, body, tail)),
-        }
+        let (
+            stretches,
+            Pieces {
+                front: _,
+                body: _,
+                back: _,
+            },
+        ) = self.region_or_loans();
+        stretches
     }
 }
 

@@ -2,19 +2,21 @@
 
 ghost use Rattle.std.specs.Prelude.{◌≡◌, pos, ◌+◌, ◌-◌, ◌<◌, ◌≤◌, ◌≤ℤ◌, nat_abs};
 ghost use Rattle.std.specs.Prelude.{not, true, false, length, map, IfSome, MatchOption, is_some};
-ghost use Rattle.std.specs.Prelude.{Some, None, [], replicate, option_map};
+ghost use Rattle.std.specs.Prelude.{Some, None, IsNone, [], replicate, option_map};
 ghost use Rattle.std.specs.Borrow.{sem};
 ghost use Rattle.bitvec_ptr.specs.Place.{words_met};
 ghost use Rattle.bitvec_domain.specs.Span.{Fits, list_of, KeepsOthers};
 ghost use Rattle.bitvec_domain.specs.Parts.{parts_of, is_enclave, HasShortBody};
 ghost use Rattle.bitvec_domain.specs.Loans.{is_inside, has_head, has_tail, words_before};
 ghost use Rattle.bitvec_domain.specs.Loans.{body_words, span_loans, word_of_bit, filled_loan};
-ghost use Rattle.bitvec_domain.specs.Loans.{filled_loans, filled_memory};
+ghost use Rattle.bitvec_domain.specs.Loans.{filled_loans, filled_memory, loan_words};
+ghost use Rattle.bitvec_domain.specs.Loans.{words_of_loans};
 ghost use Rattle.bitvec_domain.specs.Lending.{name_of};
 ghost use Rattle.bitvec_domain.specs.PartialElementMut.{memory_of};
-ghost use Rattle.bitvec_domain.specs.Pieces.{names_of, numbers_of, piece_loans};
+ghost use Rattle.bitvec_domain.specs.Pieces.{names_of, numbers_of, piece_words, piece_loans};
 ghost use Rattle.bitvec_domain.specs.DomainMut.{part_name, loan_names, part_loan, loans_of};
 ghost use Rattle.bitvec_domain.specs.DomainMut.{Enclave, Region, lent_parts, LendsDomain};
+ghost use Rattle.bitvec_domain.specs.DomainMut.{DomainRestsIfNone};
 
 use super::partial_element_mut::PartialElementMut;
 use crate::lend::{Pieces, pieces_mut};
@@ -70,23 +72,113 @@ impl<'a, R: BitRegister, O> Default for DomainMut<'a, R, O> {
     }
 }
 
+// The words that a part borrows, if there is one.
+fn part_memory<'a, R: BitRegister, O>(
+    part: Option<PartialElementMut<'a, R, O>>,
+) -> Option<&'a mut [R]>
+    ensures reference { name_of result ≡ part_name part.entry }
+    ensures words { option_map (λ r. r.now) result
+        ≡ option_map loan_words (option_map part_loan part.entry) }
+{
+    match part {
+        Some(part) => Some(part.into_memory()),
+        None => None,
+    }
+}
+
 impl<'a, R: BitRegister, O> DomainMut<'a, R, O> {
-    /// The part of one word, where the domain is that alone.
-    pub fn enclave(self) -> Option<PartialElementMut<'a, R, O>>
-        ensures { MatchOption result (is_enclave (lent_parts R.number self.entry) ≡ false)
+    // The part of one word, where the domain is that alone; else the words that it borrows.
+    fn enclave_or_loans(self) -> (Option<PartialElementMut<'a, R, O>>, Pieces<'a, R>)
+        ensures part { MatchOption result.0 (is_enclave (lent_parts R.number self.entry) ≡ false)
             (λ part. self.entry ≡ Enclave part) }
+        ensures names { IsNone result.0 → names_of result.1 ≡ loan_names self.entry }
+        ensures words { IsNone result.0
+            → piece_words result.1 ≡ words_of_loans (loans_of self.entry) }
     {
         match self {
-            DomainMut::Enclave(part) => Some(part),
-            DomainMut::Region {
-                head: _head,
-                body: _body,
-                tail: _tail,
-            } => None,
+            DomainMut::Enclave(part) => (
+                Some(part),
+                Pieces {
+                    front: None,
+                    body: None,
+                    back: None,
+                },
+            ),
+            DomainMut::Region { head, body, tail } => {
+                let front = part_memory(head);
+                let back = part_memory(tail);
+                (
+                    None,
+                    Pieces {
+                        front,
+                        body: Some(body),
+                        back,
+                    },
+                )
+            }
         }
     }
 
-    /// The head, the body and the tail, where the domain is not one part alone.
+    /// The part of one word, where the domain is that alone; where it is not, its loans are over,
+    /// and their words stay as they are.
+    pub fn enclave(self) -> Option<PartialElementMut<'a, R, O>>
+        ensures* rest { sem 𝓛 (DomainRestsIfNone R.row self.entry result) }
+        ensures part { MatchOption result (is_enclave (lent_parts R.number self.entry) ≡ false)
+            (λ part. self.entry ≡ Enclave part) }
+    {
+        let (
+            part,
+            Pieces {
+                front: _,
+                body: _,
+                back: _,
+            },
+        ) = self.enclave_or_loans();
+        part
+    }
+
+    // The head, the body and the tail, where the domain is not one part alone; else the words that
+    // it borrows.
+    fn region_or_loans(
+        self,
+    ) -> (
+        Option<
+            (
+                Option<PartialElementMut<'a, R, O>>,
+                &'a mut [R],
+                Option<PartialElementMut<'a, R, O>>,
+            ),
+        >,
+        Pieces<'a, R>,
+    )
+        ensures parts { MatchOption result.0 (is_enclave (lent_parts R.number self.entry) ≡ true)
+            (λ all. self.entry ≡ Region all.0 all.1 all.2) }
+        ensures names { IsNone result.0 → names_of result.1 ≡ loan_names self.entry }
+        ensures words { IsNone result.0
+            → piece_words result.1 ≡ words_of_loans (loans_of self.entry) }
+    {
+        match self {
+            DomainMut::Enclave(part) => (
+                None,
+                Pieces {
+                    front: Some(part.into_memory()),
+                    body: None,
+                    back: None,
+                },
+            ),
+            DomainMut::Region { head, body, tail } => (
+                Some((head, body, tail)),
+                Pieces {
+                    front: None,
+                    body: None,
+                    back: None,
+                },
+            ),
+        }
+    }
+
+    /// The head, the body and the tail, where the domain is not one part alone; where it is, its
+    /// loan is over, and the words stay as they are.
     pub fn region(
         self,
     ) -> Option<
@@ -96,13 +188,19 @@ impl<'a, R: BitRegister, O> DomainMut<'a, R, O> {
             Option<PartialElementMut<'a, R, O>>,
         ),
     >
-        ensures { MatchOption result (is_enclave (lent_parts R.number self.entry) ≡ true)
+        ensures* rest { sem 𝓛 (DomainRestsIfNone R.row self.entry result) }
+        ensures parts { MatchOption result (is_enclave (lent_parts R.number self.entry) ≡ true)
             (λ all. self.entry ≡ Region all.0 all.1 all.2) }
     {
-        match self {
-            DomainMut::Enclave(_) => None,
-            DomainMut::Region { head, body, tail } => Some((head, body, tail)),
-        }
+        let (
+            parts,
+            Pieces {
+                front: _,
+                body: _,
+                back: _,
+            },
+        ) = self.region_or_loans();
+        parts
     }
 }
 
