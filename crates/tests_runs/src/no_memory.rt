@@ -12,7 +12,7 @@ ghost use Rattle.bitvec.specs.Order.{mask_start, mask_end, plain_mask_of};
 
 use crate::run::{copy, ran, span_at, to};
 use crate::spans::writes_all;
-use bitvec::index::{BitEnd, BitIdx, BitMask, BitPos, BitSel, Limits, MaskLimits};
+use bitvec::index::{BitEnd, BitIdx, BitMask, BitPos, Limits, MaskLimits};
 use bitvec::order::{
     ByNumbers, ByPosition, Lsb0, Msb0, Numbers, OrderCandidate, OrderFault, Positions,
     plain_mask_between, plain_selector, verify_for_type,
@@ -131,7 +131,8 @@ fn masks() -> ([u8; 5], [bool; 2]) {
     let (two, five) = (BitIdx::<u8>::new_unchecked(2), BitEnd::new_unchecked(5));
     let indices = two.range(five);
     let mask = BitMask::<u8>::sum(indices.map(|index: BitIdx<u8>| index.select::<Lsb0>()));
-    let (yes, no) = (BitSel::new_unchecked(16), BitSel::new_unchecked(64));
+    let yes = BitPos::<u8>::new_unchecked(4).select();
+    let no = BitPos::<u8>::new_unchecked(6).select();
     let mut wider = mask;
     wider.insert(no);
     let numbers = [mask, mask & 25, mask | 32, !mask, wider];
@@ -143,7 +144,8 @@ fn masks() -> ([u8; 5], [bool; 2]) {
 
 // A sum that has one selector twice, and a range's mask by the other order.
 fn other_masks() -> [u8; 2] {
-    let (four, eight) = (BitSel::<u8>::new_unchecked(4), BitSel::new_unchecked(8));
+    let four = BitPos::<u8>::new_unchecked(2).select();
+    let eight = BitPos::<u8>::new_unchecked(3).select();
     let summed = BitMask::<u8>::sum([four, four, eight].iter().copied());
     let (two, five) = (BitIdx::<u8>::new_unchecked(2), BitEnd::new_unchecked(5));
     let of_range = Msb0::mask(Some(two), Some(five));
