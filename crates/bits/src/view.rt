@@ -135,7 +135,17 @@ impl<R: BitRegister, O: BitOrder<R>, const N: usize> Drop for Parts<'_, R, O, N>
     }
 }
 
+// Whether spans may be the parts of a memory of so many words.
+//
+// It takes them by value, so that the proof of [`Parts::new`] has no loan of them to follow.
+fn accepts<R: BitRegister, O, const N: usize>(spans: [BitSpan<R, O>; N], words: usize) -> bool
+    ensures { IsTrue result ↔ CanRun R.BITS span_of spans words }
+{
+    can_run(&spans, words)
+}
+
 impl<'a, R: BitRegister, O: BitOrder<R>, const N: usize> Parts<'a, R, O, N> {
+    ghost use Rattle.std.specs.Borrow.{sem, Array, RestsIfNone};
     ghost use Rattle.bits.specs.View.{lent_memory, part_spans, part_span, part_list, KeepsOutside};
 
     // Where a part lies.
@@ -166,15 +176,18 @@ impl<'a, R: BitRegister, O: BitOrder<R>, const N: usize> Parts<'a, R, O, N> {
     }
 
     /// The parts of a memory by their spans, and `None` exactly where these are refused by
-    /// [`can_run`]: where one does not lie in the memory, or two have a bit in common.
+    /// [`can_run`]: where one does not lie in the memory, or two have a bit in common. The words
+    /// of a memory that is refused stay as they are.
     pub fn new(memory: &'a mut [R], spans: [BitSpan<R, O>; N]) -> Option<Self>
+        ensures* kept { sem 𝓛 (RestsIfNone (Array R.row 0) memory.entry
+            (λ parts. (lent_memory parts).ghost_name) result (λ words. words ≡ memory.old)) }
         ensures accepted { IsSome result ↔ CanRun R.BITS span_of spans (length memory.old) }
         ensures reference { IfSome result (λ parts. (lent_memory parts).ghost_name
             ≡ memory.entry.ghost_name) }
         ensures memory { IfSome result (λ parts. (lent_memory parts).now ≡ memory.old) }
         ensures spans { IfSome result (λ parts. part_spans parts ≡ map span_of spans) }
     {
-        if can_run(&spans, memory.len()) {
+        if accepts(spans, memory.len()) {
             Some(Self::new_unchecked(memory, spans))
         } else {
             None
