@@ -1,7 +1,7 @@
 -- Fronts of texts, behind an old text.
 use Rattle.std.proofs.Common.{◌≡◌, ℕ, ◌+◌, ◌<◌, inl, inr, List, ◌∷◌, ◌++◌, length, get_or, map, take, drop, take_all, sym, subst, ap, ◌∙◌, append_assoc, append-nil, if◌then◌else◌, arith}
 use Rattle.std.proofs.Math.Seq.{take-append_seam, take-append-add}
-use Rattle.std.specs.Prelude.{Result, Ok, Err, is_ok, OnOk, OnErr}
+use Rattle.std.specs.Prelude.{Result, Ok, Err, is_ok, OnErr}
 use Rattle.std.specs.List.{flat_map}
 use Rattle.std.proofs.lemmas.Bool.{cases_lt}
 use Rattle.std.proofs.lemmas.Grind.{flat_map-append}

@@ -4,9 +4,9 @@ use Rattle.std.specs.Prelude.{T, ◌&&◌, Option, Some, None, IsNone, option_ma
 use mir.Val.{Val}
 use seplogic.Ra.Ura.{Ura}
 use base.Logic.{ent, id⊢}
-use base.Fml.{GName, Fml, fsep, feq}
+use base.Fml.{GName, Fml, feq}
 use types.Logic.{Logic, sem}
-use types.Kit.{‵, later, ◌$◌, ◌∵◌, !, qed, by, move, drop, use1, fsplit, fjoin, rewrite, await, updating, now, done}
+use types.Kit.{‵, later, ◌$◌, ◌∵◌, !, qed, move, drop, use1, fsplit, fjoin, rewrite, await, updating, now, done}
 use denote.RattleType.{RattleType}
 use denote.Ref.{NamedLft}
 use denote.Steps.{nothing}

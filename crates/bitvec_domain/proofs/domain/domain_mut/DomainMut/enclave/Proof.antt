@@ -1,14 +1,14 @@
 -- `enclave` hands on the part of the pair that `enclave_or_loans` makes, and lets the loans go. Assumes `Logic`.
-use Rattle.std.proofs.Common.{◌≡◌, List, [], ◌∷◌, ◌++◌, Bool, true, false, refl, ap, subst, ◌∙◌, MutBor}
-use Rattle.std.specs.Prelude.{Option, IsNone, MatchOption}
+use Rattle.std.proofs.Common.{◌≡◌, List, [], ◌∷◌, ◌++◌, false, refl, ap, subst, ◌∙◌}
+use Rattle.std.specs.Prelude.{IsNone, MatchOption}
 use Rattle.std.proofs.raw_atomic.Walks.{proved, leaves}
-use mir.Syntax.{dcons, dnil, a_type, named}
+use mir.Syntax.{dcons, dnil, a_type}
 use mir.Val.{Val, vstruct, vcons, vnil, of_list}
 use mir.MapTy.{inst_fn}
 use base.Logic.{SProp, emp, id⊢}
-use base.Fml.{Lft, Fml, GName, ftrue, fsep, flft, fex}
+use base.Fml.{Lft, Fml, ftrue, fsep, flft, fex}
 use types.Logic.{sem}
-use types.Kit.{‵, raw, ◌⊛◌, some, later, ◌$◌, ◌∵◌, !, qed, by, move, keep, drop, split, join, fsplit, fjoin, fpick, feq_l, pick, rewrite, use0, use1, await}
+use types.Kit.{‵, raw, ◌⊛◌, some, later, ◌$◌, ◌∵◌, !, qed, by, move, keep, drop, split, join, fsplit, fpick, feq_l, pick, rewrite, use0, use1, await}
 use types.Run.{stop, fld, of_opd, no_more, and_then, returns, enter}
 use types.ByLocal.{alloc_all, pass_all, free_all, look_at, get, get_in, sets, lands_as}
 use types.Part.{sub, whole}
