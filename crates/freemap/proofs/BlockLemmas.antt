@@ -44,11 +44,15 @@ module _ (blocks part : List Bool) (at count upto : ℕ) (ends : at + count ≡ 
 
   -- they are in use where it is all ones
   pub part_in_use : AllAre true part ↔ AreInUse blocks at count
-  part_in_use =
-      (λ ones. (omega (arith, ends, inside), λ k from before.
+  part_in_use = (
+    λ ones. (
+      omega (arith, ends, inside),
+      λ k from before.
           let past : at + (k - at) ≡ k = omega (arith, from) in
           let near : k - at < count = omega (arith, from, before) in
-          subst (λ n. element blocks n ≡ true) past (sym (part_element (k - at) near) ∙ ones (k - at) (omega (arith, near, part_long)))),
-       λ used j h.
-          let near : j < count = omega (arith, h, part_long) in
-          part_element j near ∙ used.1 (at + j) (omega arith) (omega (arith, near)))
+          subst (λ n. element blocks n ≡ true) past (sym (part_element (k - at) near) ∙ ones (k - at) (omega (arith, near, part_long))),
+    ),
+    λ used j h.
+        let near : j < count = omega (arith, h, part_long) in
+        part_element j near ∙ used.1 (at + j) (omega arith) (omega (arith, near)),
+  )

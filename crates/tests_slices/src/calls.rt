@@ -72,7 +72,9 @@ fn runs_are_measured(rt: HostRuntime) {
 // The first `len` bits of a byte after an edit.
 fn edited(byte: u8, len: usize, edit: Edit) -> Option<u8> {
     let mut memory = [byte];
-    let mut slice = BitSliceMut::new(first_bits(len), &mut memory).ok()?;
+    let Ok(mut slice) = BitSliceMut::new(first_bits(len), &mut memory) else {
+        return None;
+    };
     let count = slice.len();
     match edit {
         Edit::Reverse => slice.reverse(),
@@ -101,23 +103,6 @@ enum Edit {
     ShiftRight,
     CopyFront,
     SwapEnds,
-}
-
-// A byte after what was given back for a slice of its first `len` bits is written to, and `None`
-// where nothing was.
-fn given_back(byte: u8, len: usize) -> Option<u8> {
-    let mut memory = [byte];
-    let rest = BitSliceMut::new(first_bits(len), &mut memory).err()?;
-    let first = rest.first_mut()?;
-    *first ^= 1;
-    let [byte] = memory;
-    Some(byte)
-}
-
-#[test]
-fn a_memory_that_is_refused_comes_back(rt: HostRuntime) {
-    assert_eq!(rt; given_back(6, 9), Some(7));
-    assert_eq!(rt; given_back(6, 8), None);
 }
 
 #[test]
@@ -215,7 +200,9 @@ fn copied(number: u8) -> Option<(u8, u8)> {
     let from: BitSpan<u8, Lsb0> = BitSpan::new(0, BitIdx::new_unchecked(0), 4).ok()?;
     let to: BitSpan<u8, Lsb0> = BitSpan::new(0, BitIdx::new_unchecked(2), 4).ok()?;
     let source = BitSlice::new(from, &source)?;
-    let mut slice = BitSliceMut::new(to, &mut memory).ok()?;
+    let Ok(mut slice) = BitSliceMut::new(to, &mut memory) else {
+        return None;
+    };
     if source.len() != slice.len() {
         return None;
     }

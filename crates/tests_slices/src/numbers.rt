@@ -41,9 +41,9 @@ fn loads_from_three_words(rt: HostRuntime) -> Result<(), Fail> {
 #[test]
 fn stores(rt: HostRuntime) -> Result<(), Fail> {
     let mut memory = [0x03u8, 0xF0];
-    let mut slice: BitSliceMut<u8, Lsb0> = BitSliceMut::new(span()?, &mut memory).map_err(
-        |_| "outside",
-    )?;
+    let Ok(mut slice) = BitSliceMut::<u8, Lsb0>::new(span()?, &mut memory) else {
+        return Err(Fail::from("outside"));
+    };
     assert_eq!(rt; slice.len(), 10);
     slice.store_le(0x014Bu16);
     assert_eq!(rt; slice.len(), 10);
@@ -51,9 +51,9 @@ fn stores(rt: HostRuntime) -> Result<(), Fail> {
     assert_eq!(rt; slice.load_be::<u16>(), 0b00_1011_0101);
     drop(slice);
     assert_eq!(rt; memory, [0x2F, 0xF5]);
-    let mut slice: BitSliceMut<u8, Lsb0> = BitSliceMut::new(span()?, &mut memory).map_err(
-        |_| "outside",
-    )?;
+    let Ok(mut slice) = BitSliceMut::<u8, Lsb0>::new(span()?, &mut memory) else {
+        return Err(Fail::from("outside"));
+    };
     assert_eq!(rt; slice.len(), 10);
     slice.store_be(0b00_1011_0110u32);
     drop(slice);
@@ -64,16 +64,16 @@ fn stores(rt: HostRuntime) -> Result<(), Fail> {
 #[test]
 fn stores_from_the_highest(rt: HostRuntime) -> Result<(), Fail> {
     let mut memory = [0xC0u8, 0x0F];
-    let mut slice: BitSliceMut<u8, Msb0> = BitSliceMut::new(span()?, &mut memory).map_err(
-        |_| "outside",
-    )?;
+    let Ok(mut slice) = BitSliceMut::<u8, Msb0>::new(span()?, &mut memory) else {
+        return Err(Fail::from("outside"));
+    };
     assert_eq!(rt; slice.len(), 10);
     slice.store_be(0b10_1100_0101u16);
     drop(slice);
     assert_eq!(rt; memory, [0xEC, 0x5F]);
-    let mut slice: BitSliceMut<u8, Msb0> = BitSliceMut::new(span()?, &mut memory).map_err(
-        |_| "outside",
-    )?;
+    let Ok(mut slice) = BitSliceMut::<u8, Msb0>::new(span()?, &mut memory) else {
+        return Err(Fail::from("outside"));
+    };
     assert_eq!(rt; slice.len(), 10);
     slice.store_le(0xFC00_0000_0000_002Cu64);
     drop(slice);

@@ -17,7 +17,7 @@ fn equal_slices<R: BitRegister, O: BitOrder<R>>(
     here: BitSlice<'_, R, O>,
     there: BitSlice<'_, R, O>,
 ) -> bool
-    ensures { IsTrue result ↔ (bits_of here ≡ bits_of there) }
+    ensures { IsTrue result ↔ (bits_of here.entry ≡ bits_of there.entry) }
 {
     here == there
 }

@@ -26,7 +26,7 @@ use std::marker::PhantomData;
 /// ```
 /// let mut memory = [0x00u8, 0xFF];
 /// let span: BitSpan<u8, Msb0> = BitSpan::new(0, BitIdx::new_unchecked(4), 8).unwrap();
-/// let mut slice = BitSliceMut::new(span, &mut memory).map_err(|_| "outside")?;
+/// let mut slice = BitSliceMut::new_unchecked(span, &mut memory);
 /// slice.reverse();
 /// drop(slice);
 /// assert_eq!(rt; memory, [0x0F, 0x0F]);
