@@ -4,7 +4,7 @@ use Rattle.std.specs.Prelude.{ℤ, pos, negsuc, ◌+ℤ◌, ◌*ℤ◌, ◌≤�
 use Rattle.std.proofs.lemmas.Int.{ints}
 use Rattle.bitvec_domain.specs.Span.{Span, Covers, Fits}
 
-covers_from : (word : ℤ) (bits head len j : ℕ) → pos 0 ≤ℤ word → j < len → (((word *ℤ pos bits) +ℤ pos head) ≤ℤ pos (nat_abs word * bits + head + j)) × (pos (nat_abs word * bits + head + j) <ℤ (((word *ℤ pos bits) +ℤ pos head) +ℤ pos len))
+pub covers_from : (word : ℤ) (bits head len j : ℕ) → pos 0 ≤ℤ word → j < len → (((word *ℤ pos bits) +ℤ pos head) ≤ℤ pos (nat_abs word * bits + head + j)) × (pos (nat_abs word * bits + head + j) <ℤ (((word *ℤ pos bits) +ℤ pos head) +ℤ pos len))
 covers_from (pos w) bits head len j from h = (omega (arith, ints), omega (arith, ints))
 covers_from (negsuc w) bits head len j from h = absurd (omega (arith, ints))
 

@@ -13,10 +13,11 @@ use Rattle.bitvec_ptr.specs.Memory.{bit_of}
 use Rattle.bitvec_ptr.specs.Place.{words_met, tail_of}
 use Rattle.bitvec_ptr.proofs.PlaceLemmas.{words_met-none, words_met-some}
 use Rattle.bitvec_ptr.proofs.MemoryLemmas.{tabulate-from_elements}
-use Rattle.bitvec_domain.specs.Span.{Span, Covers, Fits, list_of}
+use Rattle.bitvec_domain.specs.Span.{Span, Covers, Fits, BecomesList, list_of}
 use Rattle.bitvec_domain.specs.Parts.{part_head, part_tail, part_of}
 use Rattle.bitvec_domain.specs.Slot.{slot_at, edited_word}
 use Rattle.bitvec_domain.specs.Loans.{has_head, has_tail, body_words, word_of_bit, filled_slot_if, filled_memory}
+use Rattle.bitvec_domain.proofs.BecomesLemmas.{becomes}
 use Rattle.bitvec_domain.proofs.PartLemmas.{inside-from_part, part-from_inside, bit_of-span}
 use Rattle.bitvec_domain.proofs.CoverLemmas.{covers-own}
 use Rattle.bitvec_domain.proofs.LoanLemmas.{rows, heads, tails, some_met}
@@ -296,11 +297,9 @@ module _ {R : Type 0} (number : R → ℕ) (bits : ℕ) (at : ℕ → ℕ) (bit 
   fits_numbers : Fits bits span (length (map number old))
   fits_numbers = subst (Fits bits span) (sym (length-map old number)) fits
 
-  pub list-is_filled : list_of bits at span (map number new) ≡ replicate span.len bit
-  list-is_filled = ap (list_of bits at span) is ∙ filled-list bits at bit span (map number old) law in_head fits_numbers
-
-  pub others-are_kept : (place : ℕ) → ¬ Covers bits span (pos place) → bit_of bits at (map number new) place ≡ bit_of bits at (map number old) place
-  others-are_kept place out = ap (λ words. bit_of bits at words place) is ∙ filled-others bits at bit span (map number old) law in_head fits_numbers place out
-
-  pub words-are_as_many : length new ≡ length old
-  words-are_as_many = sym (length-map new number) ∙ ap length is ∙ filled-words bits at bit span (map number old) law in_head fits_numbers ∙ length-map old number
+  pub filled-becomes : BecomesList bits at span (map number old) (map number new) (replicate span.len bit)
+  filled-becomes =
+      becomes bits at span (map number old) (map number new) (replicate span.len bit)
+      (ap (list_of bits at span) is ∙ filled-list bits at bit span (map number old) law in_head fits_numbers)
+      (λ place out. ap (λ words. bit_of bits at words place) is ∙ filled-others bits at bit span (map number old) law in_head fits_numbers place out)
+      (ap length is ∙ filled-words bits at bit span (map number old) law in_head fits_numbers)

@@ -1,4 +1,5 @@
 pub mod AppendLemmas
+pub mod BecomesLemmas
 pub mod CoverLemmas
 pub mod DisjointLemmas
 pub mod EditLemmas

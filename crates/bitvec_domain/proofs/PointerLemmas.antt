@@ -1,6 +1,6 @@
 -- The pointer to a bit of a span.
 use Rattle.std.proofs.Common.{◌≡◌, ℕ, pos, negsuc, nat_abs, ◌+◌, ◌-◌, ◌*◌, ◌/◌, ◌%◌, ◌<◌, ◌≤◌, ◌+ℤ◌, ◌≤ℤ◌, refl, sym, subst, ◌∙◌, ap, arith, inl, inr}
-use Rattle.std.specs.Prelude.{ℤ}
+use Rattle.std.specs.Prelude.{ℤ, ◌*ℤ◌}
 use Rattle.std.proofs.lemmas.Int.{ints}
 use Rattle.std.proofs.lemmas.Nat.{mul-le, div-add-mod', div-mul-add, mod_below}
 use Rattle.std.proofs.lemmas.Bool.{cases_eq, cases_lt}
@@ -86,3 +86,18 @@ module _ (bits : ℕ) (span : Span) (words : ℕ) (in_head : span.head < bits) (
               omega (arith, word, fits.1, met, last, end))
         ],
       )
+
+index_same : (here there : ℤ) (bits bit head i : ℕ) → pos 0 ≤ℤ here → pos 0 ≤ℤ there → (here *ℤ pos bits) +ℤ pos bit ≡ ((there *ℤ pos bits) +ℤ pos head) +ℤ pos i → nat_abs here * bits + bit ≡ nat_abs there * bits + head + i
+index_same (pos w) (pos v) bits bit head i from first e = omega (arith, ints, e)
+index_same (negsuc w) (pos v) bits bit head i from first e = absurd (omega (arith, ints, from))
+index_same (pos w) (negsuc v) bits bit head i from first e = absurd (omega (arith, ints, first))
+index_same (negsuc w) (negsuc v) bits bit head i from first e = absurd (omega (arith, ints, from))
+
+-- the index of a pointer to bit i of a span, among the bits of a memory that both lie in
+pub index-at_place : (bits : ℕ) (ptr : Ptr) (span : Span) (words i : ℕ) → IsIn ptr words → Fits bits span words → place_of bits ptr ≡ place_at bits span.word span.head +ℤ pos i → index_of bits ptr ≡ nat_abs span.word * bits + span.head + i
+index-at_place bits ptr span words i inside fits e = index_same ptr.word span.word bits ptr.bit span.head i inside.0 fits.0 e
+
+-- the range of a span's bits, from a pointer to the first, lies in a memory that the span fits
+pub range-in : (bits words count : ℕ) (span : Span) (p : Ptr) → p ≡ record { word = span.word; bit = span.head } → count ≡ span.len → Fits bits span words → RangeIsIn bits p words count
+range-in bits words count span p e all fits =
+    subst (λ (q : Ptr). RangeIsIn bits q words count) (sym e) (subst (λ n. RangeIsIn bits (record { word = span.word; bit = span.head }) words n) (sym all) fits)

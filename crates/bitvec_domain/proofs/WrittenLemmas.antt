@@ -10,7 +10,7 @@ use Rattle.bitvec_ptr.specs.Memory.{bit_of, memory_bits}
 use Rattle.bitvec_ptr.specs.Place.{words_met}
 use Rattle.bitvec_ptr.proofs.MemoryLemmas.{place_parts, tabulate-from_elements}
 use Rattle.bitvec_ptr.proofs.BitLemmas.{length-memory_bits, get_or-memory_bits}
-use Rattle.bitvec_domain.specs.Span.{Span, Covers, Fits, list_of, element}
+use Rattle.bitvec_domain.specs.Span.{element}
 use Rattle.bitvec_domain.specs.Stretch.{Stretch}
 use Rattle.bitvec_domain.specs.Written.{IsWritten}
 use Rattle.bitvec_domain.proofs.CoverLemmas.{covers-own}
@@ -182,42 +182,3 @@ module _ (bits : ℕ) (at : ℕ → ℕ) (xs : List Bool) where
       written-more from (stretch.first * bits + stretch.head) i bit old mid new (omega (arith, whole, inside)) done is
       (set ∙ ap (λ (s : Stretch). slice_set (memory_bits bits at mid) (s.first * bits + (s.head + i)) bit) same
       ∙ ap (λ n. slice_set (memory_bits bits at mid) n bit) (let same_place : stretch.first * bits + (stretch.head + i) ≡ stretch.first * bits + stretch.head + i = omega arith in same_place)) words
-
--- a span whose bits in a memory were written
-module _ {R : Type 0} (number : R → ℕ) (bits : ℕ) (at : ℕ → ℕ) (xs : List Bool) (span : Span) (old new : List R) (in_head : span.head < bits) (fits : Fits bits span (length old))
-    (done : IsWritten bits at xs 0 (nat_abs span.word * bits + span.head) span.len (map number old) (map number new)) where
-  abbrev start : ℕ
-  start = nat_abs span.word * bits + span.head
-
-  some : 0 < bits
-  some = omega (arith, in_head)
-
-  room : (j : ℕ) → j < span.len → nat_abs span.word * bits + span.head + j < length (map number old) * bits
-  room j h =
-      let met : ℕ = words_met bits span.head span.len in
-      let inside = met_within bits span.head span.len j met some h (omega arith) in
-      let whole : (nat_abs span.word + met) * bits ≤ length (map number old) * bits = mul-le (nat_abs span.word + met) bits (length (map number old)) bits (omega (arith, fits.1, length-map old number)) (omega arith) in
-      omega (arith, inside, whole)
-
-  pub list-is_written : length xs ≡ span.len → list_of bits at span (map number new) ≡ xs
-  list-is_written long =
-      sym (tabulate-from_elements xs span.len _ false long (λ j h.
-      sym (done.each (start + j) (room j h)
-      ∙ ap (λ b. if b then element xs (0 + (start + j - start)) else bit_of bits at (map number old) (start + j)) (inside_is start span.len (start + j) (omega arith) (omega (arith, h)))
-      ∙ ap (element xs) (let same : 0 + (start + j - start) ≡ j = omega arith in same))))
-
-  pub others-as_before : (place : ℕ) → ¬ Covers bits span (pos place) → bit_of bits at (map number new) place ≡ bit_of bits at (map number old) place
-  others-as_before place out =
-      elim (cases_lt place (length (map number old) * bits)) [
-        | inl within ↦ (
-            done.each place within
-            ∙ ap (λ b. if b then element xs (0 + (place - start)) else bit_of bits at (map number old) place) (outside_is start span.len place (λ a b.
-            let same : nat_abs span.word * bits + span.head + (place - start) ≡ place = omega (arith, a) in
-            out (subst (λ n. Covers bits span (pos n)) same (covers-own bits span (length old) (place - start) fits (omega (arith, a, b)))))))
-        | inr past ↦ (
-            let beyond : length (map number old) ≤ place / bits = le-div (length (map number old)) place bits some past in
-            ap (λ w. digit w (at (place % bits))) (get_or_past (map number new) (place / bits) 0 (omega (arith, beyond, done.words)) ∙ sym (get_or_past (map number old) (place / bits) 0 beyond)))
-      ]
-
-  pub as-many-words : length new ≡ length old
-  as-many-words = sym (length-map new number) ∙ done.words ∙ length-map old number

@@ -12,6 +12,10 @@ pub record Span : Type 0 where
   pub head : ℕ
   pub len : ℕ
 
+-- `len` bits from the bit number `place` of a memory on
+abbrev pub span_at : ℕ → ℕ → ℕ → Span
+span_at bits place len = record { word = pos (place / bits); head = place % bits; len = len }
+
 -- the span lies within a memory of so many words
 abbrev pub Fits : ℕ → Span → ℕ → Type 0
 Fits bits span words = (pos 0 ≤ℤ span.word) × (nat_abs span.word + words_met bits span.head span.len ≤ words)
@@ -23,6 +27,10 @@ span_upto span mid = record { word = span.word; head = span.head; len = mid }
 -- the bits of a span from its bit `mid` on
 abbrev pub span_from : ℕ → Span → ℕ → Span
 span_from bits span mid = record { word = span.word +ℤ pos ((span.head + mid) / bits); head = (span.head + mid) % bits; len = span.len - mid }
+
+-- the bits of a span from its bit `from` to before its bit `to`
+abbrev pub span_range : ℕ → Span → ℕ → ℕ → Span
+span_range bits span from to = span_from bits (span_upto span to) from
 
 -- the places of a span, in order
 abbrev pub span_places : ℕ → Span → List ℤ
@@ -43,6 +51,20 @@ list_of bits at span words = tabulate span.len (λ j. bit_of bits at words (nat_
 -- every bit of a memory outside a span is as before
 abbrev pub KeepsOthers : ℕ → (ℕ → ℕ) → Span → List ℕ → List ℕ → Type 0
 KeepsOthers bits at span old new = (place : ℕ) → ¬ Covers bits span (pos place) → bit_of bits at new place ≡ bit_of bits at old place
+
+-- the list of every span that is disjoint from a span is as before
+abbrev pub KeepsLists : ℕ → (ℕ → ℕ) → Span → List ℕ → List ℕ → Type 0
+KeepsLists bits at span old new =
+    (word : ℤ) (head len : ℕ) → pos 0 ≤ℤ word → AreDisjoint bits span (record { word = word; head = head; len = len })
+    → list_of bits at (record { word = word; head = head; len = len }) new ≡ list_of bits at (record { word = word; head = head; len = len }) old
+
+-- The memory `new` is `old` with a list in the places of a span, and with all else as before: every bit outside the span,
+-- so the list of every span that is disjoint from it, and the number of words.
+pub record BecomesList (bits : ℕ) (at : ℕ → ℕ) (span : Span) (old new : List ℕ) (xs : List Bool) : Type 0 where
+  pub list : list_of bits at span new ≡ xs
+  pub others : KeepsOthers bits at span old new
+  pub apart : KeepsLists bits at span old new
+  pub words : length new ≡ length old
 
 -- bit j of a list, and false past its end
 abbrev pub element : List Bool → ℕ → Bool

@@ -1,7 +1,7 @@
 -- The text of each refusal of a span.
 use Rattle.std.specs.Prelude.{ℕ, List, ◌++◌}
-use Rattle.bitvec_domain.specs.declared.ptr.span.BitSpanError.{BitSpanError}
-use Rattle.bitvec_domain.specs.declared.ptr.span.BitSpanError.TheVariants.{TooLong, TooHigh}
+use Rattle.bitvec_domain.specs.declared.ptr.span.error.BitSpanError.{BitSpanError}
+use Rattle.bitvec_domain.specs.declared.ptr.span.error.BitSpanError.TheVariants.{TooLong, TooHigh}
 use Rattle.bitvec_domain.specs.Refusals.{too_long_text, too_high_text, error_name, too_long_case, too_high_case}
 
 -- for a reader

@@ -208,7 +208,7 @@ impl<R: BitRegister, O> BitSpan<R, O> {
     ghost use Rattle.bitvec_domain.specs.BitSpan.{span_of};
 
     // Whether the span does not begin with its first word's first bit.
-    pub(super) fn has_head(self) -> bool
+    pub(crate) fn has_head(self) -> bool
         ensures { result ≡ has_head (span_of self) }
     {
         self.len() != 0 && self.head().into_inner() != 0
@@ -232,7 +232,7 @@ impl<R: BitRegister, O> BitSpan<R, O> {
     }
 
     // Whether there is a part behind the whole words.
-    pub(super) fn has_tail(self) -> bool
+    pub(crate) fn has_tail(self) -> bool
         ensures { result ≡ has_tail R.BITS (span_of self) }
     {
         self.len() != 0 && self.tail().into_inner() != R::BITS && !self.is_inside()
@@ -389,7 +389,7 @@ impl<R: BitRegister, O: BitOrder<R>> BitSpan<R, O> {
     ghost use Rattle.bitvec_domain.specs.BitSpan.{span_of};
 
     // Makes each bit of the span in a memory the same, by the parts that the memory is lent as.
-    fn fill_pieces(self, memory: &mut [R], bit: bool)
+    pub(crate) fn fill_pieces(self, memory: &mut [R], bit: bool)
         requires { Fits R.BITS (span_of self) (length memory.old) }
         ensures { map R.number memory.new
             ≡ filled_memory R.BITS O.at_of bit (span_of self) (map R.number memory.old) }
@@ -400,28 +400,5 @@ impl<R: BitRegister, O: BitOrder<R>> BitSpan<R, O> {
             body: _,
             back: _,
         } = fill_domain(domain, bit);
-    }
-
-    /// Makes each bit of the span in a memory the same, and leaves every other bit as it is.
-    ///
-    /// Requires a span that [`fits`](BitSpan::fits). Our own.
-    ///
-    /// # Examples
-    ///
-    /// ```
-    /// let mut memory = [0x12u8, 0x34, 0x56];
-    /// let span: BitSpan<u8, Lsb0> = BitSpan::new(0, BitIdx::new_unchecked(4), 12).unwrap();
-    /// span.fill(&mut memory, true);
-    /// assert_eq!(rt; memory, [0xF2, 0xFF, 0x56]);
-    /// ```
-    pub fn fill(self, memory: &mut [R], bit: bool)
-        requires { Fits R.BITS (span_of self) (length memory.old) }
-        ensures list { list_of R.BITS O.at_of (span_of self) (map R.number memory.new)
-            ≡ replicate (span_of self).len bit }
-        ensures others { KeepsOthers R.BITS O.at_of (span_of self) (map R.number memory.old)
-            (map R.number memory.new) }
-        ensures words { length memory.new ≡ length memory.old }
-    {
-        self.fill_pieces(memory, bit);
     }
 }

@@ -110,7 +110,7 @@ impl<R: BitRegister, O: BitOrder<R>> BitSpan<R, O> {
 
     // Makes the bits of the span in a memory those of a list, by the stretches that the memory is
     // lent as. `head` and `tail` say whether those stretches are in the memory.
-    fn write_pieces(self, memory: &mut [R], bits: &[bool], head: bool, tail: bool)
+    pub(crate) fn write_pieces(self, memory: &mut [R], bits: &[bool], head: bool, tail: bool)
         requires { Fits R.BITS (span_of self) (length memory.old)
             × ((length bits.now ≡ (span_of self).len)
             × ((head ≡ has_head (span_of self)) × (tail ≡ has_tail R.BITS (span_of self)))) }
@@ -124,23 +124,5 @@ impl<R: BitRegister, O: BitOrder<R>> BitSpan<R, O> {
             body: _,
             back: _,
         } = write_domain(domain, bits, head, tail);
-    }
-
-    /// Makes the bits of the span in a memory those of a list of as many, and leaves every other
-    /// bit as it is.
-    ///
-    /// Requires a span that [`fits`](BitSpan::fits). Our own, for the Rust crate's
-    /// `BitSlice::clone_from_bitslice`.
-    pub fn write_bits(self, memory: &mut [R], bits: &[bool])
-        requires fits { Fits R.BITS (span_of self) (length memory.old) }
-        requires len { length bits.now ≡ (span_of self).len }
-        ensures list { list_of R.BITS O.at_of (span_of self) (map R.number memory.new) ≡ bits.now }
-        ensures others { KeepsOthers R.BITS O.at_of (span_of self) (map R.number memory.old)
-            (map R.number memory.new) }
-        ensures words { length memory.new ≡ length memory.old }
-    {
-        let head = self.has_head();
-        let tail = self.has_tail();
-        self.write_pieces(memory, bits, head, tail);
     }
 }

@@ -2,157 +2,29 @@
 
 ghost use Rattle.std.specs.Prelude.{◌≡◌, ⊤, ℕ, ℤ, pos, ◌+◌, ◌-◌, ◌*◌, ◌/◌, ◌%◌, ◌==◌};
 ghost use Rattle.std.specs.Prelude.{if◌then◌else◌, ◌+ℤ◌, ◌≤ℤ◌, ◌<ℤ◌, ◌<◌, ◌≤◌, ◌↔◌, IsTrue, IsOk};
-ghost use Rattle.std.specs.Prelude.{IfOk, List, ◌++◌, codes, Some};
+ghost use Rattle.std.specs.Prelude.{IfOk, Bool, List, ◌++◌, length, take, drop};
 ghost use Rattle.std.specs.Int.{int_div_euclid};
-ghost use Rattle.std.specs.Fmt.{DisplaysOnOk, WritesStyledOnOk};
 ghost use Rattle.bitvec_ptr.specs.Place.{place_at, place_of, words_met, tail_of, greatest_isize};
 ghost use Rattle.bitvec_ptr.specs.Steps.{CanOffset, IsIn};
 ghost use Rattle.bitvec_domain.specs.Span.{region_max_bits, Span, Fits, AreDisjoint};
-ghost use Rattle.bitvec_domain.specs.Span.{span_places, span_upto, span_from, list_of};
+ghost use Rattle.bitvec_domain.specs.Span.{span_at, span_places, span_upto, span_from, span_range};
+ghost use Rattle.bitvec_domain.specs.Span.{list_of, BecomesList};
 ghost use Rattle.bitvec_domain.specs.Parts.{part_head, part_tail};
-ghost use Rattle.bitvec_domain.specs.SpanText.{case_text};
-ghost use Rattle.bitvec_domain.specs.Refusals.{signed_text, too_long_text, too_high_text};
-ghost use Rattle.bitvec_domain.specs.Refusals.{error_name, too_long_case, too_high_case};
 
+mod edit;
+mod error;
+
+pub use crate::ptr::span::error::BitSpanError;
 use bitvec_mem::mem::{BitRegister, elts};
-use bitvec_mem::numeral::write_numeral;
 use bitvec_order::index::{BitEnd, BitIdx, Limits};
 use bitvec_order::order::Lsb0;
 use bitvec_ptr::ptr::range::BitPtrRange;
 use bitvec_ptr::ptr::single::BitPtr;
 use std::alloc::AllocError;
-use std::error::Error;
-use std::fmt;
 use std::marker::PhantomData;
-
-/// Why there is no span of so many bits from a place on.
-///
-/// # Examples
-///
-/// ```
-/// let head = BitIdx::<u8>::new_unchecked(7);
-/// let long = BitSpan::<u8, Lsb0>::new(0, head, usize::MAX);
-/// assert!(rt; long == Err(BitSpanError::TooLong(usize::MAX)));
-/// let high = BitSpan::<u8, Lsb0>::new(isize::MAX, head, 1);
-/// assert!(rt; high == Err(BitSpanError::TooHigh(isize::MAX, PhantomData)));
-/// ```
-#[derive_where(Clone, Copy, PartialEq, Eq, PartialOrd, Ord, Hash)]
-pub enum BitSpanError<R> {
-    /// The number of bits, which passes the greatest length of a span.
-    TooLong(usize),
-    /// The index of the first word; the word in which the span would end passes the greatest
-    /// `isize`.
-    TooHigh(isize, PhantomData<R>),
-}
 
 // The greatest length of a span, in bits.
 const MAX_BITS: usize = 2305843009213693951;
-
-// Writes a number in decimal, after a minus sign where it is negative.
-fn write_signed<W: fmt::Write>(f: &mut fmt::Formatter<W>, n: isize) -> fmt::Result
-    ensures { WritesStyledOnOk W.write_str_gives f.old result (signed_text n) f.new }
-{
-    if n < 0 {
-        f.write_str("-")?;
-        return write_numeral(f, n.unsigned_abs() as u128, 10, false, 1);
-    }
-    write_numeral(f, n as u128, 10, false, 1)
-}
-
-// The text of `TooLong`.
-fn write_too_long<W: fmt::Write>(f: &mut fmt::Formatter<W>, bits: usize) -> fmt::Result
-    ensures { WritesStyledOnOk W.write_str_gives f.old result (too_long_text bits) f.new }
-{
-    f.write_str("Length ")?;
-    write_numeral(f, bits as u128, 10, false, 1)?;
-    f.write_str(" is too long to encode in a bit-slice, which can only accept ")?;
-    write_numeral(f, MAX_BITS as u128, 10, false, 1)?;
-    f.write_str(" bits")
-}
-
-// The text of `TooHigh`.
-fn write_too_high<W: fmt::Write>(f: &mut fmt::Formatter<W>, word: isize) -> fmt::Result
-    ensures { WritesStyledOnOk W.write_str_gives f.old result (too_high_text word) f.new }
-{
-    f.write_str("Word index ")?;
-    write_signed(f, word)?;
-    f.write_str(" is too high, and produces a span that passes the greatest word index.")
-}
-
-/// What is wrong with the length or the word, whatever the caller's flags.
-impl<R> fmt::Display for BitSpanError<R> {
-    ghost use Rattle.std.specs.Prelude.{Some};
-    ghost use Rattle.bitvec_domain.specs.SpanText.{refusal_text};
-
-    ghost output = { λ e. Some (refusal_text e) };
-
-    ghost styled_output = { λ e _. Some (refusal_text e) };
-
-    fn fmt<W: fmt::Write>(&self, f: &mut fmt::Formatter<W>) -> fmt::Result {
-        match *self {
-            BitSpanError::TooLong(bits) => write_too_long(f, bits),
-            BitSpanError::TooHigh(word, _) => write_too_high(f, word),
-        }
-    }
-}
-
-// The name of the error and of the register, before the case.
-fn write_error_name<R: BitRegister, W: fmt::Write>(f: &mut fmt::Formatter<W>) -> fmt::Result
-    ensures { WritesStyledOnOk W.write_str_gives f.old result (error_name R.name) f.new }
-{
-    f.write_str("BitSpanError<")?;
-    f.write_str(R::name_text())?;
-    f.write_str(">::")
-}
-
-// The case and its number of `TooLong`.
-fn write_too_long_case<W: fmt::Write>(f: &mut fmt::Formatter<W>, bits: usize) -> fmt::Result
-    ensures { WritesStyledOnOk W.write_str_gives f.old result (too_long_case bits) f.new }
-{
-    f.write_str("TooLong(")?;
-    write_numeral(f, bits as u128, 10, false, 1)?;
-    f.write_str(")")
-}
-
-// The case and its number of `TooHigh`.
-fn write_too_high_case<W: fmt::Write>(f: &mut fmt::Formatter<W>, word: isize) -> fmt::Result
-    ensures { WritesStyledOnOk W.write_str_gives f.old result (too_high_case word) f.new }
-{
-    f.write_str("TooHigh(")?;
-    write_signed(f, word)?;
-    f.write_str(")")
-}
-
-// The case of an error and its number.
-fn write_case<R, W: fmt::Write>(f: &mut fmt::Formatter<W>, error: BitSpanError<R>) -> fmt::Result
-    ensures { WritesStyledOnOk W.write_str_gives f.old result (case_text error) f.new }
-{
-    match error {
-        BitSpanError::TooLong(bits) => write_too_long_case(f, bits),
-        BitSpanError::TooHigh(word, _) => write_too_high_case(f, word),
-    }
-}
-
-/// The case with its number, after the name of the type and the register, whatever the caller's
-/// flags.
-impl<R: BitRegister> fmt::Debug for BitSpanError<R> {
-    ghost use Rattle.std.specs.Prelude.{Some};
-    ghost use Rattle.bitvec_domain.specs.SpanText.{refusal_debug_text};
-
-    ghost debug_output = { λ e. Some (refusal_debug_text R.name e) };
-
-    fn fmt<W: fmt::Write>(&self, f: &mut fmt::Formatter<W>) -> fmt::Result
-        ensures writes { DisplaysOnOk W.write_str_gives f.old result
-            (Some (refusal_debug_text R.name self.now)) f.new }
-        ensures styled { WritesStyledOnOk W.write_str_gives f.old result
-            (refusal_debug_text R.name self.now) f.new }
-    {
-        write_error_name::<R, W>(f)?;
-        write_case::<R, W>(f, *self)
-    }
-}
-
-impl<R: BitRegister> Error for BitSpanError<R> {}
 
 /// The interval of `len` places from the bit `head` of a word on.
 ///
@@ -300,6 +172,48 @@ impl<R: BitRegister, O> BitSpan<R, O> {
         Self::new(pointer.address(), pointer.bit(), bits)
     }
 
+    /// The span of `len` bits from the bit number `place` of a memory on, where the first bit of the
+    /// first word has number 0.
+    ///
+    /// It refuses `TooLong(len)` where there are more than 2305843009213693951 bits. Constant time.
+    /// Our own: the way to a span for who counts bits, as [`new`](BitSpan::new) is for who has a
+    /// word and an index in it.
+    ///
+    /// # Examples
+    ///
+    /// ```
+    /// let mut memory = [0x12u8, 0x34, 0x56];
+    /// let span: BitSpan<u8, Lsb0> = BitSpan::at(4, 12).unwrap();
+    /// span.fill(&mut memory, true);
+    /// assert_eq!(rt; memory, [0xF2, 0xFF, 0x56]);
+    /// ```
+    pub fn at(place: usize, len: usize) -> Result<Self, BitSpanError<R>>
+        ensures accepted { IsOk result ↔ (len ≤ region_max_bits) }
+        ensures too_long { (result ≡ Err (BitSpanError.TooLong len)) ↔ (region_max_bits < len) }
+        ensures span { IfOk result (λ s. span_of s ≡ span_at R.BITS place len) }
+    {
+        if len > MAX_BITS {
+            return Err(BitSpanError::TooLong(len));
+        }
+        Ok(Self::at_unchecked(place, len))
+    }
+
+    /// The span of `len` bits from the bit number `place` of a memory on.
+    ///
+    /// Requires at most 2305843009213693951 bits. Constant time. Our own.
+    pub fn at_unchecked(place: usize, len: usize) -> Self
+        requires { len ≤ region_max_bits }
+        ensures { span_of result ≡ span_at R.BITS place len }
+    {
+        let bits = usize::from(R::BITS);
+        BitSpan {
+            word: (place / bits) as isize,
+            head: (place % bits) as u8,
+            len,
+            of: PhantomData,
+        }
+    }
+
     /// The index of the first word.
     pub fn address(&self) -> isize
         ensures { result ≡ (span_of self.now).word }
@@ -431,6 +345,41 @@ impl<R: BitRegister, O> BitSpan<R, O> {
         let first = self.bits_before(mid);
         let second = self.bits_from(mid);
         (first, second)
+    }
+
+    /// The bits of the span from its bit `from` to before its bit `to`.
+    ///
+    /// Requires that `from` is at most `to`, and `to` at most the length. The range lies in each
+    /// memory that the span [`fits`](BitSpan::fits), its list there is that range of the span's
+    /// list, and an edit of its list is one of the span's. Constant time. Our own.
+    ///
+    /// # Examples
+    ///
+    /// ```
+    /// let mut memory = [0x00u8; 2];
+    /// let span: BitSpan<u8, Lsb0> = BitSpan::at(2, 12).unwrap();
+    /// span.range(2, 8).fill(&mut memory, true);
+    /// assert_eq!(rt; memory, [0xF0, 0x03]);
+    /// ```
+    pub fn range(self, from: usize, to: usize) -> Self
+        requires ordered { from ≤ to }
+        requires inside { to ≤ (span_of self).len }
+        ensures span { span_of result ≡ span_range R.BITS (span_of self) from to }
+        ensures fit { (words : ℕ) → Fits R.BITS (span_of self) words
+            → Fits R.BITS (span_of result) words }
+        ensures list { (at : ℕ → ℕ) (words : List ℕ) → Fits R.BITS (span_of self) (length words)
+            → list_of R.BITS at (span_of result) words
+            ≡ take (to - from) (drop from (list_of R.BITS at (span_of self) words)) }
+        ensures edits { (at : ℕ → ℕ) (old new : List ℕ) (xs : List Bool)
+            → Fits R.BITS (span_of self) (length old)
+            → BecomesList R.BITS at (span_of result) old new xs
+            → BecomesList R.BITS at (span_of self) old new
+            (take from (list_of R.BITS at (span_of self) old) ++ xs
+            ++ drop to (list_of R.BITS at (span_of self) old)) }
+        ensures apart { (other : Span) → AreDisjoint R.BITS (span_of self) other
+            → AreDisjoint R.BITS (span_of result) other }
+    {
+        self.bits_before(to).bits_from(from)
     }
 
     /// How many words the span meets, 0 for an empty one whatever its head.

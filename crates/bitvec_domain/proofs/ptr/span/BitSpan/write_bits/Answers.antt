@@ -1,19 +1,12 @@
 use Rattle.bitvec_ptr.proofs.PlaceOrder.{bit_below}
 use Rattle.bitvec_domain.specs.BitSpan.{span_of}
-use Rattle.bitvec_domain.proofs.WrittenLemmas.{list-is_written, others-as_before, as-many-words}
+use Rattle.bitvec_domain.proofs.BecomesLemmas.{fits-numbers, written-becomes}
 use Rattle.bitvec_domain.proofs.ptr.span.BitSpan.write_bits.Goals as goal
 
-pub returns-clause-list : goal.returns-clause-list
-returns-clause-list g c =
-    let in_head = bit_below g.R.BitRegister.BITS c.args.self.head g.met.R.BitRegister.width_at_least_8 c.args.self.in_word in
-    list-is_written _ _ _ c.args.bits.now (span_of c.args.self) c.args.memory.now _ in_head c.requires.fits c.write_pieces.ensures c.requires.len
-
-pub returns-clause-others : goal.returns-clause-others
-returns-clause-others g c =
-    let in_head = bit_below g.R.BitRegister.BITS c.args.self.head g.met.R.BitRegister.width_at_least_8 c.args.self.in_word in
-    others-as_before _ _ _ c.args.bits.now (span_of c.args.self) c.args.memory.now _ in_head c.requires.fits c.write_pieces.ensures
-
-pub returns-clause-words : goal.returns-clause-words
-returns-clause-words g c =
-    let in_head = bit_below g.R.BitRegister.BITS c.args.self.head g.met.R.BitRegister.width_at_least_8 c.args.self.in_word in
-    as-many-words _ _ _ c.args.bits.now (span_of c.args.self) c.args.memory.now _ in_head c.requires.fits c.write_pieces.ensures
+pub returns : goal.returns
+returns g c =
+    let width = g.R.BitRegister.BITS in
+    let span = c.args.self in
+    let in_head = bit_below width span.head g.met.R.BitRegister.width_at_least_8 span.in_word in
+    let fits = fits-numbers width (span_of span) g.R.BitRegister.number c.args.memory.now c.requires.fits in
+    written-becomes width g.O.BitAt.at_of (span_of span) _ _ in_head fits c.args.bits.now c.requires.len c.write_pieces.ensures

@@ -3,7 +3,7 @@ use Rattle.std.proofs.Output.{has_written_styled_append}
 use Rattle.std.proofs.lemmas.Int.{ints}
 use Rattle.std.specs.Int.{w64}
 use mir.Val.{to_z, of_z}
-use Rattle.bitvec_domain.proofs.ptr.span.write_too_high_case.Goals as goal
+use Rattle.bitvec_domain.proofs.ptr.span.error.write_too_high_case.Goals as goal
 
 pub returns : goal.returns
 returns g c = λ flush ok.

@@ -5,7 +5,7 @@ use Rattle.std.specs.Prelude.{nat_abs}
 use Rattle.std.specs.Int.{w64}
 use mir.Val.{to_z, of_z}
 use Rattle.bitvec_domain.proofs.TextLemmas.{signed_text-negative}
-use Rattle.bitvec_domain.proofs.ptr.span.write_signed.Goals as goal
+use Rattle.bitvec_domain.proofs.ptr.span.error.write_signed.Goals as goal
 
 pub returns-then-n-lt0 : goal.returns-then-n-lt0
 returns-then-n-lt0 g c = λ flush ok.

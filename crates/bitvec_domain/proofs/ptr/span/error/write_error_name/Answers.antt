@@ -1,6 +1,6 @@
 use Rattle.std.proofs.Common.{rules}
 use Rattle.std.proofs.Output.{has_written_styled_append}
-use Rattle.bitvec_domain.proofs.ptr.span.write_error_name.Goals as goal
+use Rattle.bitvec_domain.proofs.ptr.span.error.write_error_name.Goals as goal
 
 pub returns : goal.returns
 returns g c = λ flush ok.

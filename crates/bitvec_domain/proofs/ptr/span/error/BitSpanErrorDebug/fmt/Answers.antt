@@ -1,7 +1,7 @@
 use Rattle.std.proofs.Common.{rules}
 use Rattle.std.proofs.Output.{has_written_styled_append}
 use Rattle.bitvec_mem.proofs.StyledWrites.{WritesOnOk-from_styled}
-use Rattle.bitvec_domain.proofs.ptr.span.BitSpanErrorDebug.fmt.Goals as goal
+use Rattle.bitvec_domain.proofs.ptr.span.error.BitSpanErrorDebug.fmt.Goals as goal
 
 pub returns-clause-styled : goal.returns-clause-styled
 returns-clause-styled g c = λ flush ok.

@@ -1,0 +1,31 @@
+use Rattle.std.proofs.Common.{map, length, ap, sym, ◌∙◌}
+use Rattle.bitvec_ptr.specs.BitPtr.{ptr_of}
+use Rattle.bitvec_ptr.specs.Place.{index_of}
+use Rattle.bitvec_ptr.proofs.PlaceOrder.{bit_below}
+use Rattle.bitvec_domain.specs.BitSpan.{span_of}
+use Rattle.bitvec_domain.proofs.BecomesLemmas.{fits-numbers, numbers-many, span-becomes}
+use Rattle.bitvec_domain.proofs.PointerLemmas.{range-in}
+use Rattle.bitvec_domain.proofs.ptr.span.BitSpan.copy_from.Goals as goal
+
+pub copy_to-requires-clause-from_in : goal.copy_to-requires-clause-from_in
+copy_to-requires-clause-from_in g c =
+    range-in g.R2.BitRegister.BITS (length c.args.source_memory.now) c.len.result (span_of c.args.source) (ptr_of c.to_bitptr-start.result) c.to_bitptr-start.ensures.pointer (c.len.ensures ∙ sym c.requires.same) c.requires.source_fits
+
+pub copy_to-requires-clause-to_in : goal.copy_to-requires-clause-to_in
+copy_to-requires-clause-to_in g c =
+    range-in g.R.BitRegister.BITS (length c.args.memory.now) c.len.result (span_of c.args.self) (ptr_of c.to_bitptr.result) c.to_bitptr.ensures.pointer c.len.ensures c.requires.fits
+
+pub returns : goal.returns
+returns g c =
+    let wide = g.R2.BitRegister.BITS in
+    let width = g.R.BitRegister.BITS in
+    let number = g.R.BitRegister.number in
+    let source = span_of c.args.source in
+    let target = span_of c.args.self in
+    let from = c.args.source_memory.now in
+    let memory = c.args.memory.now in
+    span-becomes wide g.O2.BitAt.at_of source (map g.R2.BitRegister.number from) width g.O.BitAt.at_of target (map number memory) _ _ _ _
+    (bit_below wide c.args.source.head g.met.R2.BitRegister.width_at_least_8 c.args.source.in_word) (fits-numbers wide source g.R2.BitRegister.number from c.requires.source_fits)
+    (bit_below width c.args.self.head g.met.R.BitRegister.width_at_least_8 c.args.self.in_word) (fits-numbers width target number memory c.requires.fits)
+    c.requires.same (ap (index_of wide) c.to_bitptr-start.ensures.pointer) (ap (index_of width) c.to_bitptr.ensures.pointer) (numbers-many number memory _ c.copy_to.ensures.words)
+    c.len.ensures c.copy_to.ensures.bits

@@ -1,0 +1,179 @@
+//! Edits of a span's bits in a memory that it fits: each says what the span's list becomes, and
+//! leaves every other bit of the memory as it is.
+
+ghost use Rattle.std.specs.Prelude.{◌≡◌, ◌+◌, ◌<◌, ◌≤◌, length, replicate, slice_set};
+ghost use Rattle.std.specs.List.{swap};
+ghost use Rattle.bitvec_ptr.specs.Memory.{list_with_copy};
+ghost use Rattle.bitvec_domain.specs.Span.{Fits, element};
+ghost use Rattle.bitvec_domain.specs.BitSpan.{span_of, list_by, Becomes};
+
+use crate::ptr::span::BitSpan;
+use bitvec_mem::mem::BitRegister;
+use bitvec_order::order::BitOrder;
+
+impl<R: BitRegister, O: BitOrder<R>> BitSpan<R, O> {
+    /// The bit `i` places after the span's first, in a memory that the span
+    /// [`fits`](BitSpan::fits).
+    ///
+    /// Requires that there is one. Constant time. Our own, for the Rust crate's
+    /// `BitSlice::get_unchecked`.
+    pub fn read(self, memory: &[R], i: usize) -> bool
+        requires fits { Fits R.BITS (span_of self) (length memory.now) }
+        requires inside { i < (span_of self).len }
+        ensures { result ≡ element (list_by self O.at_of memory.now) i }
+    {
+        self.bitptr(i).read(memory)
+    }
+
+    /// Writes the bit `i` places after the span's first, and leaves every other bit as it is.
+    ///
+    /// Requires a span that [`fits`](BitSpan::fits), and that there is such a bit. Constant time.
+    /// Our own, for the Rust crate's `BitSlice::set_unchecked`.
+    ///
+    /// # Examples
+    ///
+    /// ```
+    /// let mut memory = [0x00u8; 2];
+    /// let span: BitSpan<u8, Lsb0> = BitSpan::at(6, 4).unwrap();
+    /// span.write(&mut memory, 2, true);
+    /// assert_eq!(rt; memory, [0x00, 0x01]);
+    /// assert!(rt; span.read(&memory, 2));
+    /// ```
+    pub fn write(self, memory: &mut [R], i: usize, bit: bool)
+        requires fits { Fits R.BITS (span_of self) (length memory.old) }
+        requires inside { i < (span_of self).len }
+        ensures { Becomes self O.at_of memory.old memory.new
+            (slice_set (list_by self O.at_of memory.old) i bit) }
+    {
+        self.bitptr(i).write(memory, bit);
+    }
+
+    /// Writes the bit `i` places after the span's first as [`write`](BitSpan::write) does, and
+    /// returns the bit that was there.
+    ///
+    /// Constant time. Our own, for the Rust crate's `BitSlice::replace_unchecked`.
+    pub fn replace(self, memory: &mut [R], i: usize, bit: bool) -> bool
+        requires fits { Fits R.BITS (span_of self) (length memory.old) }
+        requires inside { i < (span_of self).len }
+        ensures previous { result ≡ element (list_by self O.at_of memory.old) i }
+        ensures becomes { Becomes self O.at_of memory.old memory.new
+            (slice_set (list_by self O.at_of memory.old) i bit) }
+    {
+        let previous = self.read(memory, i);
+        self.write(memory, i, bit);
+        previous
+    }
+
+    /// Exchanges the bits `i` and `j` places after the span's first, and leaves every other bit as
+    /// it is.
+    ///
+    /// Requires a span that [`fits`](BitSpan::fits), and that there are both bits; they may be one.
+    /// Constant time. Our own, for the Rust crate's `BitSlice::swap_unchecked`.
+    pub fn swap(self, memory: &mut [R], i: usize, j: usize)
+        requires fits { Fits R.BITS (span_of self) (length memory.old) }
+        requires first { i < (span_of self).len }
+        requires second { j < (span_of self).len }
+        ensures { Becomes self O.at_of memory.old memory.new
+            (swap (list_by self O.at_of memory.old) i j) }
+    {
+        let first = self.read(memory, i);
+        let second = self.read(memory, j);
+        self.write(memory, i, second);
+        self.write(memory, j, first);
+    }
+
+    /// Copies `count` of the span's bits, from its bit `from` on, to those from its bit `to` on, and
+    /// leaves every other bit as it is. The two ranges may overlap, and what is copied is what was
+    /// there before the call.
+    ///
+    /// Requires a span that [`fits`](BitSpan::fits), and that both ranges end within it. Costs by
+    /// words. Our own, for the Rust crate's `BitSlice::copy_within_unchecked`.
+    pub fn copy_within(self, memory: &mut [R], from: usize, to: usize, count: usize)
+        requires fits { Fits R.BITS (span_of self) (length memory.old) }
+        requires source_inside { from + count ≤ (span_of self).len }
+        requires target_inside { to + count ≤ (span_of self).len }
+        ensures { let old = list_by self O.at_of memory.old
+            in Becomes self O.at_of memory.old memory.new (list_with_copy old from old to count) }
+    {
+        let source = self.range(from, from + count);
+        let target = self.range(to, to + count);
+        source.copy_to_range(memory, target);
+    }
+
+    // Copies the bits of the span to those of another of as many in the same memory.
+    fn copy_to_range(self, memory: &mut [R], target: Self)
+        requires source_fits { Fits R.BITS (span_of self) (length memory.old) }
+        requires fits { Fits R.BITS (span_of target) (length memory.old) }
+        requires same { (span_of self).len ≡ (span_of target).len }
+        ensures { Becomes target O.at_of memory.old memory.new (list_by self O.at_of memory.old) }
+    {
+        self.to_bitptr()
+            .copy_within(memory, target.to_bitptr(), target.len());
+    }
+
+    /// Copies the bits of another span in a memory of its own, of any register and order, to the
+    /// span's, and leaves every other bit as it is.
+    ///
+    /// Requires that each span [`fits`](BitSpan::fits) its memory, and that they have as many bits.
+    /// Costs by words. Our own, for the Rust crate's `BitSlice::copy_from_bitslice`.
+    ///
+    /// # Examples
+    ///
+    /// ```
+    /// let source = [0x0Fu16];
+    /// let from: BitSpan<u16, Msb0> = BitSpan::at(8, 8).unwrap();
+    /// let mut memory = [0x00u8; 2];
+    /// let span: BitSpan<u8, Lsb0> = BitSpan::at(4, 8).unwrap();
+    /// span.copy_from(&mut memory, from, &source);
+    /// assert_eq!(rt; memory, [0x00, 0x0F]);
+    /// ```
+    pub fn copy_from<R2: BitRegister, O2: BitOrder<R2>>(
+        self,
+        memory: &mut [R],
+        source: BitSpan<R2, O2>,
+        source_memory: &[R2],
+    )
+        requires source_fits { Fits R2.BITS (span_of source) (length source_memory.now) }
+        requires fits { Fits R.BITS (span_of self) (length memory.old) }
+        requires same { (span_of source).len ≡ (span_of self).len }
+        ensures { Becomes self O.at_of memory.old memory.new
+            (list_by source O2.at_of source_memory.now) }
+    {
+        let start = source.to_bitptr();
+        start.copy_to(source_memory, self.to_bitptr(), memory, self.len());
+    }
+
+    /// Makes each bit of the span in a memory the same, and leaves every other bit as it is.
+    ///
+    /// Requires a span that [`fits`](BitSpan::fits). Our own.
+    ///
+    /// # Examples
+    ///
+    /// ```
+    /// let mut memory = [0x12u8, 0x34, 0x56];
+    /// let span: BitSpan<u8, Lsb0> = BitSpan::new(0, BitIdx::new_unchecked(4), 12).unwrap();
+    /// span.fill(&mut memory, true);
+    /// assert_eq!(rt; memory, [0xF2, 0xFF, 0x56]);
+    /// ```
+    pub fn fill(self, memory: &mut [R], bit: bool)
+        requires { Fits R.BITS (span_of self) (length memory.old) }
+        ensures { Becomes self O.at_of memory.old memory.new (replicate (span_of self).len bit) }
+    {
+        self.fill_pieces(memory, bit);
+    }
+
+    /// Makes the bits of the span in a memory those of a list of as many, and leaves every other
+    /// bit as it is.
+    ///
+    /// Requires a span that [`fits`](BitSpan::fits). Our own, for the Rust crate's
+    /// `BitSlice::clone_from_bitslice`.
+    pub fn write_bits(self, memory: &mut [R], bits: &[bool])
+        requires fits { Fits R.BITS (span_of self) (length memory.old) }
+        requires len { length bits.now ≡ (span_of self).len }
+        ensures { Becomes self O.at_of memory.old memory.new bits.now }
+    {
+        let head = self.has_head();
+        let tail = self.has_tail();
+        self.write_pieces(memory, bits, head, tail);
+    }
+}
