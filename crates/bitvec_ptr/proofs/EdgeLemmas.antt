@@ -1,5 +1,5 @@
 -- Some bits of a word, put in place by a mask.
-use Rattle.std.proofs.Common.{◌≡◌, ◌⊎◌, ⊎_elim, ℕ, ◌+◌, ◌*◌, ◌-◌, ◌/◌, ◌%◌, ◌^◌, ◌<◌, ◌≤◌, Bool, true, false, not, ◌&&◌, ◌||◌, min, List, length, refl, sym, ◌∙◌, ap, arith, inl, inr}
+use Rattle.std.proofs.Common.{◌≡◌, ◌⊎◌, ⊎_elim, ℕ, ◌+◌, ◌*◌, ◌-◌, ◌/◌, ◌%◌, ◌^◌, ◌<◌, ◌≤◌, Bool, true, false, not, ◌&&◌, ◌||◌, min, List, length, get_or, refl, sym, ◌∙◌, ap, arith, inl, inr}
 use Rattle.std.specs.Prelude.{slice_index, slice_set}
 use Rattle.std.proofs.Math.Bool.{and-true}
 use Rattle.std.proofs.Math.ListN.{length-set}
@@ -14,9 +14,9 @@ use Rattle.bitvec_order.specs.Order.{IsOneToOne, IsMaskOf}
 use Rattle.bitvec_order.proofs.IndexLemmas.{digit-mask_at}
 use Rattle.bitvec_ptr.specs.declared.ptr.shift.Way.{Way}
 use Rattle.bitvec_ptr.specs.Shifts.{IsFalling, Allows}
-use Rattle.bitvec_ptr.specs.Memory.{bit_of, memory_bits, list_with_copy}
+use Rattle.bitvec_ptr.specs.Memory.{bit_of, memory_bits, list_with}
 use Rattle.bitvec_ptr.proofs.BitLemmas.{length-memory_bits, get_or-memory_bits, bit_of-word}
-use Rattle.bitvec_ptr.proofs.CopyLemmas.{copied_from_points}
+use Rattle.bitvec_ptr.proofs.CombineLemmas.{combined_from_points}
 
 choose_with : (w v m : Bool) → m ≡ true → ((w && not m) || (v && m)) ≡ v
 choose_with true true true e = refl
@@ -53,12 +53,12 @@ masked_outside bits at from count mask word with r j law within is h (inr l) e =
     let clear : digit mask (at j) ≡ false = digit-mask_at bits at from (from + count) mask j law within is h ∙ (rw (le-leb from j below, le-ltb j (from + count) l) refl) in
     e ∙ choose_word (digit word (at j)) (digit with (at j)) (digit mask (at j)) clear
 
--- a word put some of whose bits are a range of a memory's
-pub part_put : (bits bits2 : ℕ) (at at2 : ℕ → ℕ) (src words : List ℕ) (s word bit count v : ℕ) → 0 < count → bit + count ≤ bits2 → word < length words → s + count ≤ length src * bits
-    → ((j : ℕ) → j < count → digit v (at2 (bit + j)) ≡ bit_of bits at src (s + j))
+-- a word put some of whose bits were combined with a range of a memory's
+pub part_put : (f : Bool → Bool → Bool) (bits bits2 : ℕ) (at at2 : ℕ → ℕ) (src words : List ℕ) (s word bit count v : ℕ) → 0 < count → bit + count ≤ bits2 → word < length words → s + count ≤ length src * bits
+    → ((j : ℕ) → j < count → digit v (at2 (bit + j)) ≡ f (digit (slice_index words word) (at2 (bit + j))) (bit_of bits at src (s + j)))
     → ((j : ℕ) → j < bits2 → (j < bit) ⊎ (bit + count ≤ j) → digit v (at2 j) ≡ digit (slice_index words word) (at2 j))
-    → memory_bits bits2 at2 (slice_set words word v) ≡ list_with_copy (memory_bits bits at src) s (memory_bits bits2 at2 words) (word * bits2 + bit) count
-part_put bits bits2 at at2 src words s word bit count v some end inside has digits others =
+    → memory_bits bits2 at2 (slice_set words word v) ≡ list_with f (memory_bits bits at src) s (memory_bits bits2 at2 words) (word * bits2 + bit) count
+part_put f bits bits2 at at2 src words s word bit count v some end inside has digits others =
     let m = length-memory_bits bits at src in
     let n = length-memory_bits bits2 at2 words in
     let long : length (slice_set words word v) ≡ length words = length-set words word v in
@@ -68,11 +68,12 @@ part_put bits bits2 at at2 src words s word bit count v some end inside has digi
     let row : word * bits2 + bits2 ≤ length words * bits2 = omega (arith, next) in
     let fits : word * bits2 + bit + count ≤ length (memory_bits bits2 at2 words) = omega (arith, row, n) in
     let holds : s + count ≤ length (memory_bits bits at src) = omega (arith, has, m) in
-    copied_from_points (memory_bits bits at src) s (memory_bits bits2 at2 words) (word * bits2 + bit) count fits holds
+    combined_from_points f (memory_bits bits at src) s (memory_bits bits2 at2 words) (word * bits2 + bit) count fits holds
     (memory_bits bits2 at2 (slice_set words word v))
     (after ∙ same ∙ sym n)
     (λ j d r.
     let here : word * bits2 + bit + j < length (slice_set words word v) * bits2 = omega (arith, row, same) in
+    let before : word * bits2 + bit + j < length words * bits2 = omega (arith, row) in
     let there : s + j < length src * bits = omega (arith, has) in
     let index : bit + j < bits2 = omega arith in
     let place : word * bits2 + bit + j ≡ word * bits2 + (bit + j) = omega arith in
@@ -81,7 +82,9 @@ part_put bits bits2 at at2 src words s word bit count v some end inside has digi
     ∙ bit_of-word bits2 at2 (slice_set words word v) word (bit + j) index
     ∙ ap (λ w. digit w (at2 (bit + j))) (get_or-set_same words word v 0 inside)
     ∙ digits j r
-    ∙ sym (get_or-memory_bits bits at src (s + j) d there))
+    ∙ sym (ap (λ b. f b (get_or (memory_bits bits at src) (s + j) d))
+    (get_or-memory_bits bits2 at2 words (word * bits2 + bit + j) d before ∙ ap (bit_of bits2 at2 words) place ∙ bit_of-word bits2 at2 words word (bit + j) index)
+    ∙ ap (f (digit (slice_index words word) (at2 (bit + j)))) (get_or-memory_bits bits at src (s + j) d there)))
     (λ q d r u.
     let was : q < length words * bits2 = omega (arith, n) in
     let is : q < length (slice_set words word v) * bits2 = omega (arith, same, was) in

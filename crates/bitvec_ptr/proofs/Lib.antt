@@ -1,4 +1,5 @@
 pub mod BitLemmas
+pub mod CombineLemmas
 pub mod CopyLemmas
 pub mod EdgeLemmas
 pub mod JoinLemmas

@@ -1,5 +1,6 @@
 //! Pointers to bits, their ranges, and copies of ranges of bits.
 
+pub mod combine;
 pub mod copy;
 mod counted;
 mod cursor;

@@ -4,11 +4,12 @@ ghost use Rattle.std.specs.Prelude.{◌≡◌, ℕ, ℤ, pos, nat_abs, ◌+◌, 
 ghost use Rattle.std.specs.Prelude.{false, length, map};
 ghost use Rattle.std.specs.Int.{int_div_euclid};
 ghost use Rattle.bitvec_ptr.specs.BitPtr.{ptr_of, index_at, bits_by, far_edge};
-ghost use Rattle.bitvec_ptr.specs.Memory.{list_with_copy};
+ghost use Rattle.bitvec_ptr.specs.Memory.{list_with_copy, list_with};
 ghost use Rattle.bitvec_ptr.specs.Place.{place_of, words_met, region_max_bits};
 ghost use Rattle.bitvec_ptr.specs.Steps.{RangeIsIn, AreApart};
 ghost use Rattle.bitvec_ptr.specs.WordWriter.{writer_memory, writer_of};
 
+use crate::ptr::combine::{Combine, Source};
 use crate::ptr::counted::{copy_across, move_across};
 use crate::ptr::cursor::Cursor;
 use crate::ptr::single::BitPtr;
@@ -50,15 +51,50 @@ impl<R: BitRegister, O: BitOrder<R>> BitPtr<R, O> {
             → (writer_of writer.new).mark ≡ far_edge dest count }
         ensures falling_mark { 0 < count → (writer_of writer.old).rising ≡ false
             → (writer_of writer.new).mark ≡ nat_abs (ptr_of dest).word }
+        ensures bits { bits_by dest O2.at_of (writer_of writer.new).words ≡ list_with_copy
+            (bits_by self O.at_of memory.now) (index_at self)
+            (bits_by dest O2.at_of (writer_of writer.old).words) (index_at dest) count }
+        ensures none { count ≡ 0 → writer_of writer.new ≡ writer_of writer.old }
+    {
+        self.combine_through::<Source, R2, O2>(memory, dest, writer, count);
+    }
+
+    /// Combines `count` bits of `memory`, from this pointer on, with those from `dest` on of the
+    /// memory that the writer borrows.
+    #[inline(always)]
+    pub fn combine_through<C: Combine, R2: BitRegister, O2: BitOrder<R2>>(
+        self,
+        memory: &[R],
+        dest: BitPtr<R2, O2>,
+        writer: &mut WordWriter<R2>,
+        count: usize,
+    )
+        requires from_in { RangeIsIn R.BITS (ptr_of self) (length memory.now) count }
+        requires to_in { RangeIsIn R2.BITS (ptr_of dest) (length (writer_of writer.old).words)
+            count }
+        requires rising { 0 < count → (writer_of writer.old).rising ≡ true
+            → (writer_of writer.old).mark ≡ nat_abs (ptr_of dest).word }
+        requires falling { 0 < count → (writer_of writer.old).rising ≡ false
+            → (writer_of writer.old).mark ≡ far_edge dest count }
+        ensures reference { (writer_memory writer.new).ghost_name
+            ≡ (writer_memory writer.old).ghost_name }
+        ensures direction { (writer_of writer.new).rising ≡ (writer_of writer.old).rising }
+        ensures len { length (writer_of writer.new).words ≡ length (writer_of writer.old).words }
+        ensures writes { (writer_of writer.new).writes
+            ≡ (writer_of writer.old).writes + words_met R2.BITS (ptr_of dest).bit count }
+        ensures rising_mark { 0 < count → (writer_of writer.old).rising ≡ true
+            → (writer_of writer.new).mark ≡ far_edge dest count }
+        ensures falling_mark { 0 < count → (writer_of writer.old).rising ≡ false
+            → (writer_of writer.new).mark ≡ nat_abs (ptr_of dest).word }
         ensures bits { bits_by dest O2.at_of (writer_of writer.new).words
-            ≡ list_with_copy (bits_by self O.at_of memory.now) (index_at self)
+            ≡ list_with C.of (bits_by self O.at_of memory.now) (index_at self)
             (bits_by dest O2.at_of (writer_of writer.old).words) (index_at dest) count }
         ensures none { count ≡ 0 → writer_of writer.new ≡ writer_of writer.old }
     {
         if count == 0 {
             return;
         }
-        copy_across::<R, O, R2, O2>(memory, Cursor::at(self), writer, Cursor::at(dest), count);
+        copy_across::<C, R, O, R2, O2>(memory, Cursor::at(self), writer, Cursor::at(dest), count);
     }
 
     /// Copies `count` bits inside the memory that the writer borrows, from this pointer on, to
@@ -97,10 +133,50 @@ impl<R: BitRegister, O: BitOrder<R>> BitPtr<R, O> {
             ≡ list_with_copy old (index_at self) old (index_at dest) count }
         ensures none { count ≡ 0 → writer_of writer.new ≡ writer_of writer.old }
     {
+        self.combine_within_through::<Source>(dest, writer, count);
+    }
+
+    /// Combines `count` bits inside the memory that the writer borrows, from this pointer on, with
+    /// those from `dest` on: as [`combine_through`](BitPtr::combine_through), of what was there
+    /// before the call, under what [`copy_within_through`](BitPtr::copy_within_through) asks.
+    #[inline(always)]
+    pub fn combine_within_through<C: Combine>(
+        self,
+        dest: Self,
+        writer: &mut WordWriter<R>,
+        count: usize,
+    )
+        requires from_in { RangeIsIn R.BITS (ptr_of self) (length (writer_of writer.old).words)
+            count }
+        requires to_in { RangeIsIn R.BITS (ptr_of dest) (length (writer_of writer.old).words)
+            count }
+        requires rising { 0 < count → (writer_of writer.old).rising ≡ true
+            → (writer_of writer.old).mark ≡ nat_abs (ptr_of dest).word }
+        requires falling { 0 < count → (writer_of writer.old).rising ≡ false
+            → (writer_of writer.old).mark ≡ far_edge dest count }
+        requires downwards { 0 < count → index_at dest ≤ index_at self
+            → (writer_of writer.old).rising ≡ true }
+        requires upwards { 0 < count → index_at self < index_at dest
+            → (writer_of writer.old).rising ≡ false }
+        ensures reference { (writer_memory writer.new).ghost_name
+            ≡ (writer_memory writer.old).ghost_name }
+        ensures direction { (writer_of writer.new).rising ≡ (writer_of writer.old).rising }
+        ensures len { length (writer_of writer.new).words ≡ length (writer_of writer.old).words }
+        ensures writes { (writer_of writer.new).writes
+            ≡ (writer_of writer.old).writes + words_met R.BITS (ptr_of dest).bit count }
+        ensures rising_mark { 0 < count → (writer_of writer.old).rising ≡ true
+            → (writer_of writer.new).mark ≡ far_edge dest count }
+        ensures falling_mark { 0 < count → (writer_of writer.old).rising ≡ false
+            → (writer_of writer.new).mark ≡ nat_abs (ptr_of dest).word }
+        ensures bits { let old = bits_by self O.at_of (writer_of writer.old).words
+            in bits_by self O.at_of (writer_of writer.new).words
+            ≡ list_with C.of old (index_at self) old (index_at dest) count }
+        ensures none { count ≡ 0 → writer_of writer.new ≡ writer_of writer.old }
+    {
         if count == 0 {
             return;
         }
-        move_across::<R, O>(Cursor::at(self), writer, Cursor::at(dest), count);
+        move_across::<C, R, O>(Cursor::at(self), writer, Cursor::at(dest), count);
     }
 
     /// Copies `count` bits of `memory`, from this pointer on, to those of `target` from `dest` on,
@@ -137,6 +213,31 @@ impl<R: BitRegister, O: BitOrder<R>> BitPtr<R, O> {
         let mut writer = WordWriter::rising(target);
         writer.skip_to(to.word);
         self.copy_through(memory, dest, &mut writer, count);
+    }
+
+    /// Combines `count` bits of `memory`, from this pointer on, with those of `target` from `dest`
+    /// on, and changes no other bit: [`run_in`](BitPtr::run_in) is the test of each range.
+    ///
+    /// Bit j of the target's range becomes what `C` makes of it and of bit j of this range. Our
+    /// own.
+    pub fn combine_to<C: Combine, R2: BitRegister, O2: BitOrder<R2>>(
+        self,
+        memory: &[R],
+        dest: BitPtr<R2, O2>,
+        target: &mut [R2],
+        count: usize,
+    )
+        requires from_in { RangeIsIn R.BITS (ptr_of self) (length memory.now) count }
+        requires to_in { RangeIsIn R2.BITS (ptr_of dest) (length target.old) count }
+        ensures bits { bits_by dest O2.at_of target.new
+            ≡ list_with C.of (bits_by self O.at_of memory.now) (index_at self)
+            (bits_by dest O2.at_of target.old) (index_at dest) count }
+        ensures words { length target.new ≡ length target.old }
+    {
+        let to = Cursor::at(dest);
+        let mut writer = WordWriter::rising(target);
+        writer.skip_to(to.word);
+        self.combine_through::<C, R2, O2>(memory, dest, &mut writer, count);
     }
 
     /// Another name of [`copy_to`](BitPtr::copy_to), since two memories never overlap.
@@ -209,11 +310,26 @@ impl<R: BitRegister, O: BitOrder<R>> BitPtr<R, O> {
             ≡ list_with_copy old (index_at self) old (index_at dest) count }
         ensures words { length memory.new ≡ length memory.old }
     {
+        self.combine_within::<Source>(memory, dest, count);
+    }
+
+    /// Combines `count` bits of a memory, from this pointer on, with those from `dest` on, and
+    /// changes no other bit: [`run_in`](BitPtr::run_in) is the test of each range.
+    ///
+    /// The two ranges may overlap, and each bit is combined with what was there before the call.
+    /// Our own.
+    pub fn combine_within<C: Combine>(self, memory: &mut [R], dest: Self, count: usize)
+        requires from_in { RangeIsIn R.BITS (ptr_of self) (length memory.old) count }
+        requires to_in { RangeIsIn R.BITS (ptr_of dest) (length memory.old) count }
+        ensures bits { let old = bits_by self O.at_of memory.old in bits_by self O.at_of memory.new
+            ≡ list_with C.of old (index_at self) old (index_at dest) count }
+        ensures words { length memory.new ≡ length memory.old }
+    {
         let to = Cursor::at(dest);
         let rising = to.is_at_most(Cursor::at(self));
         let edge = near_edge(rising, to.word, dest.elements(count));
         let mut writer = WordWriter::standing_at(memory, rising, edge);
-        self.copy_within_through(dest, &mut writer, count);
+        self.combine_within_through::<C>(dest, &mut writer, count);
     }
 
     /// Copies `count` bits of a memory, from `src` on, to those from this pointer on, and changes

@@ -7,13 +7,14 @@
 ghost use Rattle.std.specs.Prelude.{◌≡◌, ℕ, ◌+◌, ◌-◌, ◌*◌, ◌<◌, ◌≤◌, ◌⊎◌, true, false, length, map};
 ghost use Rattle.std.specs.Prelude.{slice_index};
 ghost use Rattle.bitvec_mem.specs.Digit.{digit};
-ghost use Rattle.bitvec_ptr.specs.Copies.{HasCopied, HasMoved};
+ghost use Rattle.bitvec_ptr.specs.Copies.{HasCombined, HasMoved};
 ghost use Rattle.bitvec_ptr.specs.Cursor.{offset};
 ghost use Rattle.bitvec_ptr.specs.Memory.{bit_of};
 ghost use Rattle.bitvec_ptr.specs.Place.{words_met};
 ghost use Rattle.bitvec_ptr.specs.Shifts.{Allows};
 ghost use Rattle.bitvec_ptr.specs.WordWriter.{writer_of};
 
+use crate::ptr::combine::Combine;
 use crate::ptr::cursor::Cursor;
 use crate::ptr::shift::{Way, gathered, piece, way_of};
 use crate::ptr::writer::WordWriter;
@@ -116,7 +117,7 @@ fn gathered_from<R: BitRegister, O: BitOrder<R>, R2: BitRegister, O2: BitOrder<R
 
 // Copies `count` bits into one word of the writer's memory, from its index `bit` on.
 #[inline(always)]
-fn put_bits<R: BitRegister, O: BitOrder<R>, R2: BitRegister, O2: BitOrder<R2>>(
+fn put_bits<C: Combine, R: BitRegister, O: BitOrder<R>, R2: BitRegister, O2: BitOrder<R2>>(
     way: Way,
     source: &[R],
     from: Cursor<R>,
@@ -132,17 +133,17 @@ fn put_bits<R: BitRegister, O: BitOrder<R>, R2: BitRegister, O2: BitOrder<R2>>(
     requires to_in { to < length (writer_of writer.old).words }
     requires rising { (writer_of writer.old).rising ≡ true → (writer_of writer.old).mark ≤ to }
     requires falling { (writer_of writer.old).rising ≡ false → to < (writer_of writer.old).mark }
-    ensures { HasCopied R.BITS O.at_of R.number source.now (offset from) R2.BITS O2.at_of R2.number
+    ensures { HasCombined C.of R.BITS O.at_of R.number source.now (offset from) R2.BITS O2.at_of R2.number
         writer.old writer.new (to * R2.BITS + bit) count to 1 }
 {
     let old = writer.get(to);
-    let word = gathered_from::<R, O, R2, O2>(way, source, from, old, bit, count);
-    writer.put(to, word);
+    let with = gathered_from::<R, O, R2, O2>(way, source, from, C::ground(old), bit, count);
+    writer.put(to, C::word(old, with));
 }
 
 // Copies `count` bits inside the writer's memory into one of its words, from its index `bit` on.
 #[inline(always)]
-fn move_bits<R: BitRegister, O: BitOrder<R>>(
+fn move_bits<C: Combine, R: BitRegister, O: BitOrder<R>>(
     way: Way,
     from: Cursor<R>,
     writer: &mut WordWriter<R>,
@@ -157,18 +158,18 @@ fn move_bits<R: BitRegister, O: BitOrder<R>>(
     requires to_in { to < length (writer_of writer.old).words }
     requires rising { (writer_of writer.old).rising ≡ true → (writer_of writer.old).mark ≤ to }
     requires falling { (writer_of writer.old).rising ≡ false → to < (writer_of writer.old).mark }
-    ensures { HasMoved R.BITS O.at_of R.number (offset from) writer.old writer.new
+    ensures { HasMoved C.of R.BITS O.at_of R.number (offset from) writer.old writer.new
         (to * R.BITS + bit) count to 1 }
 {
     let old = writer.get(to);
     let (low, high) = pair_in(writer, from, count);
-    let word = gathered::<R, O, R, O>(way, low, high, from.bit, old, bit, count);
-    writer.put(to, word);
+    let with = gathered::<R, O, R, O>(way, low, high, from.bit, C::ground(old), bit, count);
+    writer.put(to, C::word(old, with));
 }
 
 // Copies whole words by rising index.
 #[inline(always)]
-fn put_row<R: BitRegister, O: BitOrder<R>, R2: BitRegister, O2: BitOrder<R2>>(
+fn put_row<C: Combine, R: BitRegister, O: BitOrder<R>, R2: BitRegister, O2: BitOrder<R2>>(
     way: Way,
     source: &[R],
     from: Cursor<R>,
@@ -182,18 +183,18 @@ fn put_row<R: BitRegister, O: BitOrder<R>, R2: BitRegister, O2: BitOrder<R2>>(
     requires to_in { to + count ≤ length (writer_of writer.old).words }
     requires upwards { (writer_of writer.old).rising ≡ true }
     requires stands { (writer_of writer.old).mark ≡ to }
-    ensures { HasCopied R.BITS O.at_of R.number source.now (offset from) R2.BITS O2.at_of R2.number
+    ensures { HasCombined C.of R.BITS O.at_of R.number source.now (offset from) R2.BITS O2.at_of R2.number
         writer.old writer.new (to * R2.BITS) (count * R2.BITS) to count }
 {
     for k in 0..count {
         let read = from.words_on::<R2>(k);
-        put_bits::<R, O, R2, O2>(way, source, read, writer, to + k, 0, R2::BITS);
+        put_bits::<C, R, O, R2, O2>(way, source, read, writer, to + k, 0, R2::BITS);
     }
 }
 
 // Copies whole words by falling index.
 #[inline(always)]
-fn put_row_down<R: BitRegister, O: BitOrder<R>, R2: BitRegister, O2: BitOrder<R2>>(
+fn put_row_down<C: Combine, R: BitRegister, O: BitOrder<R>, R2: BitRegister, O2: BitOrder<R2>>(
     way: Way,
     source: &[R],
     from: Cursor<R>,
@@ -207,19 +208,19 @@ fn put_row_down<R: BitRegister, O: BitOrder<R>, R2: BitRegister, O2: BitOrder<R2
     requires to_in { to + count ≤ length (writer_of writer.old).words }
     requires downwards { (writer_of writer.old).rising ≡ false }
     requires stands { (writer_of writer.old).mark ≡ to + count }
-    ensures { HasCopied R.BITS O.at_of R.number source.now (offset from) R2.BITS O2.at_of R2.number
+    ensures { HasCombined C.of R.BITS O.at_of R.number source.now (offset from) R2.BITS O2.at_of R2.number
         writer.old writer.new (to * R2.BITS) (count * R2.BITS) to count }
 {
     for done in 0..count {
         let k = count - 1 - done;
         let read = from.words_on::<R2>(k);
-        put_bits::<R, O, R2, O2>(way, source, read, writer, to + k, 0, R2::BITS);
+        put_bits::<C, R, O, R2, O2>(way, source, read, writer, to + k, 0, R2::BITS);
     }
 }
 
 // Copies whole words inside the writer's memory, by rising index and downwards.
 #[inline(always)]
-fn move_row<R: BitRegister, O: BitOrder<R>>(
+fn move_row<C: Combine, R: BitRegister, O: BitOrder<R>>(
     way: Way,
     from: Cursor<R>,
     writer: &mut WordWriter<R>,
@@ -233,18 +234,18 @@ fn move_row<R: BitRegister, O: BitOrder<R>>(
     requires before { to * R.BITS ≤ offset from }
     requires upwards { (writer_of writer.old).rising ≡ true }
     requires stands { (writer_of writer.old).mark ≡ to }
-    ensures { HasMoved R.BITS O.at_of R.number (offset from) writer.old writer.new (to * R.BITS)
+    ensures { HasMoved C.of R.BITS O.at_of R.number (offset from) writer.old writer.new (to * R.BITS)
         (count * R.BITS) to count }
 {
     for k in 0..count {
         let read = from.words_on::<R>(k);
-        move_bits::<R, O>(way, read, writer, to + k, 0, R::BITS);
+        move_bits::<C, R, O>(way, read, writer, to + k, 0, R::BITS);
     }
 }
 
 // Copies whole words inside the writer's memory, by falling index and upwards.
 #[inline(always)]
-fn move_row_down<R: BitRegister, O: BitOrder<R>>(
+fn move_row_down<C: Combine, R: BitRegister, O: BitOrder<R>>(
     way: Way,
     from: Cursor<R>,
     writer: &mut WordWriter<R>,
@@ -258,13 +259,13 @@ fn move_row_down<R: BitRegister, O: BitOrder<R>>(
     requires behind { offset from ≤ to * R.BITS }
     requires downwards { (writer_of writer.old).rising ≡ false }
     requires stands { (writer_of writer.old).mark ≡ to + count }
-    ensures { HasMoved R.BITS O.at_of R.number (offset from) writer.old writer.new (to * R.BITS)
+    ensures { HasMoved C.of R.BITS O.at_of R.number (offset from) writer.old writer.new (to * R.BITS)
         (count * R.BITS) to count }
 {
     for done in 0..count {
         let k = count - 1 - done;
         let read = from.words_on::<R>(k);
-        move_bits::<R, O>(way, read, writer, to + k, 0, R::BITS);
+        move_bits::<C, R, O>(way, read, writer, to + k, 0, R::BITS);
     }
 }
 
@@ -340,7 +341,13 @@ fn pieces_from<R: BitRegister, R2: BitRegister>(from: Cursor<R>, bit: u8, count:
 
 // Copies some bits into the writer's memory, from the front on.
 #[inline(always)]
-pub(super) fn copy_up<R: BitRegister, O: BitOrder<R>, R2: BitRegister, O2: BitOrder<R2>>(
+pub(super) fn copy_up<
+    C: Combine,
+    R: BitRegister,
+    O: BitOrder<R>,
+    R2: BitRegister,
+    O2: BitOrder<R2>,
+>(
     way: Way,
     source: &[R],
     from: Cursor<R>,
@@ -355,24 +362,30 @@ pub(super) fn copy_up<R: BitRegister, O: BitOrder<R>, R2: BitRegister, O2: BitOr
         (writer_of writer.old).words }
     requires direction { (writer_of writer.old).rising ≡ true }
     requires stands { (writer_of writer.old).mark ≡ to.word }
-    ensures { HasCopied R.BITS O.at_of R.number source.now (offset from) R2.BITS O2.at_of R2.number
+    ensures { HasCombined C.of R.BITS O.at_of R.number source.now (offset from) R2.BITS O2.at_of R2.number
         writer.old writer.new (offset to) count to.word (words_met R2.BITS to.bit count) }
 {
     if is_in_one_word::<R2>(to.bit, count) {
-        put_bits::<R, O, R2, O2>(way, source, from, writer, to.word, to.bit, count as u8);
+        put_bits::<C, R, O, R2, O2>(way, source, from, writer, to.word, to.bit, count as u8);
         return;
     }
     let pieces = pieces_from::<R, R2>(from, to.bit, count);
     let next = to.word + 1;
     let last = next + pieces.whole;
-    put_bits::<R, O, R2, O2>(way, source, from, writer, to.word, to.bit, pieces.first);
-    put_row::<R, O, R2, O2>(way, source, pieces.middle, writer, next, pieces.whole);
-    put_bits::<R, O, R2, O2>(way, source, pieces.end, writer, last, 0, pieces.last);
+    put_bits::<C, R, O, R2, O2>(way, source, from, writer, to.word, to.bit, pieces.first);
+    put_row::<C, R, O, R2, O2>(way, source, pieces.middle, writer, next, pieces.whole);
+    put_bits::<C, R, O, R2, O2>(way, source, pieces.end, writer, last, 0, pieces.last);
 }
 
 // Copies some bits into the writer's memory, from the back on.
 #[inline(always)]
-pub(super) fn copy_down<R: BitRegister, O: BitOrder<R>, R2: BitRegister, O2: BitOrder<R2>>(
+pub(super) fn copy_down<
+    C: Combine,
+    R: BitRegister,
+    O: BitOrder<R>,
+    R2: BitRegister,
+    O2: BitOrder<R2>,
+>(
     way: Way,
     source: &[R],
     from: Cursor<R>,
@@ -387,24 +400,24 @@ pub(super) fn copy_down<R: BitRegister, O: BitOrder<R>, R2: BitRegister, O2: Bit
         (writer_of writer.old).words }
     requires direction { (writer_of writer.old).rising ≡ false }
     requires stands { (writer_of writer.old).mark ≡ to.word + words_met R2.BITS to.bit count }
-    ensures { HasCopied R.BITS O.at_of R.number source.now (offset from) R2.BITS O2.at_of R2.number
+    ensures { HasCombined C.of R.BITS O.at_of R.number source.now (offset from) R2.BITS O2.at_of R2.number
         writer.old writer.new (offset to) count to.word (words_met R2.BITS to.bit count) }
 {
     if is_in_one_word::<R2>(to.bit, count) {
-        put_bits::<R, O, R2, O2>(way, source, from, writer, to.word, to.bit, count as u8);
+        put_bits::<C, R, O, R2, O2>(way, source, from, writer, to.word, to.bit, count as u8);
         return;
     }
     let pieces = pieces_from::<R, R2>(from, to.bit, count);
     let next = to.word + 1;
     let last = next + pieces.whole;
-    put_bits::<R, O, R2, O2>(way, source, pieces.end, writer, last, 0, pieces.last);
-    put_row_down::<R, O, R2, O2>(way, source, pieces.middle, writer, next, pieces.whole);
-    put_bits::<R, O, R2, O2>(way, source, from, writer, to.word, to.bit, pieces.first);
+    put_bits::<C, R, O, R2, O2>(way, source, pieces.end, writer, last, 0, pieces.last);
+    put_row_down::<C, R, O, R2, O2>(way, source, pieces.middle, writer, next, pieces.whole);
+    put_bits::<C, R, O, R2, O2>(way, source, from, writer, to.word, to.bit, pieces.first);
 }
 
 // Copies some bits inside the writer's memory downwards, from the front on.
 #[inline(always)]
-pub(super) fn move_down<R: BitRegister, O: BitOrder<R>>(
+pub(super) fn move_down<C: Combine, R: BitRegister, O: BitOrder<R>>(
     way: Way,
     from: Cursor<R>,
     writer: &mut WordWriter<R>,
@@ -418,24 +431,24 @@ pub(super) fn move_down<R: BitRegister, O: BitOrder<R>>(
     requires before { offset to ≤ offset from }
     requires direction { (writer_of writer.old).rising ≡ true }
     requires stands { (writer_of writer.old).mark ≡ to.word }
-    ensures { HasMoved R.BITS O.at_of R.number (offset from) writer.old writer.new (offset to) count
+    ensures { HasMoved C.of R.BITS O.at_of R.number (offset from) writer.old writer.new (offset to) count
         to.word (words_met R.BITS to.bit count) }
 {
     if is_in_one_word::<R>(to.bit, count) {
-        move_bits::<R, O>(way, from, writer, to.word, to.bit, count as u8);
+        move_bits::<C, R, O>(way, from, writer, to.word, to.bit, count as u8);
         return;
     }
     let pieces = pieces_from::<R, R>(from, to.bit, count);
     let next = to.word + 1;
     let last = next + pieces.whole;
-    move_bits::<R, O>(way, from, writer, to.word, to.bit, pieces.first);
-    move_row::<R, O>(way, pieces.middle, writer, next, pieces.whole);
-    move_bits::<R, O>(way, pieces.end, writer, last, 0, pieces.last);
+    move_bits::<C, R, O>(way, from, writer, to.word, to.bit, pieces.first);
+    move_row::<C, R, O>(way, pieces.middle, writer, next, pieces.whole);
+    move_bits::<C, R, O>(way, pieces.end, writer, last, 0, pieces.last);
 }
 
 // Copies some bits inside the writer's memory upwards, from the back on.
 #[inline(always)]
-pub(super) fn move_up<R: BitRegister, O: BitOrder<R>>(
+pub(super) fn move_up<C: Combine, R: BitRegister, O: BitOrder<R>>(
     way: Way,
     from: Cursor<R>,
     writer: &mut WordWriter<R>,
@@ -449,24 +462,24 @@ pub(super) fn move_up<R: BitRegister, O: BitOrder<R>>(
     requires behind { offset from ≤ offset to }
     requires direction { (writer_of writer.old).rising ≡ false }
     requires stands { (writer_of writer.old).mark ≡ to.word + words_met R.BITS to.bit count }
-    ensures { HasMoved R.BITS O.at_of R.number (offset from) writer.old writer.new (offset to) count
+    ensures { HasMoved C.of R.BITS O.at_of R.number (offset from) writer.old writer.new (offset to) count
         to.word (words_met R.BITS to.bit count) }
 {
     if is_in_one_word::<R>(to.bit, count) {
-        move_bits::<R, O>(way, from, writer, to.word, to.bit, count as u8);
+        move_bits::<C, R, O>(way, from, writer, to.word, to.bit, count as u8);
         return;
     }
     let pieces = pieces_from::<R, R>(from, to.bit, count);
     let next = to.word + 1;
     let last = next + pieces.whole;
-    move_bits::<R, O>(way, pieces.end, writer, last, 0, pieces.last);
-    move_row_down::<R, O>(way, pieces.middle, writer, next, pieces.whole);
-    move_bits::<R, O>(way, from, writer, to.word, to.bit, pieces.first);
+    move_bits::<C, R, O>(way, pieces.end, writer, last, 0, pieces.last);
+    move_row_down::<C, R, O>(way, pieces.middle, writer, next, pieces.whole);
+    move_bits::<C, R, O>(way, from, writer, to.word, to.bit, pieces.first);
 }
 
 // Copies some bits into the writer's memory in one way, in the direction of the writer.
 #[inline(always)]
-fn copy_one_way<R: BitRegister, O: BitOrder<R>, R2: BitRegister, O2: BitOrder<R2>>(
+fn copy_one_way<C: Combine, R: BitRegister, O: BitOrder<R>, R2: BitRegister, O2: BitOrder<R2>>(
     way: Way,
     source: &[R],
     from: Cursor<R>,
@@ -482,27 +495,27 @@ fn copy_one_way<R: BitRegister, O: BitOrder<R>, R2: BitRegister, O2: BitOrder<R2
     requires rising { (writer_of writer.old).rising ≡ true → (writer_of writer.old).mark ≡ to.word }
     requires falling { (writer_of writer.old).rising ≡ false → (writer_of writer.old).mark
         ≡ to.word + words_met R2.BITS to.bit count }
-    ensures { HasCopied R.BITS O.at_of R.number source.now (offset from) R2.BITS O2.at_of R2.number
+    ensures { HasCombined C.of R.BITS O.at_of R.number source.now (offset from) R2.BITS O2.at_of R2.number
         writer.old writer.new (offset to) count to.word (words_met R2.BITS to.bit count) }
 {
     if writer.is_rising() {
-        copy_up::<R, O, R2, O2>(way, source, from, writer, to, count);
+        copy_up::<C, R, O, R2, O2>(way, source, from, writer, to, count);
         return;
     }
-    copy_down::<R, O, R2, O2>(way, source, from, writer, to, count);
+    copy_down::<C, R, O, R2, O2>(way, source, from, writer, to, count);
 }
 
 // Copies some bits into the writer's memory, in the best way for the two sides.
 //
 // Each way has a loop of its own, so that none of them looks at the way for each word.
 #[inline(always)]
-pub(super) fn copy_across<R: BitRegister, O: BitOrder<R>, R2: BitRegister, O2: BitOrder<R2>>(
-    source: &[R],
-    from: Cursor<R>,
-    writer: &mut WordWriter<R2>,
-    to: Cursor<R2>,
-    count: usize,
-)
+pub(super) fn copy_across<
+    C: Combine,
+    R: BitRegister,
+    O: BitOrder<R>,
+    R2: BitRegister,
+    O2: BitOrder<R2>,
+>(source: &[R], from: Cursor<R>, writer: &mut WordWriter<R2>, to: Cursor<R2>, count: usize)
     requires some { 0 < count }
     requires from_in { offset from + count ≤ length source.now * R.BITS }
     requires to_in { to.word + words_met R2.BITS to.bit count ≤ length
@@ -510,30 +523,30 @@ pub(super) fn copy_across<R: BitRegister, O: BitOrder<R>, R2: BitRegister, O2: B
     requires rising { (writer_of writer.old).rising ≡ true → (writer_of writer.old).mark ≡ to.word }
     requires falling { (writer_of writer.old).rising ≡ false → (writer_of writer.old).mark
         ≡ to.word + words_met R2.BITS to.bit count }
-    ensures { HasCopied R.BITS O.at_of R.number source.now (offset from) R2.BITS O2.at_of R2.number
+    ensures { HasCombined C.of R.BITS O.at_of R.number source.now (offset from) R2.BITS O2.at_of R2.number
         writer.old writer.new (offset to) count to.word (words_met R2.BITS to.bit count) }
 {
     match way_of::<R, O, R2, O2>(from.bit, to.bit) {
         Way::Whole => {
-            copy_one_way::<R, O, R2, O2>(Way::Whole, source, from, writer, to, count);
+            copy_one_way::<C, R, O, R2, O2>(Way::Whole, source, from, writer, to, count);
             return;
         }
         Way::Rising => {
-            copy_one_way::<R, O, R2, O2>(Way::Rising, source, from, writer, to, count);
+            copy_one_way::<C, R, O, R2, O2>(Way::Rising, source, from, writer, to, count);
             return;
         }
         Way::Falling => {
-            copy_one_way::<R, O, R2, O2>(Way::Falling, source, from, writer, to, count);
+            copy_one_way::<C, R, O, R2, O2>(Way::Falling, source, from, writer, to, count);
             return;
         }
         Way::Singly => {}
     }
-    copy_one_way::<R, O, R2, O2>(Way::Singly, source, from, writer, to, count);
+    copy_one_way::<C, R, O, R2, O2>(Way::Singly, source, from, writer, to, count);
 }
 
 // Copies some bits inside the writer's memory in one way, in the direction of the writer.
 #[inline(always)]
-fn move_one_way<R: BitRegister, O: BitOrder<R>>(
+fn move_one_way<C: Combine, R: BitRegister, O: BitOrder<R>>(
     way: Way,
     from: Cursor<R>,
     writer: &mut WordWriter<R>,
@@ -549,21 +562,21 @@ fn move_one_way<R: BitRegister, O: BitOrder<R>>(
     requires rising { (writer_of writer.old).rising ≡ true → (writer_of writer.old).mark ≡ to.word }
     requires falling { (writer_of writer.old).rising ≡ false → (writer_of writer.old).mark
         ≡ to.word + words_met R.BITS to.bit count }
-    ensures { HasMoved R.BITS O.at_of R.number (offset from) writer.old writer.new (offset to) count
+    ensures { HasMoved C.of R.BITS O.at_of R.number (offset from) writer.old writer.new (offset to) count
         to.word (words_met R.BITS to.bit count) }
 {
     if writer.is_rising() {
-        move_down::<R, O>(way, from, writer, to, count);
+        move_down::<C, R, O>(way, from, writer, to, count);
         return;
     }
-    move_up::<R, O>(way, from, writer, to, count);
+    move_up::<C, R, O>(way, from, writer, to, count);
 }
 
 // Copies some bits inside the writer's memory, in the best way for the two places.
 //
 // Each way has a loop of its own, so that none of them looks at the way for each word.
 #[inline(always)]
-pub(super) fn move_across<R: BitRegister, O: BitOrder<R>>(
+pub(super) fn move_across<C: Combine, R: BitRegister, O: BitOrder<R>>(
     from: Cursor<R>,
     writer: &mut WordWriter<R>,
     to: Cursor<R>,
@@ -577,23 +590,23 @@ pub(super) fn move_across<R: BitRegister, O: BitOrder<R>>(
     requires rising { (writer_of writer.old).rising ≡ true → (writer_of writer.old).mark ≡ to.word }
     requires falling { (writer_of writer.old).rising ≡ false → (writer_of writer.old).mark
         ≡ to.word + words_met R.BITS to.bit count }
-    ensures { HasMoved R.BITS O.at_of R.number (offset from) writer.old writer.new (offset to) count
+    ensures { HasMoved C.of R.BITS O.at_of R.number (offset from) writer.old writer.new (offset to) count
         to.word (words_met R.BITS to.bit count) }
 {
     match way_of::<R, O, R, O>(from.bit, to.bit) {
         Way::Whole => {
-            move_one_way::<R, O>(Way::Whole, from, writer, to, count);
+            move_one_way::<C, R, O>(Way::Whole, from, writer, to, count);
             return;
         }
         Way::Rising => {
-            move_one_way::<R, O>(Way::Rising, from, writer, to, count);
+            move_one_way::<C, R, O>(Way::Rising, from, writer, to, count);
             return;
         }
         Way::Falling => {
-            move_one_way::<R, O>(Way::Falling, from, writer, to, count);
+            move_one_way::<C, R, O>(Way::Falling, from, writer, to, count);
             return;
         }
         Way::Singly => {}
     }
-    move_one_way::<R, O>(Way::Singly, from, writer, to, count);
+    move_one_way::<C, R, O>(Way::Singly, from, writer, to, count);
 }

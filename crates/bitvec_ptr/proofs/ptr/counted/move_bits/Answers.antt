@@ -2,7 +2,7 @@ use Rattle.std.proofs.Common.{◌≡◌, ◌+◌, ◌*◌, ◌<◌, ◌≤◌, l
 use Rattle.std.specs.Prelude.{slice_index}
 use Rattle.std.proofs.lemmas.List.{length-map, length-set, map-set}
 use Rattle.bitvec_mem.specs.Digit.{digit}
-use Rattle.bitvec_ptr.specs.Memory.{memory_bits}
+use Rattle.bitvec_ptr.specs.Memory.{bit_of, memory_bits}
 use Rattle.bitvec_ptr.proofs.CopyLemmas.{word_is}
 use Rattle.bitvec_ptr.proofs.EdgeLemmas.{pair_bits, part_put}
 use Rattle.bitvec_ptr.proofs.ptr.counted.move_bits.Goals as goal
@@ -14,7 +14,13 @@ returns g c =
     let words = c.args.writer.now.words.now in
     let from = c.args.from in
     let to = c.args.to in
-    let word = c.gathered-word in
+    let of = g.C.Combine.of in
+    let below = g.met.O.BitOrder.one_to_one.below in
+    let s = from.word * R.BITS + from.bit in
+    let bit = c.args.bit in
+    let old = c.get-old.result in
+    let word = c.word in
+    let with = c.gathered-with in
     let pair = c.pair_in-low in
     let most : from.bit < R.BITS = omega (arith, g.met.R.BitRegister.width_at_least_8) in
     let end : c.args.count ≤ R.BITS = omega arith in
@@ -22,6 +28,8 @@ returns g c =
     let long = length-map words R.number in
     let room : to < length (map R.number words) = omega (arith, long, c.requires.to_in) in
     let holds : from.word * R.BITS + from.bit + c.args.count ≤ length (map R.number words) * R.BITS = omega (arith, c.requires.from_in, ap (λ n. n * R.BITS) long) in
+    let gathers = pair_bits R.BITS at at (map R.number words) from.word from.bit bit c.args.count (R.number with.result) (R.number pair.result.0) (R.number pair.result.1) most end
+    with.ensures.low with.ensures.high pair.ensures.low pair.ensures.high in
     record {
       reference = c.put.ensures.reference;
       direction = c.put.ensures.direction;
@@ -31,8 +39,14 @@ returns g c =
       falling_mark = c.put.ensures.falling_mark;
       bits = ap (λ w. memory_bits R.BITS at (map R.number w)) c.put.ensures.words
           ∙ ap (memory_bits R.BITS at) (map-set R.number words to word.result)
-          ∙ part_put R.BITS R.BITS at at (map R.number words) (map R.number words) (from.word * R.BITS + from.bit) to c.args.bit c.args.count (R.number word.result) c.requires.some c.requires.bit_in room holds
-          (pair_bits R.BITS at at (map R.number words) from.word from.bit c.args.bit c.args.count (R.number word.result) (R.number pair.result.0) (R.number pair.result.1) most end
-          word.ensures.low word.ensures.high pair.ensures.low pair.ensures.high)
-          (λ j h u. word.ensures.outside j h u ∙ ap (λ n. digit n (at j)) was);
+          ∙ part_put of R.BITS R.BITS at at (map R.number words) (map R.number words) s to bit c.args.count (R.number word.result) c.requires.some c.requires.bit_in room holds
+          (λ j h.
+          word.ensures (at (bit + j)) (below (bit + j) (omega arith))
+          ∙ ap (λ b. of (digit (R.number old) (at (bit + j))) b) (gathers j h)
+          ∙ ap (λ n. of (digit n (at (bit + j))) (bit_of R.BITS at (map R.number words) (s + j))) was)
+          (λ j h u.
+          word.ensures (at j) (below j h)
+          ∙ ap (λ b. of (digit (R.number old) (at j)) b) (with.ensures.outside j h u)
+          ∙ c.ground.ensures (at j) (below j h)
+          ∙ ap (λ n. digit n (at j)) was);
     }

@@ -2,14 +2,14 @@ use Rattle.std.proofs.Common.{◌≡◌, ◌+◌, ◌*◌, length, refl, ap, ◌
 use Rattle.bitvec_ptr.proofs.CopyLemmas.{place_below}
 use Rattle.bitvec_ptr.proofs.EdgeLemmas.{allows_on}
 use Rattle.bitvec_ptr.proofs.JoinLemmas.{row_less}
-use Rattle.bitvec_ptr.proofs.WriterLemmas.{nothing_copied, moves_on}
+use Rattle.bitvec_ptr.proofs.WriterLemmas.{nothing_combined, moves_on}
 use Rattle.bitvec_ptr.proofs.ptr.counted.move_row.Goals as goal
 
 pub loop-k-init : goal.loop-k-init
 loop-k-init g c =
     let R = g.R.BitRegister in
     let at = g.O.BitAt.at_of in
-    nothing_copied R.BITS at R.number c.args.writer.now.words.now (c.args.from.word * R.BITS + c.args.from.bit) R.BITS at R.number c.args.writer.now (c.args.to * R.BITS) (0 * R.BITS) c.args.to (omega arith) c.requires.stands
+    nothing_combined g.C.Combine.of R.BITS at R.number c.args.writer.now.words.now (c.args.from.word * R.BITS + c.args.from.bit) R.BITS at R.number c.args.writer.now (c.args.to * R.BITS) (0 * R.BITS) c.args.to (omega arith) c.requires.stands
 
 pub words_on-read-requires-clause-short : goal.words_on-read-requires-clause-short
 words_on-read-requires-clause-short g c =

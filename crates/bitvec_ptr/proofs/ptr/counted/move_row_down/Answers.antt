@@ -3,7 +3,7 @@ use Rattle.std.proofs.Math.Nat.{mul-le-mul_right}
 use Rattle.bitvec_ptr.proofs.CopyLemmas.{place_below}
 use Rattle.bitvec_ptr.proofs.EdgeLemmas.{allows_on}
 use Rattle.bitvec_ptr.proofs.JoinLemmas.{row_less}
-use Rattle.bitvec_ptr.proofs.WriterLemmas.{nothing_copied, has_copied_as, moves_back}
+use Rattle.bitvec_ptr.proofs.WriterLemmas.{nothing_combined, has_combined_as, moves_back}
 use Rattle.bitvec_ptr.proofs.ptr.counted.move_row_down.Goals as goal
 
 pub loop-done-init : goal.loop-done-init
@@ -11,7 +11,7 @@ loop-done-init g c =
     let R = g.R.BitRegister in
     let at = g.O.BitAt.at_of in
     let count = c.args.count in
-    nothing_copied R.BITS at R.number c.args.writer.now.words.now (c.args.from.word * R.BITS + c.args.from.bit + (count - 0) * R.BITS) R.BITS at R.number c.args.writer.now (c.args.to * R.BITS + (count - 0) * R.BITS) (0 * R.BITS) (c.args.to + (count - 0)) (omega arith) (omega arith)
+    nothing_combined g.C.Combine.of R.BITS at R.number c.args.writer.now.words.now (c.args.from.word * R.BITS + c.args.from.bit + (count - 0) * R.BITS) R.BITS at R.number c.args.writer.now (c.args.to * R.BITS + (count - 0) * R.BITS) (0 * R.BITS) (c.args.to + (count - 0)) (omega arith) (omega arith)
 
 pub words_on-read-requires-clause-short : goal.words_on-read-requires-clause-short
 words_on-read-requires-clause-short g c =
@@ -55,4 +55,4 @@ returns g c =
     let none : c.args.count - c.loop-done.done ≡ 0 = omega arith in
     let left : (c.args.count - c.loop-done.done) * R.BITS ≡ 0 = ap (λ n. n * R.BITS) none ∙ omega arith in
     let all : c.loop-done.done ≡ c.args.count = omega arith in
-    has_copied_as (omega (arith, left)) (omega (arith, left)) (ap (λ n. n * R.BITS) all) (omega (arith, none)) all c.loop-done.invariant
+    has_combined_as (omega (arith, left)) (omega (arith, left)) (ap (λ n. n * R.BITS) all) (omega (arith, none)) all c.loop-done.invariant

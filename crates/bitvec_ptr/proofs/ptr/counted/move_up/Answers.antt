@@ -1,11 +1,11 @@
 use Rattle.std.proofs.Common.{◌≡◌, ◌+◌, ◌*◌, ◌<◌, length, refl, sym, arith}
 use Rattle.bitvec_ptr.proofs.CopyLemmas.{place_below, met_covers}
 use Rattle.bitvec_ptr.proofs.EdgeLemmas.{allows_on}
-use Rattle.bitvec_ptr.proofs.WriterLemmas.{has_copied_as, moves_back}
+use Rattle.bitvec_ptr.proofs.WriterLemmas.{has_combined_as, moves_back}
 use Rattle.bitvec_ptr.proofs.ptr.counted.move_up.Goals as goal
 
 pub returns-then-is_in_one_word : goal.returns-then-is_in_one_word
-returns-then-is_in_one_word g c = has_copied_as refl refl refl refl (sym (c.is_in_one_word.ensures.met c.if-is_in_one_word.true)) c.move_bits.ensures
+returns-then-is_in_one_word g c = has_combined_as refl refl refl refl (sym (c.is_in_one_word.ensures.met c.if-is_in_one_word.true)) c.move_bits.ensures
 
 pub pieces_from-pieces-requires-clause-inside : goal.pieces_from-pieces-requires-clause-inside
 pieces_from-pieces-requires-clause-inside g c =

@@ -3,14 +3,14 @@ use Rattle.std.proofs.Math.Nat.{mul-le-mul_right}
 use Rattle.bitvec_ptr.proofs.CopyLemmas.{place_below}
 use Rattle.bitvec_ptr.proofs.EdgeLemmas.{allows_on}
 use Rattle.bitvec_ptr.proofs.JoinLemmas.{row_less}
-use Rattle.bitvec_ptr.proofs.WriterLemmas.{nothing_copied, goes_on}
+use Rattle.bitvec_ptr.proofs.WriterLemmas.{nothing_combined, goes_on}
 use Rattle.bitvec_ptr.proofs.ptr.counted.put_row.Goals as goal
 
 pub loop-k-init : goal.loop-k-init
 loop-k-init g c =
     let R = g.R.BitRegister in
     let R2 = g.R2.BitRegister in
-    nothing_copied R.BITS g.O.BitAt.at_of R.number c.args.source.now (c.args.from.word * R.BITS + c.args.from.bit) R2.BITS g.O2.BitAt.at_of R2.number c.args.writer.now (c.args.to * R2.BITS) (0 * R2.BITS) c.args.to (omega arith) c.requires.stands
+    nothing_combined g.C.Combine.of R.BITS g.O.BitAt.at_of R.number c.args.source.now (c.args.from.word * R.BITS + c.args.from.bit) R2.BITS g.O2.BitAt.at_of R2.number c.args.writer.now (c.args.to * R2.BITS) (0 * R2.BITS) c.args.to (omega arith) c.requires.stands
 
 pub words_on-read-requires-clause-short : goal.words_on-read-requires-clause-short
 words_on-read-requires-clause-short g c =

@@ -3,7 +3,7 @@ use Rattle.std.proofs.Math.Nat.{mul-le-mul_right}
 use Rattle.bitvec_ptr.proofs.CopyLemmas.{place_below}
 use Rattle.bitvec_ptr.proofs.EdgeLemmas.{allows_on}
 use Rattle.bitvec_ptr.proofs.JoinLemmas.{row_less}
-use Rattle.bitvec_ptr.proofs.WriterLemmas.{nothing_copied, has_copied_as, goes_back}
+use Rattle.bitvec_ptr.proofs.WriterLemmas.{nothing_combined, has_combined_as, goes_back}
 use Rattle.bitvec_ptr.proofs.ptr.counted.put_row_down.Goals as goal
 
 pub loop-done-init : goal.loop-done-init
@@ -11,7 +11,7 @@ loop-done-init g c =
     let R = g.R.BitRegister in
     let R2 = g.R2.BitRegister in
     let count = c.args.count in
-    nothing_copied R.BITS g.O.BitAt.at_of R.number c.args.source.now (c.args.from.word * R.BITS + c.args.from.bit + (count - 0) * R2.BITS) R2.BITS g.O2.BitAt.at_of R2.number c.args.writer.now (c.args.to * R2.BITS + (count - 0) * R2.BITS) (0 * R2.BITS) (c.args.to + (count - 0)) (omega arith) (omega arith)
+    nothing_combined g.C.Combine.of R.BITS g.O.BitAt.at_of R.number c.args.source.now (c.args.from.word * R.BITS + c.args.from.bit + (count - 0) * R2.BITS) R2.BITS g.O2.BitAt.at_of R2.number c.args.writer.now (c.args.to * R2.BITS + (count - 0) * R2.BITS) (0 * R2.BITS) (c.args.to + (count - 0)) (omega arith) (omega arith)
 
 pub words_on-read-requires-clause-short : goal.words_on-read-requires-clause-short
 words_on-read-requires-clause-short g c =
@@ -58,4 +58,4 @@ returns g c =
     let none : c.args.count - c.loop-done.done ≡ 0 = omega arith in
     let left : (c.args.count - c.loop-done.done) * R2.BITS ≡ 0 = ap (λ n. n * R2.BITS) none ∙ omega arith in
     let all : c.loop-done.done ≡ c.args.count = omega arith in
-    has_copied_as (omega (arith, left)) (omega (arith, left)) (ap (λ n. n * R2.BITS) all) (omega (arith, none)) all c.loop-done.invariant
+    has_combined_as (omega (arith, left)) (omega (arith, left)) (ap (λ n. n * R2.BITS) all) (omega (arith, none)) all c.loop-done.invariant
