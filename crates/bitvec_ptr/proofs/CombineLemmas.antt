@@ -11,8 +11,8 @@ use Rattle.bitvec_ptr.proofs.CopyLemmas.{copied_none, length-copied, get_or-copi
 pub with_all : (bits n p : ℕ) (b : Bool) → n ≡ 2 ^ bits - 1 → p < bits → (b && digit n p) ≡ b
 with_all bits n p b e h = ap (λ m. b && digit m p) e ∙ ap (λ d. b && d) (digit_all bits p h) ∙ and-true b
 
-off : (n p : ℕ) → n ≡ 0 → digit n p ≡ false
-off n p e = ap (λ m. digit m p) e ∙ digit-zero p
+digit-of_zero : (n p : ℕ) → n ≡ 0 → digit n p ≡ false
+digit-of_zero n p e = ap (λ m. digit m p) e ∙ digit-zero p
 
 or_false : (b : Bool) → (b || false) ≡ b
 or_false true = refl
@@ -27,13 +27,13 @@ without_false true = refl
 without_false false = refl
 
 pub or_none : (n p : ℕ) (b : Bool) → n ≡ 0 → (b || digit n p) ≡ b
-or_none n p b e = ap (λ d. b || d) (off n p e) ∙ or_false b
+or_none n p b e = ap (λ d. b || d) (digit-of_zero n p e) ∙ or_false b
 
 pub xor_none : (n p : ℕ) (b : Bool) → n ≡ 0 → exclusive_or b (digit n p) ≡ b
-xor_none n p b e = ap (exclusive_or b) (off n p e) ∙ xor_false b
+xor_none n p b e = ap (exclusive_or b) (digit-of_zero n p e) ∙ xor_false b
 
 pub without_none : (n p : ℕ) (b : Bool) → n ≡ 0 → (b && not (digit n p)) ≡ b
-without_none n p b e = ap (λ d. b && not d) (off n p e) ∙ without_false b
+without_none n p b e = ap (λ d. b && not d) (digit-of_zero n p e) ∙ without_false b
 
 module _ {A B C : Type 0} (f : A → B → C) where
   long-zip_with : (xs : List A) (ys : List B) (n : ℕ) → n ≤ length xs → n ≤ length ys → n ≤ length (zip_with f xs ys)

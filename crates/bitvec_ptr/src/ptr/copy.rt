@@ -1,4 +1,6 @@
-//! Copies of ranges of bits, between two memories and inside one.
+//! Copies and other combinations of ranges of bits, between two memories and inside one.
+//!
+//! A copy is the combination that takes the source's bit, so all of them are one engine.
 
 ghost use Rattle.std.specs.Prelude.{◌≡◌, ℕ, ℤ, pos, nat_abs, ◌+◌, ◌*◌, ◌<◌, ◌≤◌, ◌+ℤ◌, ◌≤ℤ◌, true};
 ghost use Rattle.std.specs.Prelude.{false, length, map};
@@ -9,8 +11,11 @@ ghost use Rattle.bitvec_ptr.specs.Place.{place_of, words_met, region_max_bits};
 ghost use Rattle.bitvec_ptr.specs.Steps.{RangeIsIn, AreApart};
 ghost use Rattle.bitvec_ptr.specs.WordWriter.{writer_memory, writer_of};
 
+mod gather;
+mod words;
+
 use crate::ptr::combine::{Combine, Source};
-use crate::ptr::counted::{copy_across, move_across};
+use crate::ptr::copy::words::{combine_bits, combine_bits_within};
 use crate::ptr::cursor::Cursor;
 use crate::ptr::single::BitPtr;
 use crate::ptr::writer::{WordWriter, near_edge};
@@ -60,7 +65,26 @@ impl<R: BitRegister, O: BitOrder<R>> BitPtr<R, O> {
     }
 
     /// Combines `count` bits of `memory`, from this pointer on, with those from `dest` on of the
-    /// memory that the writer borrows.
+    /// memory that the writer borrows, and puts each word that they meet once and no other word.
+    ///
+    /// Bit j of the target's range becomes what `C` makes of it and of bit j of this range,
+    /// whatever their registers and orders are. What is required, and how the mark and the count of
+    /// writes move, is as for [`copy_through`](BitPtr::copy_through), which is this call with
+    /// [`Source`]. It takes some operations for each word of the target, and some for each bit
+    /// where the orders differ and neither both rise nor both fall. Our own.
+    ///
+    /// # Examples
+    ///
+    /// ```
+    /// let memory = [0x0Fu8];
+    /// let mut target = [0x33u8, 0x33];
+    /// let from: BitPtr<u8, Lsb0> = BitPtr::new(0, BitIdx::MIN);
+    /// let dest: BitPtr<u8, Lsb0> = BitPtr::new(0, BitIdx::new_unchecked(4));
+    /// let mut writer = WordWriter::rising(&mut target);
+    /// from.combine_through::<Or, u8, Lsb0>(&memory, dest, &mut writer, 8);
+    /// assert_eq!(rt; (writer.mark(), writer.writes()), (2, 2));
+    /// assert_eq!(rt; target, [0xF3, 0x33]);
+    /// ```
     #[inline(always)]
     pub fn combine_through<C: Combine, R2: BitRegister, O2: BitOrder<R2>>(
         self,
@@ -94,7 +118,7 @@ impl<R: BitRegister, O: BitOrder<R>> BitPtr<R, O> {
         if count == 0 {
             return;
         }
-        copy_across::<C, R, O, R2, O2>(memory, Cursor::at(self), writer, Cursor::at(dest), count);
+        combine_bits::<C, R, O, R2, O2>(memory, Cursor::at(self), writer, Cursor::at(dest), count);
     }
 
     /// Copies `count` bits inside the memory that the writer borrows, from this pointer on, to
@@ -114,9 +138,9 @@ impl<R: BitRegister, O: BitOrder<R>> BitPtr<R, O> {
             → (writer_of writer.old).mark ≡ nat_abs (ptr_of dest).word }
         requires falling { 0 < count → (writer_of writer.old).rising ≡ false
             → (writer_of writer.old).mark ≡ far_edge dest count }
-        requires downwards { 0 < count → index_at dest ≤ index_at self
+        requires needs_rising { 0 < count → index_at dest ≤ index_at self
             → (writer_of writer.old).rising ≡ true }
-        requires upwards { 0 < count → index_at self < index_at dest
+        requires needs_falling { 0 < count → index_at self < index_at dest
             → (writer_of writer.old).rising ≡ false }
         ensures reference { (writer_memory writer.new).ghost_name
             ≡ (writer_memory writer.old).ghost_name }
@@ -137,8 +161,24 @@ impl<R: BitRegister, O: BitOrder<R>> BitPtr<R, O> {
     }
 
     /// Combines `count` bits inside the memory that the writer borrows, from this pointer on, with
-    /// those from `dest` on: as [`combine_through`](BitPtr::combine_through), of what was there
-    /// before the call, under what [`copy_within_through`](BitPtr::copy_within_through) asks.
+    /// those from `dest` on, and puts each word that they meet once and no other word.
+    ///
+    /// The two ranges may overlap, and each bit is combined with what was there before the call.
+    /// What is required, and how the mark and the count of writes move, is as for
+    /// [`copy_within_through`](BitPtr::copy_within_through), which is this call with [`Source`].
+    /// Our own.
+    ///
+    /// # Examples
+    ///
+    /// ```
+    /// let mut memory = [0x0Fu8, 0x3C];
+    /// let from: BitPtr<u8, Lsb0> = BitPtr::new(0, BitIdx::MIN);
+    /// let dest: BitPtr<u8, Lsb0> = BitPtr::new(1, BitIdx::MIN);
+    /// let mut writer = WordWriter::falling(&mut memory);
+    /// from.combine_within_through::<AndNot>(dest, &mut writer, 8);
+    /// assert_eq!(rt; writer.writes(), 1);
+    /// assert_eq!(rt; memory, [0x0F, 0x30]);
+    /// ```
     #[inline(always)]
     pub fn combine_within_through<C: Combine>(
         self,
@@ -154,9 +194,9 @@ impl<R: BitRegister, O: BitOrder<R>> BitPtr<R, O> {
             → (writer_of writer.old).mark ≡ nat_abs (ptr_of dest).word }
         requires falling { 0 < count → (writer_of writer.old).rising ≡ false
             → (writer_of writer.old).mark ≡ far_edge dest count }
-        requires downwards { 0 < count → index_at dest ≤ index_at self
+        requires needs_rising { 0 < count → index_at dest ≤ index_at self
             → (writer_of writer.old).rising ≡ true }
-        requires upwards { 0 < count → index_at self < index_at dest
+        requires needs_falling { 0 < count → index_at self < index_at dest
             → (writer_of writer.old).rising ≡ false }
         ensures reference { (writer_memory writer.new).ghost_name
             ≡ (writer_memory writer.old).ghost_name }
@@ -176,7 +216,7 @@ impl<R: BitRegister, O: BitOrder<R>> BitPtr<R, O> {
         if count == 0 {
             return;
         }
-        move_across::<C, R, O>(Cursor::at(self), writer, Cursor::at(dest), count);
+        combine_bits_within::<C, R, O>(Cursor::at(self), writer, Cursor::at(dest), count);
     }
 
     /// Copies `count` bits of `memory`, from this pointer on, to those of `target` from `dest` on,
@@ -218,8 +258,20 @@ impl<R: BitRegister, O: BitOrder<R>> BitPtr<R, O> {
     /// Combines `count` bits of `memory`, from this pointer on, with those of `target` from `dest`
     /// on, and changes no other bit: [`run_in`](BitPtr::run_in) is the test of each range.
     ///
-    /// Bit j of the target's range becomes what `C` makes of it and of bit j of this range. Our
-    /// own.
+    /// Bit j of the target's range becomes what `C` makes of it and of bit j of this range,
+    /// whatever their registers and orders are. With [`Source`] it is
+    /// [`copy_to`](BitPtr::copy_to). Our own.
+    ///
+    /// # Examples
+    ///
+    /// ```
+    /// let memory = [0x2Cu8];
+    /// let mut target = [0xFFFFu16];
+    /// let from: BitPtr<u8, Lsb0> = BitPtr::new(0, BitIdx::new_unchecked(2));
+    /// let dest: BitPtr<u16, Msb0> = BitPtr::new(0, BitIdx::new_unchecked(4));
+    /// from.combine_to::<Xor, u16, Msb0>(&memory, dest, &mut target, 4);
+    /// assert_eq!(rt; target, [0xF2FF]);
+    /// ```
     pub fn combine_to<C: Combine, R2: BitRegister, O2: BitOrder<R2>>(
         self,
         memory: &[R],
@@ -317,7 +369,16 @@ impl<R: BitRegister, O: BitOrder<R>> BitPtr<R, O> {
     /// changes no other bit: [`run_in`](BitPtr::run_in) is the test of each range.
     ///
     /// The two ranges may overlap, and each bit is combined with what was there before the call.
-    /// Our own.
+    /// With [`Source`] it is [`copy_within`](BitPtr::copy_within). Our own.
+    ///
+    /// # Examples
+    ///
+    /// ```
+    /// let mut memory = [0x0Du8, 0xF7];
+    /// let from: BitPtr<u8, Lsb0> = BitPtr::new(0, BitIdx::MIN);
+    /// from.combine_within::<And>(&mut memory, BitPtr::new(1, BitIdx::MIN), 4);
+    /// assert_eq!(rt; memory, [0x0D, 0xF5]);
+    /// ```
     pub fn combine_within<C: Combine>(self, memory: &mut [R], dest: Self, count: usize)
         requires from_in { RangeIsIn R.BITS (ptr_of self) (length memory.old) count }
         requires to_in { RangeIsIn R.BITS (ptr_of dest) (length memory.old) count }

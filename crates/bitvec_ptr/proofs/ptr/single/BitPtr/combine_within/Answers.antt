@@ -19,16 +19,16 @@ combine_within_through-requires-clause-falling g c = λ _ r.
     let edge = c.near_edge-edge.ensures.falling (sym writer.direction ∙ r) in
     omega (arith, edge, writer.mark, c.at-to.ensures.word, c.elements.ensures)
 
-pub combine_within_through-requires-clause-downwards : goal.combine_within_through-requires-clause-downwards
-combine_within_through-requires-clause-downwards g c = λ _ down.
+pub combine_within_through-requires-clause-needs_rising : goal.combine_within_through-requires-clause-needs_rising
+combine_within_through-requires-clause-needs_rising g c = λ _ down.
     c.standing_at-writer.ensures.direction
     ∙ elim (cases_Bool c.is_at_most-rising.result) [
       | inl e ↦ e
       | inr e ↦ (let past = c.is_at_most-rising.ensures.no e in absurd (omega (arith, past, down, c.at-to.ensures.place, c.at.ensures.place)))
     ]
 
-pub combine_within_through-requires-clause-upwards : goal.combine_within_through-requires-clause-upwards
-combine_within_through-requires-clause-upwards g c = λ _ up.
+pub combine_within_through-requires-clause-needs_falling : goal.combine_within_through-requires-clause-needs_falling
+combine_within_through-requires-clause-needs_falling g c = λ _ up.
     c.standing_at-writer.ensures.direction
     ∙ elim (cases_Bool c.is_at_most-rising.result) [
       | inl e ↦ (let at_most = c.is_at_most-rising.ensures.yes e in absurd (omega (arith, at_most, up, c.at-to.ensures.place, c.at.ensures.place)))

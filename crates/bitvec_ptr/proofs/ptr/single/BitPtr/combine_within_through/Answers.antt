@@ -16,54 +16,54 @@ returns-then-count-eq0-clause-bits g c =
     let old = memory_bits R.BITS g.O.BitAt.at_of (map R.number c.args.writer.now.words.now) in
     combined_none g.C.Combine.of old (nat_abs c.args.self.word * R.BITS + c.args.self.bit) old (nat_abs c.args.dest.word * R.BITS + c.args.dest.bit) ∙ ap (λ n. list_with g.C.Combine.of old (nat_abs c.args.self.word * R.BITS + c.args.self.bit) old (nat_abs c.args.dest.word * R.BITS + c.args.dest.bit) n) (sym c.if-count-eq0.true)
 
-pub move_across-requires-clause-from_in : goal.move_across-requires-clause-from_in
-move_across-requires-clause-from_in g c =
+pub combine_bits_within-requires-clause-from_in : goal.combine_bits_within-requires-clause-from_in
+combine_bits_within-requires-clause-from_in g c =
     let R = g.R.BitRegister in
     let some : 0 < R.BITS = omega (arith, g.met.R.BitRegister.width_at_least_8) in
     let more : 0 < c.args.count = omega arith in
     rw c.at.ensures.place (met_covers R.BITS (nat_abs c.args.self.word) c.args.self.bit c.args.count (length c.args.writer.now.words.now) some more c.requires.from_in.1)
 
-pub move_across-requires-clause-to_in : goal.move_across-requires-clause-to_in
-move_across-requires-clause-to_in g c = rw (c.at-2.ensures.word, c.at-2.ensures.bit) c.requires.to_in.1
+pub combine_bits_within-requires-clause-to_in : goal.combine_bits_within-requires-clause-to_in
+combine_bits_within-requires-clause-to_in g c = rw (c.at-2.ensures.word, c.at-2.ensures.bit) c.requires.to_in.1
 
-pub move_across-requires-clause-rising : goal.move_across-requires-clause-rising
-move_across-requires-clause-rising g c = λ r.
+pub combine_bits_within-requires-clause-rising : goal.combine_bits_within-requires-clause-rising
+combine_bits_within-requires-clause-rising g c = λ r.
     let more : 0 < c.args.count = omega arith in
     c.requires.rising more r ∙ sym c.at-2.ensures.word
 
-pub move_across-requires-clause-falling : goal.move_across-requires-clause-falling
-move_across-requires-clause-falling g c = λ r.
+pub combine_bits_within-requires-clause-falling : goal.combine_bits_within-requires-clause-falling
+combine_bits_within-requires-clause-falling g c = λ r.
     let more : 0 < c.args.count = omega arith in
     rw (c.at-2.ensures.word, c.at-2.ensures.bit) (c.requires.falling more r)
 
-pub move_across-requires-clause-before : goal.move_across-requires-clause-before
-move_across-requires-clause-before g c = λ r.
+pub combine_bits_within-requires-clause-before : goal.combine_bits_within-requires-clause-before
+combine_bits_within-requires-clause-before g c = λ r.
     let B = g.R.BitRegister.BITS in
     let more : 0 < c.args.count = omega arith in
-    let below = from_rising c.args.writer.now.rising (nat_abs c.args.self.word * B + c.args.self.bit) (nat_abs c.args.dest.word * B + c.args.dest.bit) (c.requires.upwards more) r in
+    let below = from_rising c.args.writer.now.rising (nat_abs c.args.self.word * B + c.args.self.bit) (nat_abs c.args.dest.word * B + c.args.dest.bit) (c.requires.needs_falling more) r in
     omega (arith, below, c.at.ensures.place, c.at-2.ensures.place)
 
-pub move_across-requires-clause-behind : goal.move_across-requires-clause-behind
-move_across-requires-clause-behind g c = λ r.
+pub combine_bits_within-requires-clause-behind : goal.combine_bits_within-requires-clause-behind
+combine_bits_within-requires-clause-behind g c = λ r.
     let B = g.R.BitRegister.BITS in
     let more : 0 < c.args.count = omega arith in
-    let below = from_falling c.args.writer.now.rising (nat_abs c.args.self.word * B + c.args.self.bit) (nat_abs c.args.dest.word * B + c.args.dest.bit) (c.requires.downwards more) r in
+    let below = from_falling c.args.writer.now.rising (nat_abs c.args.self.word * B + c.args.self.bit) (nat_abs c.args.dest.word * B + c.args.dest.bit) (c.requires.needs_rising more) r in
     omega (arith, below, c.at.ensures.place, c.at-2.ensures.place)
 
 pub returns-clause-writes : goal.returns-clause-writes
-returns-clause-writes g c = rw c.at-2.ensures.bit at c.move_across.ensures.writes
+returns-clause-writes g c = rw c.at-2.ensures.bit at c.combine_bits_within.ensures.writes
 
 pub returns-clause-rising_mark : goal.returns-clause-rising_mark
-returns-clause-rising_mark g c = λ _ r. rw (c.at-2.ensures.word, c.at-2.ensures.bit) at (c.move_across.ensures.rising_mark r)
+returns-clause-rising_mark g c = λ _ r. rw (c.at-2.ensures.word, c.at-2.ensures.bit) at (c.combine_bits_within.ensures.rising_mark r)
 
 pub returns-clause-falling_mark : goal.returns-clause-falling_mark
-returns-clause-falling_mark g c = λ _ r. c.move_across.ensures.falling_mark r ∙ c.at-2.ensures.word
+returns-clause-falling_mark g c = λ _ r. c.combine_bits_within.ensures.falling_mark r ∙ c.at-2.ensures.word
 
 pub returns-clause-bits : goal.returns-clause-bits
 returns-clause-bits g c =
     let R = g.R.BitRegister in
     let old = memory_bits R.BITS g.O.BitAt.at_of (map R.number c.args.writer.now.words.now) in
-    c.move_across.ensures.bits
+    c.combine_bits_within.ensures.bits
     ∙ ap (λ v. list_with g.C.Combine.of old v old (c.at-2.result.word * R.BITS + c.at-2.result.bit) c.args.count) c.at.ensures.place
     ∙ ap (λ v. list_with g.C.Combine.of old (nat_abs c.args.self.word * R.BITS + c.args.self.bit) old v c.args.count) c.at-2.ensures.place
 
