@@ -103,12 +103,9 @@ pub combined_is_copied : {A : Type 0} (source : List A) (s : ℕ) (target : List
 combined_is_copied source s target t zero h k = sym (combined_none (λ was is. is) source s target t) ∙ copied_none source s target t
 combined_is_copied source s target t (suc n) h k = taken_is_copied source s target t (suc n) (h (omega arith)) (k (omega arith))
 
--- the same of the bits of two memories, whose words are met
-pub bits_are_copied : {X Y : Type 0} (width : ℕ) (at : ℕ → ℕ) (number : X → ℕ) (source : List X) (word bit width2 : ℕ) (at2 : ℕ → ℕ) (number2 : Y → ℕ) (target : List Y) (word2 bit2 count : ℕ)
-    → 8 ≤ width → 8 ≤ width2 → word + words_met width bit count ≤ length source → word2 + words_met width2 bit2 count ≤ length target
-    → list_with (λ was is. is) (memory_bits width at (map number source)) (word * width + bit) (memory_bits width2 at2 (map number2 target)) (word2 * width2 + bit2) count
-    ≡ list_with_copy (memory_bits width at (map number source)) (word * width + bit) (memory_bits width2 at2 (map number2 target)) (word2 * width2 + bit2) count
-bits_are_copied width at number source word bit width2 at2 number2 target word2 bit2 count some some2 has fits =
-    combined_is_copied (memory_bits width at (map number source)) (word * width + bit) (memory_bits width2 at2 (map number2 target)) (word2 * width2 + bit2) count
-    (λ more. let room = met_covers width2 word2 bit2 count (length target) (omega arith) more fits in omega (arith, room, length-bits width2 at2 number2 target))
-    (λ more. let room = met_covers width word bit count (length source) (omega arith) more has in omega (arith, room, length-bits width at number source))
+-- bits whose words are met are among those of a memory
+pub met_fits : {W : Type 0} (width : ℕ) (at : ℕ → ℕ) (number : W → ℕ) (words : List W) (word bit count : ℕ) → 8 ≤ width → word + words_met width bit count ≤ length words
+    → 0 < count → word * width + bit + count ≤ length (memory_bits width at (map number words))
+met_fits width at number words word bit count some met more =
+    let room = met_covers width word bit count (length words) (omega arith) more met in
+    omega (arith, room, length-bits width at number words)

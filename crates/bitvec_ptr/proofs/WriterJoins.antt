@@ -13,9 +13,10 @@ combined_as : {A : Type 0} (f : A → A → A) (source target : List A) (s s' t 
 combined_as f source target s s' t t' n n' e e' e'' = ap (λ v. list_with f source v target t n) e ∙ ap (λ v. list_with f source s' target v n) e' ∙ ap (λ v. list_with f source s' target t' v) e''
 
 -- no bit, and so no word
-pub nothing_combined : {X Y : Type 0} (f : Bool → Bool → Bool) (width : ℕ) (at : ℕ → ℕ) (number : X → ℕ) (source : List X) (s width2 : ℕ) (at2 : ℕ → ℕ) (number2 : Y → ℕ) (writer : WordWriter Y) (t n first : ℕ)
+pub nothing_combined : {X Y : Type 0} {f : Bool → Bool → Bool} {width : ℕ} {at : ℕ → ℕ} {number : X → ℕ} {source : List X} {s width2 : ℕ} {at2 : ℕ → ℕ} {number2 : Y → ℕ} {writer : WordWriter Y} {t n first : ℕ}
     → 0 ≡ n → writer.mark ≡ first → HasCombined f width at number source s width2 at2 number2 writer writer t n first 0
-nothing_combined f width at number source s width2 at2 number2 writer t n first none stands = record {
+nothing_combined
+    {f = f} {width = width} {at = at} {number = number} {source = source} {s = s} {width2 = width2} {at2 = at2} {number2 = number2} {writer = writer} {t = t} none stands = record {
   reference = refl;
   direction = refl;
   len = refl;
@@ -31,7 +32,7 @@ pub has_combined_as : {X Y : Type 0} {f : Bool → Bool → Bool} {width : ℕ} 
     → s ≡ s' → t ≡ t' → n ≡ n' → first ≡ first' → a ≡ a' → HasCombined f width at number source s width2 at2 number2 older newer t n first a → HasCombined f width at number source s' width2 at2 number2 older newer t' n' first' a'
 has_combined_as e f g h i one = rw (e, f, g, h, i) at one
 
--- Two copies, one after the other, are the one that their bits show, by rising and by falling index.
+-- Two combinations, one after the other, are the one that their bits show: of a rising writer, and of a falling one.
 pair_rising : {X Y : Type 0} {f : Bool → Bool → Bool} {width : ℕ} {at : ℕ → ℕ} {number : X → ℕ} {source read : List X} {width2 : ℕ} {at2 : ℕ → ℕ} {number2 : Y → ℕ} {older now newer : WordWriter Y} {s t n first a p q m next b count met : ℕ}
     → older.rising ≡ true → next ≡ first + a → a + b ≡ met
     → HasCombined f width at number source s width2 at2 number2 older now t n first a → HasCombined f width at number read p width2 at2 number2 now newer q m next b
@@ -62,7 +63,7 @@ pair_falling down word words one two bits = record {
   bits = bits;
 }
 
--- A copy that goes on where one ended: `p` and `q` are the places from which it reads and to which it writes, `next` is
+-- A combination that goes on where one ended: `p` and `q` are the places from which it reads and to which it writes, `next` is
 -- its first word.
 pub joined_rising : {X Y : Type 0} {f : Bool → Bool → Bool} {width : ℕ} {at : ℕ → ℕ} {number : X → ℕ} {source : List X} {width2 : ℕ} {at2 : ℕ → ℕ} {number2 : Y → ℕ} {older now newer : WordWriter Y} {s t n first a p q m next b count met : ℕ}
     → older.rising ≡ true → t + count ≤ length older.words.now * width2 → s + count ≤ length source * width
@@ -78,7 +79,7 @@ joined_rising {f = f} {width = width} {at = at} {number = number} {source = sour
     ∙ combined_rising_apart f from into here s t n m (omega (arith, length-bits width2 at2 number2 older.words.now)) (omega (arith, length-bits width at number source)) one.bits
     ∙ combined_as f from into s s t t (n + m) count refl refl all)
 
--- A copy of what stands before one: `p` and `q` are the places of the one, `p'` and `q'` those of the other, `last` is
+-- A combination of what stands before one: `p` and `q` are the places of the one, `p'` and `q'` those of the other, `last` is
 -- its first word.
 pub joined_falling : {X Y : Type 0} {f : Bool → Bool → Bool} {width : ℕ} {at : ℕ → ℕ} {number : X → ℕ} {source : List X} {width2 : ℕ} {at2 : ℕ → ℕ} {number2 : Y → ℕ} {older now newer : WordWriter Y} {s t n first a p q m p' q' next last b count met : ℕ}
     → older.rising ≡ false → t + count ≤ length older.words.now * width2 → s + count ≤ length source * width
@@ -94,7 +95,7 @@ joined_falling {f = f} {width = width} {at = at} {number = number} {source = sou
     ∙ combined_falling_apart f from into here s t m n (omega (arith, length-bits width2 at2 number2 older.words.now)) (omega (arith, length-bits width at number source)) (one.bits ∙ combined_as f from into p (s + m) q (t + m) n n read write refl)
     ∙ combined_as f from into s s t t (m + n) count refl refl all)
 
--- The same inside one memory, downwards and upwards.
+-- The same inside one memory.
 pub joined_rising_within : {Y : Type 0} {f : Bool → Bool → Bool} {width : ℕ} {at : ℕ → ℕ} {number : Y → ℕ} {older now newer : WordWriter Y} {s t n first a p q m next b count met : ℕ}
     → older.rising ≡ true → t ≤ s → s + count ≤ length older.words.now * width
     → p ≡ s + n → q ≡ t + n → next ≡ first + a → n + m ≡ count → a + b ≡ met

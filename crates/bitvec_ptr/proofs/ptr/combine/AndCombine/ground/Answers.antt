@@ -1,4 +1,4 @@
-use Rattle.std.proofs.Common.{◌≡◌, ap, ◌∙◌}
+use Rattle.std.proofs.Common.{ap, ◌∙◌}
 use Rattle.bitvec_mem.specs.Digit.{digit}
 use Rattle.bitvec_ptr.proofs.CombineLemmas.{with_all}
 use Rattle.bitvec_ptr.proofs.ptr.combine.AndCombine.ground.Goals as goal

@@ -1,4 +1,4 @@
-use Rattle.std.proofs.Common.{◌≡◌, ap, ◌∙◌}
+use Rattle.std.proofs.Common.{ap, ◌∙◌}
 use Rattle.bitvec_mem.specs.Digit.{digit}
 use Rattle.bitvec_ptr.proofs.CombineLemmas.{without_none}
 use Rattle.bitvec_ptr.proofs.ptr.combine.AndNotCombine.ground.Goals as goal

@@ -28,5 +28,12 @@ returns g c = λ p h.
     let fits = c.requires.from_in in
     let room = c.requires.to_in in
     c.shl.ensures.moved p (omega arith) ∙ ap (λ n. digit n p) (c.word_of-here.ensures ∙ c.to_u128.ensures.number) ∙ c.and-digits.ensures.digits p (omega arith)
-    ∙ carried_digit bits c.BITS.result c.args.from count (number c.args.word) (number c.shr.result) (number c.ALL.result) (number c.shr-lowest.result) p
-    wide (ap number c.ALL.ensures ∙ g.met.R.BitRegister.all_is_greatest) h fits c.shr.ensures.moved c.shr-lowest.ensures.moved
+    ∙ carried_digit
+    {bits = bits} {from = c.args.from} {count = count} {n = number c.args.word} {low = number c.shr.result} {all = number c.ALL.result} {mask = number c.shr-lowest.result}
+    (record {
+      fits = fits;
+      ones = ap number c.ALL.ensures ∙ g.met.R.BitRegister.all_is_greatest;
+      down = c.shr.ensures.moved;
+      masks = rw c.BITS.ensures at c.shr-lowest.ensures.moved;
+    })
+    p h

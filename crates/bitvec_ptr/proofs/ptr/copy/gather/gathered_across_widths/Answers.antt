@@ -1,7 +1,7 @@
 use Rattle.std.proofs.Common.{◌≡◌, ◌+◌, ◌-◌, ◌*◌, ◌<◌, ◌≤◌, length, map, min, sym, ◌∙◌, ap, arith}
 use Rattle.std.proofs.lemmas.List.{get_or-map}
 use Rattle.bitvec_ptr.proofs.CopyLemmas.{word_within}
-use Rattle.bitvec_ptr.proofs.GatherLemmas.{share_end, gathered_inside, gathered_outside}
+use Rattle.bitvec_ptr.proofs.GatherLemmas.{IsShared, share_end, gathered_inside, gathered_outside}
 use Rattle.bitvec_ptr.proofs.ptr.copy.gather.gathered_across_widths.Goals as goal
 
 pub loop-done-preserved : goal.loop-done-preserved
@@ -20,15 +20,22 @@ loop-done-preserved g c =
     let after = R2.number c.gathered_from_word-gathered.result in
     let low : read.bit < bits = omega (arith, read.in_word, g.met.R.BitRegister.width_at_least_8) in
     let more : done < c.args.count = c.loop-done-test.true in
-    let part_is : share ≡ min (bits - read.bit) (c.args.count - done) = c.min-share.ensures ∙ ap (λ v. min (v - read.bit) (c.args.count - done)) c.BITS.ensures in
+    let share_is : share ≡ min (bits - read.bit) (c.args.count - done) = c.min-share.ensures ∙ ap (λ v. min (v - read.bit) (c.args.count - done)) c.BITS.ensures in
     let place : read.word * bits + read.bit ≡ s + done = c.loop-done.invariant.reads more in
-    let room : bit + done + share ≤ R2.BITS = omega (arith, c.requires.bit_in, part_is) in
-    let fits : read.bit + share ≤ bits = omega (arith, part_is) in
+    let room : bit + done + share ≤ R2.BITS = omega (arith, c.requires.bit_in, share_is) in
+    let fits : read.bit + share ≤ bits = omega (arith, share_is) in
     let there : read.word < length c.args.source.now = word_within read.word read.bit bits (length c.args.source.now) (omega (arith, place, more, c.requires.from_in)) in
     let here = ap R.number c.index-source-read.is ∙ sym (get_or-map R.number c.args.source.now read.word c.index-source-read.result 0 there) in
+    let next : IsShared bits at R2.BITS at2 read.bit bit done share (R.number c.index-source-read.result) before after =
     record {
-      most = omega (arith, part_is);
-      reads = share_end bits read.word read.bit s done share c.args.count c.new-read.result.word c.new-read.result.bit low place more part_is c.new-read.ensures.word c.new-read.ensures.bit;
-      inside = gathered_inside bits at at2 (map R.number c.args.source.now) read.word read.bit s bit done share R2.BITS before after (R.number c.index-source-read.result) room fits place here c.gathered_from_word-gathered.ensures.inside c.gathered_from_word-gathered.ensures.outside c.loop-done.invariant.inside;
-      outside = gathered_outside at2 bit done share R2.BITS (R2.number c.args.word) before after c.gathered_from_word-gathered.ensures.outside c.loop-done.invariant.outside;
+      room = room;
+      fits = fits;
+      inside = c.gathered_from_word-gathered.ensures.inside;
+      outside = c.gathered_from_word-gathered.ensures.outside;
+    } in
+    record {
+      most = omega (arith, share_is);
+      reads = λ more'. rw (c.new-read.ensures.word, c.new-read.ensures.bit) (share_end bits read.word read.bit s done share c.args.count low place share_is more');
+      inside = gathered_inside next (map R.number c.args.source.now) read.word s place here c.loop-done.invariant.inside;
+      outside = gathered_outside next (R2.number c.args.word) c.loop-done.invariant.outside;
     }

@@ -8,10 +8,7 @@ use Rattle.bitvec_ptr.proofs.ptr.copy.words.combine_row_falling_within.Goals as 
 
 pub loop-done-init : goal.loop-done-init
 loop-done-init g c =
-    let R = g.R.BitRegister in
-    let at = g.O.BitAt.at_of in
-    let count = c.args.count in
-    nothing_combined g.C.Combine.of R.BITS at R.number c.args.writer.now.words.now (c.args.from.word * R.BITS + c.args.from.bit + (count - 0) * R.BITS) R.BITS at R.number c.args.writer.now (c.args.to * R.BITS + (count - 0) * R.BITS) (0 * R.BITS) (c.args.to + (count - 0)) (omega arith) (omega arith)
+    nothing_combined (omega arith) (omega arith)
 
 pub words_on-read-requires-clause-short : goal.words_on-read-requires-clause-short
 words_on-read-requires-clause-short g c =

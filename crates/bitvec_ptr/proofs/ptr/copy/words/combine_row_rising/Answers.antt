@@ -8,9 +8,7 @@ use Rattle.bitvec_ptr.proofs.ptr.copy.words.combine_row_rising.Goals as goal
 
 pub loop-k-init : goal.loop-k-init
 loop-k-init g c =
-    let R = g.R.BitRegister in
-    let R2 = g.R2.BitRegister in
-    nothing_combined g.C.Combine.of R.BITS g.O.BitAt.at_of R.number c.args.source.now (c.args.from.word * R.BITS + c.args.from.bit) R2.BITS g.O2.BitAt.at_of R2.number c.args.writer.now (c.args.to * R2.BITS) (0 * R2.BITS) c.args.to (omega arith) c.requires.stands
+    nothing_combined (omega arith) c.requires.stands
 
 pub words_on-read-requires-clause-short : goal.words_on-read-requires-clause-short
 words_on-read-requires-clause-short g c =

@@ -7,9 +7,7 @@ use Rattle.bitvec_ptr.proofs.ptr.copy.words.combine_row_rising_within.Goals as g
 
 pub loop-k-init : goal.loop-k-init
 loop-k-init g c =
-    let R = g.R.BitRegister in
-    let at = g.O.BitAt.at_of in
-    nothing_combined g.C.Combine.of R.BITS at R.number c.args.writer.now.words.now (c.args.from.word * R.BITS + c.args.from.bit) R.BITS at R.number c.args.writer.now (c.args.to * R.BITS) (0 * R.BITS) c.args.to (omega arith) c.requires.stands
+    nothing_combined (omega arith) c.requires.stands
 
 pub words_on-read-requires-clause-short : goal.words_on-read-requires-clause-short
 words_on-read-requires-clause-short g c =
