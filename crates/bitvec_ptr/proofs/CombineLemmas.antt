@@ -1,11 +1,13 @@
 -- Elements of a list combined with those of a list, one by one.
-use Rattle.std.proofs.Common.{◌≡◌, ◌⊎◌, ⊎_elim, ℕ, zero, suc, ◌+◌, ◌*◌, ◌-◌, ◌^◌, ◌<◌, ◌≤◌, Bool, true, false, not, ◌&&◌, ◌||◌, List, [], ◌∷◌, length, map, get_or, drop, refl, sym, ◌∙◌, ap, arith, length-drop, get_or-drop}
+use Rattle.std.proofs.Common.{◌≡◌, ◌⊎◌, ⊎_elim, ℕ, zero, suc, ◌+◌, ◌*◌, ◌-◌, ◌^◌, ◌<◌, ◌≤◌, Bool, true, false, not, ◌&&◌, ◌||◌, List, [], ◌∷◌, length}
+use Rattle.std.proofs.Common.{map, get_or, drop, refl, sym, ◌∙◌, ap, arith, length-drop, get_or-drop}
 use Rattle.std.proofs.Math.Bool.{and-true}
 use Rattle.bitvec_mem.specs.Digit.{digit, exclusive_or}
 use Rattle.bitvec_mem.proofs.DigitLemmas.{digit-zero, digit_all}
 use Rattle.bitvec_ptr.specs.Memory.{memory_bits, zip_with, list_with, list_with_copy}
 use Rattle.bitvec_ptr.specs.Place.{words_met}
-use Rattle.bitvec_ptr.proofs.CopyLemmas.{copied_none, length-copied, get_or-copied_below, get_or-copied_inside, get_or-copied_above, copied_from_points, met_covers, length-bits}
+use Rattle.bitvec_ptr.proofs.CopyLemmas.{copied_none, length-copied, get_or-copied_below, get_or-copied_inside, get_or-copied_above}
+use Rattle.bitvec_ptr.proofs.CopyLemmas.{copied_from_points, met_covers, length-bits}
 
 -- a bit with that of a word whose digits are all one, or all zero
 pub with_all : (bits n p : ℕ) (b : Bool) → n ≡ 2 ^ bits - 1 → p < bits → (b && digit n p) ≡ b
@@ -43,7 +45,8 @@ module _ {A B C : Type 0} (f : A → B → C) where
   long-zip_with (x ∷ xs) (y ∷ ys) zero a b = omega arith
   long-zip_with (x ∷ xs) (y ∷ ys) (suc n) a b = let rest = long-zip_with xs ys n (omega arith) (omega arith) in omega (arith, rest)
 
-  get_or-zip_with : (xs : List A) (ys : List B) (i : ℕ) (c : A) (d : B) (e : C) → i < length xs → i < length ys → get_or (zip_with f xs ys) i e ≡ f (get_or xs i c) (get_or ys i d)
+  get_or-zip_with : (xs : List A) (ys : List B) (i : ℕ) (c : A) (d : B) (e : C) → i < length xs → i < length ys
+      → get_or (zip_with f xs ys) i e ≡ f (get_or xs i c) (get_or ys i d)
   unfolding zip_with
   get_or-zip_with [] ys i c d e a b = absurd (omega arith)
   get_or-zip_with (x ∷ xs) [] i c d e a b = absurd (omega arith)
@@ -54,7 +57,8 @@ module _ {A B C : Type 0} (f : A → B → C) where
 pub combined_none : {A : Type 0} (f : A → A → A) (source : List A) (s : ℕ) (target : List A) (t : ℕ) → target ≡ list_with f source s target t 0
 combined_none f source s target t = copied_none (zip_with f (drop t target) (drop s source)) 0 target t
 
-module _ {A : Type 0} (f : A → A → A) (source : List A) (s : ℕ) (target : List A) (t n : ℕ) (h : t + n ≤ length target) (k : s + n ≤ length source) where
+module _ {A : Type 0} (f : A → A → A) (source : List A) (s : ℕ) (target : List A) (t n : ℕ)
+    (h : t + n ≤ length target) (k : s + n ≤ length source) where
   long : n ≤ length (zip_with f (drop t target) (drop s source))
   long = long-zip_with f (drop t target) (drop s source) n (omega (arith, length-drop t target)) (omega (arith, length-drop s source))
 
@@ -67,7 +71,8 @@ module _ {A : Type 0} (f : A → A → A) (source : List A) (s : ℕ) (target : 
   pub get_or-combined_above : (q : ℕ) (d : A) → t + n ≤ q → get_or (list_with f source s target t n) q d ≡ get_or target q d
   get_or-combined_above q d r = get_or-copied_above (zip_with f (drop t target) (drop s source)) 0 target t n h (omega (arith, long)) q d r
 
-  paired : (j : ℕ) (d : A) → j < n → get_or (zip_with f (drop t target) (drop s source)) (0 + j) d ≡ f (get_or target (t + j) d) (get_or source (s + j) d)
+  paired : (j : ℕ) (d : A) → j < n
+      → get_or (zip_with f (drop t target) (drop s source)) (0 + j) d ≡ f (get_or target (t + j) d) (get_or source (s + j) d)
   paired j d r =
       let same : 0 + j ≡ j = omega arith in
       ap (λ v. get_or (zip_with f (drop t target) (drop s source)) v d) same
@@ -75,7 +80,8 @@ module _ {A : Type 0} (f : A → A → A) (source : List A) (s : ℕ) (target : 
       ∙ ap (λ v. f v (get_or (drop s source) j d)) (get_or-drop t target j d)
       ∙ ap (λ v. f (get_or target (t + j) d) v) (get_or-drop s source j d)
 
-  pub get_or-combined_inside : (q j : ℕ) (d : A) → q ≡ t + j → j < n → get_or (list_with f source s target t n) q d ≡ f (get_or target q d) (get_or source (s + j) d)
+  pub get_or-combined_inside : (q j : ℕ) (d : A) → q ≡ t + j → j < n
+      → get_or (list_with f source s target t n) q d ≡ f (get_or target q d) (get_or source (s + j) d)
   get_or-combined_inside q j d e r =
       get_or-copied_inside (zip_with f (drop t target) (drop s source)) 0 target t n h (omega (arith, long)) q j d e r
       ∙ paired j d r ∙ ap (λ v. f (get_or target v d) (get_or source (s + j) d)) (sym e)
@@ -95,16 +101,22 @@ taken_is_copied source s target t n h k =
     copied_from_points source s target t n h k (list_with (λ was is. is) source s target t n)
     (length-combined (λ was is. is) source s target t n h k)
     (λ j d r. get_or-combined_inside (λ was is. is) source s target t n h k (t + j) j d refl r)
-    (λ q d r u. ⊎_elim (λ v. get_or-combined_below (λ was is. is) source s target t n h k q d v) (λ v. get_or-combined_above (λ was is. is) source s target t n h k q d v) u)
+    (λ q d r u.
+    ⊎_elim
+    (λ v. get_or-combined_below (λ was is. is) source s target t n h k q d v)
+    (λ v. get_or-combined_above (λ was is. is) source s target t n h k q d v)
+    u)
 
 -- where the source's elements are taken as they are, it is a copy
-pub combined_is_copied : {A : Type 0} (source : List A) (s : ℕ) (target : List A) (t n : ℕ) → (0 < n → t + n ≤ length target) → (0 < n → s + n ≤ length source)
+pub combined_is_copied : {A : Type 0} (source : List A) (s : ℕ) (target : List A) (t n : ℕ) → (0 < n → t + n ≤ length target)
+    → (0 < n → s + n ≤ length source)
     → list_with (λ was is. is) source s target t n ≡ list_with_copy source s target t n
 combined_is_copied source s target t zero h k = sym (combined_none (λ was is. is) source s target t) ∙ copied_none source s target t
 combined_is_copied source s target t (suc n) h k = taken_is_copied source s target t (suc n) (h (omega arith)) (k (omega arith))
 
 -- bits whose words are met are among those of a memory
-pub met_fits : {W : Type 0} (width : ℕ) (at : ℕ → ℕ) (number : W → ℕ) (words : List W) (word bit count : ℕ) → 8 ≤ width → word + words_met width bit count ≤ length words
+pub met_fits : {W : Type 0} (width : ℕ) (at : ℕ → ℕ) (number : W → ℕ) (words : List W) (word bit count : ℕ) → 8 ≤ width
+    → word + words_met width bit count ≤ length words
     → 0 < count → word * width + bit + count ≤ length (memory_bits width at (map number words))
 met_fits width at number words word bit count some met more =
     let room = met_covers width word bit count (length words) (omega arith) more met in

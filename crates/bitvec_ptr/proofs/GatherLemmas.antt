@@ -1,5 +1,6 @@
 -- How the bits of a word are gathered and put in place: under a mask, from one or two words that are read, by digits.
-use Rattle.std.proofs.Common.{◌≡◌, ◌⊎◌, ⊎_elim, ℕ, ◌+◌, ◌*◌, ◌-◌, ◌/◌, ◌%◌, ◌^◌, ◌<◌, ◌≤◌, Bool, true, false, not, ◌&&◌, ◌||◌, min, List, length, get_or, refl, sym, ◌∙◌, ap, arith, inl, inr}
+use Rattle.std.proofs.Common.{◌≡◌, ◌⊎◌, ⊎_elim, ℕ, ◌+◌, ◌*◌, ◌-◌, ◌/◌, ◌%◌, ◌^◌, ◌<◌, ◌≤◌, Bool, true, false, not, ◌&&◌, ◌||◌, min, List, length}
+use Rattle.std.proofs.Common.{get_or, refl, sym, ◌∙◌, ap, arith, inl, inr}
 use Rattle.std.specs.Prelude.{slice_index, slice_set}
 use Rattle.std.proofs.Math.Bool.{and-true}
 use Rattle.std.proofs.Math.ListN.{length-set}
@@ -65,7 +66,8 @@ masked_outside {bits = bits} {at = at} {from = from} {count = count} {mask = mas
 
 -- v is the word of some index of a memory, but `count` bits from `bit` on, each of which f makes of what it was and of a bit of
 -- a source, from place s on
-pub record IsCombinedWord (f : Bool → Bool → Bool) (bits : ℕ) (at : ℕ → ℕ) (src : List ℕ) (s bits2 : ℕ) (at2 : ℕ → ℕ) (words : List ℕ) (word bit count v : ℕ) : Type 0 where
+pub record IsCombinedWord (f : Bool → Bool → Bool) (bits : ℕ) (at : ℕ → ℕ) (src : List ℕ) (s bits2 : ℕ) (at2 : ℕ → ℕ) (words : List ℕ)
+    (word bit count v : ℕ) : Type 0 where
   pub some : 0 < count
   pub end : bit + count ≤ bits2
   pub inside : word < length words
@@ -74,11 +76,14 @@ pub record IsCombinedWord (f : Bool → Bool → Bool) (bits : ℕ) (at : ℕ �
   pub others : (j : ℕ) → j < bits2 → (j < bit) ⊎ (bit + count ≤ j) → digit v (at2 j) ≡ digit (slice_index words word) (at2 j)
 
 -- put in its place, it makes the memory's bits the combination
-pub word_combined : {f : Bool → Bool → Bool} {bits : ℕ} {at : ℕ → ℕ} {src : List ℕ} {s bits2 : ℕ} {at2 : ℕ → ℕ} {words : List ℕ} {word bit count v : ℕ}
+pub word_combined : {f : Bool → Bool → Bool} {bits : ℕ} {at : ℕ → ℕ} {src : List ℕ} {s bits2 : ℕ} {at2 : ℕ → ℕ} {words : List ℕ}
+    {word bit count v : ℕ}
     → IsCombinedWord f bits at src s bits2 at2 words word bit count v
-    → memory_bits bits2 at2 (slice_set words word v) ≡ list_with f (memory_bits bits at src) s (memory_bits bits2 at2 words) (word * bits2 + bit) count
+    → memory_bits bits2 at2 (slice_set words word v)
+    ≡ list_with f (memory_bits bits at src) s (memory_bits bits2 at2 words) (word * bits2 + bit) count
 word_combined
-    {f = f} {bits = bits} {at = at} {src = src} {s = s} {bits2 = bits2} {at2 = at2} {words = words} {word = word} {bit = bit} {count = count} {v = v} made =
+    {f = f} {bits = bits} {at = at} {src = src} {s = s} {bits2 = bits2} {at2 = at2} {words = words} {word = word} {bit = bit} {count = count} {v = v}
+    made =
     let some = made.some in
     let end = made.end in
     let inside = made.inside in
@@ -107,7 +112,9 @@ word_combined
     ∙ ap (λ w. digit w (at2 (bit + j))) (get_or-set_same words word v 0 inside)
     ∙ made.digits j r
     ∙ sym (ap (λ b. f b (get_or (memory_bits bits at src) (s + j) d))
-    (get_or-memory_bits bits2 at2 words (word * bits2 + bit + j) d before ∙ ap (bit_of bits2 at2 words) place ∙ bit_of-word bits2 at2 words word (bit + j) index)
+    (get_or-memory_bits bits2 at2 words (word * bits2 + bit + j) d before
+    ∙ ap (bit_of bits2 at2 words) place
+    ∙ bit_of-word bits2 at2 words word (bit + j) index)
     ∙ ap (f (digit (slice_index words word) (at2 (bit + j)))) (get_or-memory_bits bits at src (s + j) d there)))
     (λ q d r u.
     let was : q < length words * bits2 = omega (arith, n) in
@@ -155,7 +162,8 @@ pair_bits {bits = bits} {at = at} {s = s} {count = count} is src k this next j h
     ]
 
 -- what a way asks of other indices of the two sides
-pub allows_elsewhere : (way : Way) (bits : ℕ) (at : ℕ → ℕ) (bits2 : ℕ) (at2 : ℕ → ℕ) (from to from2 to2 : ℕ) → Allows way bits at bits2 at2 from to → (bits ≡ bits2 → from ≡ to → from2 ≡ to2) → Allows way bits at bits2 at2 from2 to2
+pub allows_elsewhere : (way : Way) (bits : ℕ) (at : ℕ → ℕ) (bits2 : ℕ) (at2 : ℕ → ℕ) (from to from2 to2 : ℕ) → Allows way bits at bits2 at2 from to
+    → (bits ≡ bits2 → from ≡ to → from2 ≡ to2) → Allows way bits at bits2 at2 from2 to2
 allows_elsewhere way bits at bits2 at2 from to from2 to2 a same = record {
   width = a.width;
   whole = λ e. (same (a.width e) (a.whole e).0, (a.whole e).1);
@@ -250,7 +258,8 @@ pub falling_bits : {bits : ℕ} {at : ℕ → ℕ} {bits2 : ℕ} {at2 : ℕ → 
     → IsCarriedFalling bits at bits2 at2 from bit count lowest position read with after
     → (j : ℕ) → j < count → digit after (at2 (bit + j)) ≡ digit read (at (from + j))
 falling_bits
-    {bits = bits} {bits2 = bits2} {from = from} {bit = bit} {count = count} {lowest = lowest} {position = position} {read = read} {with = with} is j h =
+    {bits = bits} {bits2 = bits2} {from = from} {bit = bit} {count = count} {lowest = lowest} {position = position} {read = read} {with = with} is j
+    h =
     let fits = is.fits in
     let room = is.room in
     let e = is.lowest_is in

@@ -8,7 +8,8 @@ use Rattle.bitvec_ptr.specs.WordWriter.{writer_memory, writer_of}
 -- `count` bits, from place s of a source on, with those of its memory from place t on: each became f of what it was and
 -- of the source's. The words of the source have `width` bits at the positions `at` and are numbers by `number`; those
 -- of the memory have `width2`, `at2`, `number2`.
-pub record HasCombined {X Y : Type 0} (f : Bool → Bool → Bool) (width : ℕ) (at : ℕ → ℕ) (number : X → ℕ) (source : List X) (s : ℕ) (width2 : ℕ) (at2 : ℕ → ℕ) (number2 : Y → ℕ) (older newer : WordWriter Y) (t count first met : ℕ) : Type 0 where
+pub record HasCombined {X Y : Type 0} (f : Bool → Bool → Bool) (width : ℕ) (at : ℕ → ℕ) (number : X → ℕ) (source : List X) (s : ℕ) (width2 : ℕ)
+    (at2 : ℕ → ℕ) (number2 : Y → ℕ) (older newer : WordWriter Y) (t count first met : ℕ) : Type 0 where
   pub reference : (writer_memory newer).ghost_name ≡ (writer_memory older).ghost_name
   pub direction : (writer_of newer).rising ≡ (writer_of older).rising
   pub len : length (writer_of newer).words ≡ length (writer_of older).words
@@ -19,5 +20,8 @@ pub record HasCombined {X Y : Type 0} (f : Bool → Bool → Bool) (width : ℕ)
       ≡ list_with f (memory_bits width at (map number source)) s (memory_bits width2 at2 (map number2 (writer_of older).words)) t count
 
 -- The same inside one memory: what is combined with the target is what was there before.
-abbrev pub HasCombinedWithin : {Y : Type 0} (f : Bool → Bool → Bool) (width : ℕ) (at : ℕ → ℕ) (number : Y → ℕ) (s : ℕ) (older newer : WordWriter Y) (t count first met : ℕ) → Type 0
-HasCombinedWithin f width at number s older newer t count first met = HasCombined f width at number (writer_of older).words s width at number older newer t count first met
+abbrev pub HasCombinedWithin : {Y : Type 0} (f : Bool → Bool → Bool) (width : ℕ) (at : ℕ → ℕ) (number : Y → ℕ) (s : ℕ) (older newer : WordWriter Y)
+    (t count first met : ℕ)
+    → Type 0
+HasCombinedWithin f width at number s older newer t count first met =
+    HasCombined f width at number (writer_of older).words s width at number older newer t count first met

@@ -16,7 +16,11 @@ word_of-here-requires g c =
     let room : count ≤ g.R2.BitRegister.BITS = omega (arith, c.requires.to_in) in
     let small : number c.and-digits.result < 2 ^ count =
     below_digits bits count (number c.and-digits.result) c.and-digits.ensures.below most
-    (λ p h r. c.and-digits.ensures.digits p h ∙ ap (λ b. digit (number c.shr.result) p && b) (c.shr-lowest.ensures.high p h (omega arith)) ∙ and-false (digit (number c.shr.result) p)) in
+    (λ p h r.
+    c.and-digits.ensures.digits p h
+    ∙ ap (λ b. digit (number c.shr.result) p && b) (c.shr-lowest.ensures.high p h (omega arith))
+    ∙ and-false (digit (number c.shr.result) p))
+    in
     omega (arith, small, pow_mono room, c.to_u128.ensures.number)
 
 pub returns : goal.returns
@@ -27,9 +31,11 @@ returns g c = λ p h.
     let wide = c.BITS.ensures in
     let fits = c.requires.from_in in
     let room = c.requires.to_in in
-    c.shl.ensures.moved p (omega arith) ∙ ap (λ n. digit n p) (c.word_of-here.ensures ∙ c.to_u128.ensures.number) ∙ c.and-digits.ensures.digits p (omega arith)
+    c.shl.ensures.moved p (omega arith) ∙ ap (λ n. digit n p) (c.word_of-here.ensures ∙ c.to_u128.ensures.number)
+    ∙ c.and-digits.ensures.digits p (omega arith)
     ∙ carried_digit
-    {bits = bits} {from = c.args.from} {count = count} {n = number c.args.word} {low = number c.shr.result} {all = number c.ALL.result} {mask = number c.shr-lowest.result}
+    {bits = bits} {from = c.args.from} {count = count} {n = number c.args.word} {low = number c.shr.result} {all = number c.ALL.result}
+    {mask = number c.shr-lowest.result}
     (record {
       fits = fits;
       ones = ap number c.ALL.ensures ∙ g.met.R.BitRegister.all_is_greatest;

@@ -20,11 +20,13 @@ loop-done-preserved g c =
     let after = R2.number c.gathered_from_word-gathered.result in
     let low : read.bit < bits = omega (arith, read.in_word, g.met.R.BitRegister.width_at_least_8) in
     let more : done < c.args.count = c.loop-done-test.true in
-    let share_is : share ≡ min (bits - read.bit) (c.args.count - done) = c.min-share.ensures ∙ ap (λ v. min (v - read.bit) (c.args.count - done)) c.BITS.ensures in
+    let share_is : share ≡ min (bits - read.bit) (c.args.count - done) =
+    c.min-share.ensures ∙ ap (λ v. min (v - read.bit) (c.args.count - done)) c.BITS.ensures in
     let place : read.word * bits + read.bit ≡ s + done = c.loop-done.invariant.reads more in
     let room : bit + done + share ≤ R2.BITS = omega (arith, c.requires.bit_in, share_is) in
     let fits : read.bit + share ≤ bits = omega (arith, share_is) in
-    let there : read.word < length c.args.source.now = word_within read.word read.bit bits (length c.args.source.now) (omega (arith, place, more, c.requires.from_in)) in
+    let there : read.word < length c.args.source.now =
+    word_within read.word read.bit bits (length c.args.source.now) (omega (arith, place, more, c.requires.from_in)) in
     let here = ap R.number c.index-source-read.is ∙ sym (get_or-map R.number c.args.source.now read.word c.index-source-read.result 0 there) in
     let next : IsShared bits at R2.BITS at2 read.bit bit done share (R.number c.index-source-read.result) before after =
     record {
@@ -35,7 +37,9 @@ loop-done-preserved g c =
     } in
     record {
       most = omega (arith, share_is);
-      reads = λ more'. rw (c.new-read.ensures.word, c.new-read.ensures.bit) (share_end bits read.word read.bit s done share c.args.count low place share_is more');
+      reads =
+          λ more'. rw (c.new-read.ensures.word, c.new-read.ensures.bit)
+          (share_end bits read.word read.bit s done share c.args.count low place share_is more');
       inside = gathered_inside next (map R.number c.args.source.now) read.word s place here c.loop-done.invariant.inside;
       outside = gathered_outside next (R2.number c.args.word) c.loop-done.invariant.outside;
     }

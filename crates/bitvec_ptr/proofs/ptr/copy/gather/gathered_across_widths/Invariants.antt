@@ -13,7 +13,8 @@ invariant-loop-done g l =
       most : l.done ≤ l.count;
       reads : l.done < l.count → l.read.word * R.BITS + l.read.bit ≡ s + l.done;
       inside : (j : ℕ) → j < l.done → digit (R2.number l.gathered) (at2 (l.bit + j)) ≡ bit_of R.BITS g.O.BitAt.at_of (map R.number l.source) (s + j);
-      outside : (j : ℕ) → j < R2.BITS → (j < l.bit) ⊎ (l.bit + l.done ≤ j) → digit (R2.number l.gathered) (at2 j) ≡ digit (R2.number l.fn.word) (at2 j);
+      outside : (j : ℕ) → j < R2.BITS → (j < l.bit) ⊎ (l.bit + l.done ≤ j)
+          → digit (R2.number l.gathered) (at2 j) ≡ digit (R2.number l.fn.word) (at2 j);
     }
 
 abbrev pub decreases-loop-done : goal.decreases-loop-done

@@ -12,7 +12,10 @@ returns-in-Falling-clause-inside g c =
     let count = c.args.count in
     let wide = c.BITS.ensures in
     let wide2 = c.BITS-in-Falling.ensures in
-    let carried : IsCarriedFalling bits g.O.BitAt.at_of bits2 g.O2.BitAt.at_of from bit count (c.BITS.result - from - count) (c.BITS-in-Falling.result - bit - count) (g.R.BitRegister.number c.args.read) (g.R2.BitRegister.number c.carried-with-in-Falling.result) (g.R2.BitRegister.number c.with_bits-in-Falling.result) =
+    let carried : IsCarriedFalling bits g.O.BitAt.at_of bits2 g.O2.BitAt.at_of from bit count
+    (c.BITS.result - from - count) (c.BITS-in-Falling.result - bit - count)
+    (g.R.BitRegister.number c.args.read)
+    (g.R2.BitRegister.number c.carried-with-in-Falling.result) (g.R2.BitRegister.number c.with_bits-in-Falling.result) =
     record {
       falls = falls.0;
       falls2 = falls.1;

@@ -10,5 +10,6 @@ invariant-loop-done g l =
     let at2 = g.O2.BitAt.at_of in
     record {
       inside : (j : ℕ) → j < l.done → digit (R2.number l.gathered) (at2 (l.bit + j)) ≡ digit (R.number l.read) (at (l.from + j));
-      outside : (j : ℕ) → j < R2.BITS → (j < l.bit) ⊎ (l.bit + l.done ≤ j) → digit (R2.number l.gathered) (at2 j) ≡ digit (R2.number l.fn.word) (at2 j);
+      outside : (j : ℕ) → j < R2.BITS → (j < l.bit) ⊎ (l.bit + l.done ≤ j)
+          → digit (R2.number l.gathered) (at2 j) ≡ digit (R2.number l.fn.word) (at2 j);
     }

@@ -17,7 +17,8 @@ returns-clause-inside g c =
       digits = λ i h.
           c.or.ensures.digits (at i) (law.below i h)
           ∙ ap (λ b. b || digit (number c.and-2.result) (at i))
-          (c.and.ensures.digits (at i) (law.below i h) ∙ ap (λ b. digit (number c.args.word) (at i) && b) (c.not.ensures.digits (at i) (law.below i h)))
+          (c.and.ensures.digits (at i) (law.below i h)
+          ∙ ap (λ b. digit (number c.args.word) (at i) && b) (c.not.ensures.digits (at i) (law.below i h)))
           ∙ ap (λ b. (digit (number c.args.word) (at i) && not (digit mask (at i))) || b) (c.and-2.ensures.digits (at i) (law.below i h));
     } in
     masked_inside is
@@ -36,7 +37,8 @@ returns-clause-outside g c =
       digits = λ i h.
           c.or.ensures.digits (at i) (law.below i h)
           ∙ ap (λ b. b || digit (number c.and-2.result) (at i))
-          (c.and.ensures.digits (at i) (law.below i h) ∙ ap (λ b. digit (number c.args.word) (at i) && b) (c.not.ensures.digits (at i) (law.below i h)))
+          (c.and.ensures.digits (at i) (law.below i h)
+          ∙ ap (λ b. digit (number c.args.word) (at i) && b) (c.not.ensures.digits (at i) (law.below i h)))
           ∙ ap (λ b. (digit (number c.args.word) (at i) && not (digit mask (at i))) || b) (c.and-2.ensures.digits (at i) (law.below i h));
     } in
     masked_outside is

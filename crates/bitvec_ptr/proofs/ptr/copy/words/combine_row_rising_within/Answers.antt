@@ -18,17 +18,20 @@ pub words_on-read-requires-clause-inside : goal.words_on-read-requires-clause-in
 words_on-read-requires-clause-inside g c =
     let R = g.R.BitRegister in
     let less = row_less R.BITS (c.loop-k.k) c.args.count (omega arith) in
-    place_below R.BITS (c.args.from.word * R.BITS + c.args.from.bit + (c.loop-k.k) * R.BITS) (length c.args.writer.now.words.now) (omega (arith, g.met.R.BitRegister.width_at_least_8)) (omega (arith, less)) (omega arith)
+    place_below R.BITS (c.args.from.word * R.BITS + c.args.from.bit + (c.loop-k.k) * R.BITS) (length c.args.writer.now.words.now)
+    (omega (arith, g.met.R.BitRegister.width_at_least_8)) (omega (arith, less)) (omega arith)
 
 pub combine_word_within-requires-clause-way : goal.combine_word_within-requires-clause-way
 combine_word_within-requires-clause-way g c =
     let R = g.R.BitRegister in
-    allows_elsewhere c.args.way R.BITS g.O.BitAt.at_of R.BITS g.O.BitAt.at_of c.args.from.bit 0 c.words_on-read.result.bit 0 c.requires.way (λ w e. c.words_on-read.ensures.bit refl ∙ e)
+    allows_elsewhere c.args.way R.BITS g.O.BitAt.at_of R.BITS g.O.BitAt.at_of c.args.from.bit 0 c.words_on-read.result.bit 0 c.requires.way
+    (λ w e. c.words_on-read.ensures.bit refl ∙ e)
 
 pub combine_word_within-requires-clause-from_in : goal.combine_word_within-requires-clause-from_in
 combine_word_within-requires-clause-from_in g c =
     let less = row_less g.R.BitRegister.BITS (c.loop-k.k) c.args.count (omega arith) in
-    let same : length c.loop-k.writer.words.now * g.R.BitRegister.BITS ≡ length c.args.writer.now.words.now * g.R.BitRegister.BITS = ap (λ n. n * g.R.BitRegister.BITS) c.loop-k.invariant.len in
+    let same : length c.loop-k.writer.words.now * g.R.BitRegister.BITS ≡ length c.args.writer.now.words.now * g.R.BitRegister.BITS =
+    ap (λ n. n * g.R.BitRegister.BITS) c.loop-k.invariant.len in
     omega (arith, less, c.words_on-read.ensures.place, c.BITS.ensures, same, c.requires.from_in)
 
 pub loop-k-preserved : goal.loop-k-preserved
@@ -38,4 +41,5 @@ loop-k-preserved g c =
     let less = row_less R.BITS k c.args.count (omega arith) in
     let next : (k + 1) * R.BITS ≡ k * R.BITS + R.BITS = omega arith in
     let write : (c.args.to + k) * R.BITS + 0 ≡ c.args.to * R.BITS + k * R.BITS = omega arith in
-    joined_rising_within c.requires.direction c.requires.before (omega (arith, less, next, c.requires.from_in)) c.words_on-read.ensures.place write refl (omega (arith, next, c.BITS.ensures)) refl c.loop-k.invariant c.combine_word_within.ensures
+    joined_rising_within c.requires.direction c.requires.before (omega (arith, less, next, c.requires.from_in)) c.words_on-read.ensures.place write
+    refl (omega (arith, next, c.BITS.ensures)) refl c.loop-k.invariant c.combine_word_within.ensures

@@ -25,7 +25,8 @@ returns g c =
     let old = c.get-old.result in
     let was : R2.number old ≡ slice_index (map R2.number words) to = word_is R2.number words to old c.requires.to_in c.get-old.ensures in
     let room : to < length (map R2.number words) = omega (arith, length-map words R2.number, c.requires.to_in) in
-    let holds : s + c.args.count ≤ length (map R.number xs) * R.BITS = omega (arith, c.requires.from_in, ap (λ n. n * R.BITS) (length-map xs R.number)) in
+    let holds : s + c.args.count ≤ length (map R.number xs) * R.BITS =
+    omega (arith, c.requires.from_in, ap (λ n. n * R.BITS) (length-map xs R.number)) in
     let combined : IsCombinedWord of R.BITS at (map R.number xs) s R2.BITS at2 (map R2.number words) to bit c.args.count (R2.number word.result) =
     record {
       some = c.requires.some;

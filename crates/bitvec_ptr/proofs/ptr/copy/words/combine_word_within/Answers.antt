@@ -24,10 +24,12 @@ returns g c =
     let pair = c.pair_in-low in
     let most : from.bit < R.BITS = omega (arith, g.met.R.BitRegister.width_at_least_8) in
     let end : c.args.count ≤ R.BITS = omega arith in
-    let was : R.number c.get-old.result ≡ slice_index (map R.number words) to = word_is R.number words to c.get-old.result c.requires.to_in c.get-old.ensures in
+    let was : R.number c.get-old.result ≡ slice_index (map R.number words) to =
+    word_is R.number words to c.get-old.result c.requires.to_in c.get-old.ensures in
     let long = length-map words R.number in
     let room : to < length (map R.number words) = omega (arith, long, c.requires.to_in) in
-    let holds : from.word * R.BITS + from.bit + c.args.count ≤ length (map R.number words) * R.BITS = omega (arith, c.requires.from_in, ap (λ n. n * R.BITS) long) in
+    let holds : from.word * R.BITS + from.bit + c.args.count ≤ length (map R.number words) * R.BITS =
+    omega (arith, c.requires.from_in, ap (λ n. n * R.BITS) long) in
     let both : IsFromPair R.BITS at at from.bit bit c.args.count (R.number with.result) (R.number pair.result.0) (R.number pair.result.1) =
     record { most = most; end = end; first = with.ensures.low; second = with.ensures.high } in
     let gathers = pair_bits both (map R.number words) from.word pair.ensures.low pair.ensures.high in

@@ -16,14 +16,17 @@ returns-then-count-eq0-clause-bits g c =
     let R2 = g.R2.BitRegister in
     let source = memory_bits R.BITS g.O.BitAt.at_of (map R.number c.args.memory.now) in
     let target = memory_bits R2.BITS g.O2.BitAt.at_of (map R2.number c.args.writer.now.words.now) in
-    combined_none g.C.Combine.of source (nat_abs c.args.self.word * R.BITS + c.args.self.bit) target (nat_abs c.args.dest.word * R2.BITS + c.args.dest.bit) ∙ ap (λ n. list_with g.C.Combine.of source (nat_abs c.args.self.word * R.BITS + c.args.self.bit) target (nat_abs c.args.dest.word * R2.BITS + c.args.dest.bit) n) (sym c.if-count-eq0.true)
+    let s = nat_abs c.args.self.word * R.BITS + c.args.self.bit in
+    let t = nat_abs c.args.dest.word * R2.BITS + c.args.dest.bit in
+    combined_none g.C.Combine.of source s target t ∙ ap (λ n. list_with g.C.Combine.of source s target t n) (sym c.if-count-eq0.true)
 
 pub combine_bits-requires-clause-from_in : goal.combine_bits-requires-clause-from_in
 combine_bits-requires-clause-from_in g c =
     let R = g.R.BitRegister in
     let some : 0 < R.BITS = omega (arith, g.met.R.BitRegister.width_at_least_8) in
     let more : 0 < c.args.count = omega arith in
-    rw c.at.ensures.place (met_covers R.BITS (nat_abs c.args.self.word) c.args.self.bit c.args.count (length c.args.memory.now) some more c.requires.from_in.1)
+    rw c.at.ensures.place
+    (met_covers R.BITS (nat_abs c.args.self.word) c.args.self.bit c.args.count (length c.args.memory.now) some more c.requires.from_in.1)
 
 pub combine_bits-requires-clause-to_in : goal.combine_bits-requires-clause-to_in
 combine_bits-requires-clause-to_in g c = rw (c.at-2.ensures.word, c.at-2.ensures.bit) c.requires.to_in.1

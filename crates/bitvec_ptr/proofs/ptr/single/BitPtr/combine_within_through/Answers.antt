@@ -14,14 +14,17 @@ pub returns-then-count-eq0-clause-bits : goal.returns-then-count-eq0-clause-bits
 returns-then-count-eq0-clause-bits g c =
     let R = g.R.BitRegister in
     let old = memory_bits R.BITS g.O.BitAt.at_of (map R.number c.args.writer.now.words.now) in
-    combined_none g.C.Combine.of old (nat_abs c.args.self.word * R.BITS + c.args.self.bit) old (nat_abs c.args.dest.word * R.BITS + c.args.dest.bit) ∙ ap (λ n. list_with g.C.Combine.of old (nat_abs c.args.self.word * R.BITS + c.args.self.bit) old (nat_abs c.args.dest.word * R.BITS + c.args.dest.bit) n) (sym c.if-count-eq0.true)
+    let s = nat_abs c.args.self.word * R.BITS + c.args.self.bit in
+    let t = nat_abs c.args.dest.word * R.BITS + c.args.dest.bit in
+    combined_none g.C.Combine.of old s old t ∙ ap (λ n. list_with g.C.Combine.of old s old t n) (sym c.if-count-eq0.true)
 
 pub combine_bits_within-requires-clause-from_in : goal.combine_bits_within-requires-clause-from_in
 combine_bits_within-requires-clause-from_in g c =
     let R = g.R.BitRegister in
     let some : 0 < R.BITS = omega (arith, g.met.R.BitRegister.width_at_least_8) in
     let more : 0 < c.args.count = omega arith in
-    rw c.at.ensures.place (met_covers R.BITS (nat_abs c.args.self.word) c.args.self.bit c.args.count (length c.args.writer.now.words.now) some more c.requires.from_in.1)
+    rw c.at.ensures.place
+    (met_covers R.BITS (nat_abs c.args.self.word) c.args.self.bit c.args.count (length c.args.writer.now.words.now) some more c.requires.from_in.1)
 
 pub combine_bits_within-requires-clause-to_in : goal.combine_bits_within-requires-clause-to_in
 combine_bits_within-requires-clause-to_in g c = rw (c.at-2.ensures.word, c.at-2.ensures.bit) c.requires.to_in.1
@@ -40,14 +43,18 @@ pub combine_bits_within-requires-clause-before : goal.combine_bits_within-requir
 combine_bits_within-requires-clause-before g c = λ r.
     let B = g.R.BitRegister.BITS in
     let more : 0 < c.args.count = omega arith in
-    let below = from_rising c.args.writer.now.rising (nat_abs c.args.self.word * B + c.args.self.bit) (nat_abs c.args.dest.word * B + c.args.dest.bit) (c.requires.needs_falling more) r in
+    let below =
+    from_rising c.args.writer.now.rising (nat_abs c.args.self.word * B + c.args.self.bit) (nat_abs c.args.dest.word * B + c.args.dest.bit)
+    (c.requires.needs_falling more) r in
     omega (arith, below, c.at.ensures.place, c.at-2.ensures.place)
 
 pub combine_bits_within-requires-clause-behind : goal.combine_bits_within-requires-clause-behind
 combine_bits_within-requires-clause-behind g c = λ r.
     let B = g.R.BitRegister.BITS in
     let more : 0 < c.args.count = omega arith in
-    let below = from_falling c.args.writer.now.rising (nat_abs c.args.self.word * B + c.args.self.bit) (nat_abs c.args.dest.word * B + c.args.dest.bit) (c.requires.needs_rising more) r in
+    let below =
+    from_falling c.args.writer.now.rising (nat_abs c.args.self.word * B + c.args.self.bit) (nat_abs c.args.dest.word * B + c.args.dest.bit)
+    (c.requires.needs_rising more) r in
     omega (arith, below, c.at.ensures.place, c.at-2.ensures.place)
 
 pub returns-clause-writes : goal.returns-clause-writes
