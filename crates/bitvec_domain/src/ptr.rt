@@ -1,5 +1,5 @@
 //! Pointers to bits, ranges of them, and spans of bits.
 
-pub use bitvec_ptr::ptr::{range, single, writer};
+pub use bitvec_ptr::ptr::{combine, range, single, writer};
 
 pub mod span;

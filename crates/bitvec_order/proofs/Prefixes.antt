@@ -29,22 +29,32 @@ whole_prefix width at upto n law small is whole =
     plain_mask_from_digits width at 0 upto n law (omega arith) small
     (λ i h. ap (λ m. digit m (at i)) is ∙ digit_all width (at i) (law.below i h) ∙ sym (lt-ltb i upto (omega arith)) ∙ from_least i upto)
 
+-- t is `all` ones of a width, moved up by `count` to s and turned over
+pub record IsTurnedOver (width count all s t : ℕ) : Type 0 where
+  pub ones : all ≡ 2 ^ width - 1
+  pub low : (q : ℕ) → q < count → digit s q ≡ false
+  pub moved : (q : ℕ) → count + q < width → digit s (count + q) ≡ digit all q
+  pub turned : (q : ℕ) → q < width → digit t q ≡ not (digit s q)
+  pub below : t < 2 ^ width
+
 -- all ones, moved up by `count` and turned over: the lowest `count` are left
-digit-lowest : (width count all s t p : ℕ) → all ≡ 2 ^ width - 1 → ((q : ℕ) → q < count → digit s q ≡ false) → ((q : ℕ) → count + q < width → digit s (count + q) ≡ digit all q) → ((q : ℕ) → q < width → digit t q ≡ not (digit s q)) → p < width → digit t p ≡ nat_lt p count
-digit-lowest width count all s t p is low moved turned h =
+digit-lowest : {width count all s t : ℕ} → IsTurnedOver width count all s t → (p : ℕ) → p < width → digit t p ≡ nat_lt p count
+digit-lowest {width = width} {count = count} {s = s} is p h =
     elim (cases_lt p count) [
-      | inl under ↦ turned p h ∙ ap not (low p under) ∙ sym (lt-ltb p count under)
+      | inl under ↦ is.turned p h ∙ ap not (is.low p under) ∙ sym (lt-ltb p count under)
       | inr past ↦ (
           let place : p ≡ count + (p - count) = omega arith in
-          let one : digit s p ≡ true = ap (digit s) place ∙ moved (p - count) (omega arith) ∙ ap (λ n. digit n (p - count)) is ∙ digit_all width (p - count) (omega arith) in
-          turned p h ∙ ap not one ∙ sym (le-ltb p count past))
+          let one : digit s p ≡ true =
+          ap (digit s) place ∙ is.moved (p - count) (omega arith) ∙ ap (λ n. digit n (p - count)) is.ones ∙ digit_all width (p - count) (omega arith) in
+          is.turned p h ∙ ap not one ∙ sym (le-ltb p count past))
     ]
 
 -- so they are the mask of the first `count` indices where the positions rise
-pub low_prefix : (width upto count all s t : ℕ) → all ≡ 2 ^ width - 1 → ((q : ℕ) → q < count → digit s q ≡ false) → ((q : ℕ) → count + q < width → digit s (count + q) ≡ digit all q) → ((q : ℕ) → q < width → digit t q ≡ not (digit s q)) → t < 2 ^ width → count ≡ upto → upto ≤ width → t ≡ plain_mask_of (λ i. i) 0 upto
-low_prefix width upto count all s t is low moved turned small same fits =
-    plain_mask_from_digits width (λ i. i) 0 upto t (low_one_to_one width) fits small
-    (λ i h. digit-lowest width count all s t i is low moved turned h ∙ ap (nat_lt i) same ∙ from_least i upto)
+pub low_prefix : {width count all s t : ℕ} → IsTurnedOver width count all s t → (upto : ℕ) → count ≡ upto → upto ≤ width
+    → t ≡ plain_mask_of (λ i. i) 0 upto
+low_prefix {width = width} {t = t} is upto same fits =
+    plain_mask_from_digits width (λ i. i) 0 upto t (low_one_to_one width) fits is.below
+    (λ i h. digit-lowest is i h ∙ ap (nat_lt i) same ∙ from_least i upto)
 
 counted_down : (width top count others i : ℕ) → 8 ≤ width → top ≡ width - 1 → others ≡ width - count → count ≤ width → i < width → not (nat_lt (top - i) others) ≡ nat_lt i count
 counted_down width top count others i some highest rest fits h =
@@ -53,13 +63,20 @@ counted_down width top count others i some highest rest fits h =
       | inr past ↦ ap not (lt-ltb (top - i) others (omega arith)) ∙ sym (le-ltb i count past)
     ]
 
+-- t is s turned over, where s is the mask of the first `others` indices of a width under positions that rise
+pub record IsAllBut (width others s t : ℕ) : Type 0 where
+  pub lowest : IsMaskOf width (λ i. i) 0 others s
+  pub turned : (q : ℕ) → q < width → digit t q ≡ not (digit s q)
+  pub below : t < 2 ^ width
+
 -- the positions that are not the lowest `others` are the mask of the first indices where the positions fall
-pub high_prefix : (width top upto others s t : ℕ) → 8 ≤ width → top ≡ width - 1 → upto ≤ width → others ≡ width - upto → IsMaskOf width (λ i. i) 0 others s → t < 2 ^ width → ((q : ℕ) → q < width → digit t q ≡ not (digit s q)) → t ≡ plain_mask_of (λ i. top - i) 0 upto
-high_prefix width top upto others s t some highest fits rest lowest small turned =
-    plain_mask_from_digits width (λ i. top - i) 0 upto t (high_one_to_one width top some highest) fits small
+pub high_prefix : {width others s t : ℕ} → IsAllBut width others s t → (top upto : ℕ) → 8 ≤ width → top ≡ width - 1 → upto ≤ width
+    → others ≡ width - upto → t ≡ plain_mask_of (λ i. top - i) 0 upto
+high_prefix {width = width} {others = others} {s = s} {t = t} is top upto some highest fits rest =
+    plain_mask_from_digits width (λ i. top - i) 0 upto t (high_one_to_one width top some highest) fits is.below
     (λ i h.
-    turned (top - i) (omega arith)
-    ∙ ap not (digit-mask_at width (λ j. j) 0 others s (top - i) (low_one_to_one width) (omega arith) lowest (omega arith))
+    is.turned (top - i) (omega arith)
+    ∙ ap not (digit-mask_at width (λ j. j) 0 others s (top - i) (low_one_to_one width) (omega arith) is.lowest (omega arith))
     ∙ ap not (sym (from_least (top - i) others))
     ∙ counted_down width top upto others i some highest rest fits h
     ∙ from_least i upto)
@@ -67,14 +84,22 @@ high_prefix width top upto others s t some highest fits rest lowest small turned
 between : (from upto i : ℕ) → from ≤ upto → ((nat_le 0 i && nat_lt i upto) && not (nat_le 0 i && nat_lt i from)) ≡ (nat_le from i && nat_lt i upto)
 between from upto i ordered = grind (arith, nat_tests)
 
+-- a is the mask of the indices below `end`, b that of those below `start`, and r has what a has and b lacks
+pub record IsDifference (width : ℕ) (at : ℕ → ℕ) (start end a b r : ℕ) : Type 0 where
+  pub upper : IsMaskOf width at 0 end a
+  pub lower : IsMaskOf width at 0 start b
+  pub below : r < 2 ^ width
+  pub digits : (p : ℕ) → p < width → digit r p ≡ (digit a p && not (digit b p))
+
 -- what the mask of the indices below `upto` has and that of the indices below `from` lacks is the mask between these
-pub mask_from_prefixes : (width : ℕ) (at : ℕ → ℕ) (from upto start end a b r : ℕ) → IsOneToOne width at → start ≡ from → end ≡ upto → from ≤ upto → upto ≤ width → IsMaskOf width at 0 end a → IsMaskOf width at 0 start b → r < 2 ^ width → ((p : ℕ) → p < width → digit r p ≡ (digit a p && not (digit b p))) → r ≡ plain_mask_of at from upto
-mask_from_prefixes width at from upto start end a b r law first last ordered fits upper lower small digits =
-    plain_mask_from_digits width at from upto r law fits small
+pub mask_from_prefixes : {width : ℕ} {at : ℕ → ℕ} {start end a b r : ℕ} → IsDifference width at start end a b r → (from upto : ℕ)
+    → IsOneToOne width at → start ≡ from → end ≡ upto → from ≤ upto → upto ≤ width → r ≡ plain_mask_of at from upto
+mask_from_prefixes {width = width} {at = at} {start = start} {end = end} {a = a} {b = b} {r = r} is from upto law first last ordered fits =
+    plain_mask_from_digits width at from upto r law fits is.below
     (λ i h.
-    digits (at i) (law.below i h)
-    ∙ ap (λ x. x && not (digit b (at i))) (digit-mask_at width at 0 end a i law (omega arith) upper h)
-    ∙ ap (λ x. (nat_le 0 i && nat_lt i end) && not x) (digit-mask_at width at 0 start b i law (omega arith) lower h)
+    is.digits (at i) (law.below i h)
+    ∙ ap (λ x. x && not (digit b (at i))) (digit-mask_at width at 0 end a i law (omega arith) is.upper h)
+    ∙ ap (λ x. (nat_le 0 i && nat_lt i end) && not x) (digit-mask_at width at 0 start b i law (omega arith) is.lower h)
     ∙ ap (λ x. (nat_le 0 i && nat_lt i x) && not (nat_le 0 i && nat_lt i start)) last
     ∙ ap (λ x. (nat_le 0 i && nat_lt i upto) && not (nat_le 0 i && nat_lt i x)) first
     ∙ between from upto i ordered)

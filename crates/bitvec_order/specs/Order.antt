@@ -1,6 +1,6 @@
 -- What makes an order of a register's bits lawful. An order takes each index, a number below the width, to the
 -- position of its digit.
-use Rattle.std.specs.Prelude.{ℕ, zero, suc, ◌≡◌, ◌↔◌, ◌<◌, ◌≤◌, ◌^◌, Bool, IsTrue, Option, unwrap_or, nat_le, bit_or, if◌then◌else◌}
+use Rattle.std.specs.Prelude.{ℕ, zero, suc, ◌≡◌, ◌↔◌, ◌-◌, ◌<◌, ◌≤◌, ◌^◌, Bool, IsTrue, Option, unwrap_or, nat_le, bit_or, if◌then◌else◌}
 use Rattle.bitvec_mem.specs.Digit.{digit}
 
 -- the first index that a mask takes: an absent bound stands for the least index
@@ -24,6 +24,14 @@ pub record IsMaskOf (width : ℕ) (at : ℕ → ℕ) (from upto n : ℕ) : Type 
 pub record IsOneToOne (width : ℕ) (at : ℕ → ℕ) : Type 0 where
   pub below : (i : ℕ) → i < width → at i < width
   pub apart : (i j : ℕ) → i < width → j < width → at i ≡ at j → i ≡ j
+
+-- the position of each index is the index
+abbrev pub Rises : ℕ → (ℕ → ℕ) → Type 0
+Rises bits at = (i : ℕ) → i < bits → at i ≡ i
+
+-- the position of each index is the index counted down from the highest
+abbrev pub Falls : ℕ → (ℕ → ℕ) → Type 0
+Falls bits at = (i : ℕ) → i < bits → at i ≡ bits - 1 - i
 
 -- the selector of each index is the power of two of its position
 pub record SelectsPositions (width : ℕ) (at select : ℕ → ℕ) : Type 0 where

@@ -1,5 +1,6 @@
 -- Elements of a list copied over those of a list, one by one.
-use Rattle.std.proofs.Common.{◌≡◌, ◌⊎◌, ⊎_elim, ℕ, ◌+◌, ◌*◌, ◌-◌, ◌/◌, ◌%◌, ◌<◌, ◌≤◌, Bool, true, false, List, ◌++◌, length, map, get_or, take, drop, Some, sym, ◌∙◌, ap, arith, inl, inr, length-append, length-drop, get_or-drop}
+use Rattle.std.proofs.Common.{◌≡◌, ◌⊎◌, ⊎_elim, ℕ, ◌+◌, ◌*◌, ◌-◌, ◌/◌, ◌%◌, ◌<◌, ◌≤◌, Bool, true, false, List, ◌++◌, length, map, get_or, take, drop}
+use Rattle.std.proofs.Common.{Some, sym, ◌∙◌, ap, arith, inl, inr, length-append, length-drop, get_or-drop}
 use Rattle.std.specs.Prelude.{slice_get, slice_index}
 use Rattle.std.proofs.Math.Nat.{lt_of_mul-lt-mul_right, mul-le-mul_right}
 use Rattle.std.proofs.lemmas.Bool.{cases_lt, false≢true}
@@ -19,7 +20,8 @@ word_within w i k n h = let p : w * k < n * k = omega arith in lt_of_mul-lt-mul_
 pub copied_none : {A : Type 0} (source : List A) (s : ℕ) (target : List A) (t : ℕ) → target ≡ list_with_copy source s target t 0
 copied_none source s target t = paste_none target t (drop s source)
 
-pub length-copied : {A : Type 0} (source : List A) (s : ℕ) (target : List A) (t n : ℕ) → t + n ≤ length target → s + n ≤ length source → length (list_with_copy source s target t n) ≡ length target
+pub length-copied : {A : Type 0} (source : List A) (s : ℕ) (target : List A) (t n : ℕ) → t + n ≤ length target → s + n ≤ length source
+    → length (list_with_copy source s target t n) ≡ length target
 length-copied source s target t n h k = length-paste target t (drop s source) n h (omega (arith, length-drop s source))
 
 module _ {A : Type 0} (source : List A) (s : ℕ) (target : List A) (t n : ℕ) (h : t + n ≤ length target) (k : s + n ≤ length source) where
@@ -84,31 +86,38 @@ pub place_before : (B v i w j : ℕ) → i < B → v < w → v * B + i < w * B +
 place_before B v i w j h p = let row : v * B + B ≤ w * B = row_fits v B w B p (let x : B ≤ B = omega arith in x) in omega (arith, row)
 
 -- the words met cover the places
-pub met_covers : (bits word head count words : ℕ) → 0 < bits → 0 < count → word + words_met bits head count ≤ words → word * bits + head + count ≤ words * bits
+pub met_covers : (bits word head count words : ℕ) → 0 < bits → 0 < count → word + words_met bits head count ≤ words
+    → word * bits + head + count ≤ words * bits
 met_covers bits word head count words some h k =
     let met = words_met-some bits head count h in
     let up : (word + ((head + count - 1) / bits + 1)) * bits ≤ words * bits = mul-le-mul_right bits (omega (arith, met)) in
     omega (arith, up, div-add-mod' (head + count - 1) bits, mod_below (head + count - 1) bits some)
 
 -- the word `count` places on from a bit of a word is before one that ends later
-pub advanced_word : (word bit count bits words : ℕ) → 0 < bits → word * bits + bit + count < words * bits → word + count / bits + (bit + count % bits) / bits < words
+pub advanced_word : (word bit count bits words : ℕ) → 0 < bits → word * bits + bit + count < words * bits
+    → word + count / bits + (bit + count % bits) / bits < words
 advanced_word word bit count bits words some h =
-    let low : (word + count / bits + (bit + count % bits) / bits) * bits < words * bits = omega (arith, div-add-mod' count bits, div-add-mod' (bit + count % bits) bits) in
+    let low : (word + count / bits + (bit + count % bits) / bits) * bits < words * bits =
+    omega (arith, div-add-mod' count bits, div-add-mod' (bit + count % bits) bits) in
     lt_of_mul-lt-mul_right bits low
 
 -- how many bits a memory has
-pub length-bits : {W : Type 0} (bits : ℕ) (at : ℕ → ℕ) (number : W → ℕ) (words : List W) → length (memory_bits bits at (map number words)) ≡ length words * bits
+pub length-bits : {W : Type 0} (bits : ℕ) (at : ℕ → ℕ) (number : W → ℕ) (words : List W)
+    → length (memory_bits bits at (map number words)) ≡ length words * bits
 length-bits bits at number words = length-memory_bits bits at (map number words) ∙ ap (λ n. n * bits) (length-map words number)
 
 -- the bit that a memory's list of bits has at an index of a word
-pub bit_is : (bits : ℕ) (at : ℕ → ℕ) (words : List ℕ) (word bit : ℕ) (b : Bool) → word < length words → bit < bits → slice_get (memory_bits bits at words) (word * bits + bit) ≡ Some b → b ≡ bit_of bits at words (word * bits + bit)
+pub bit_is : (bits : ℕ) (at : ℕ → ℕ) (words : List ℕ) (word bit : ℕ) (b : Bool) → word < length words → bit < bits
+    → slice_get (memory_bits bits at words) (word * bits + bit) ≡ Some b → b ≡ bit_of bits at words (word * bits + bit)
 bit_is bits at words word bit b h k e =
     let within = place_within bits at words word bit h k in
     let long = length-memory_bits bits at words in
-    element_is (memory_bits bits at words) (word * bits + bit) b b (omega (arith, within, long)) e ∙ get_or-memory_bits bits at words (word * bits + bit) b within
+    element_is (memory_bits bits at words) (word * bits + bit) b b (omega (arith, within, long)) e
+    ∙ get_or-memory_bits bits at words (word * bits + bit) b within
 
 -- the number of a word that was read
-pub word_is : {W : Type 0} (number : W → ℕ) (words : List W) (k : ℕ) (w : W) → k < length words → slice_get words k ≡ Some w → number w ≡ slice_index (map number words) k
+pub word_is : {W : Type 0} (number : W → ℕ) (words : List W) (k : ℕ) (w : W) → k < length words → slice_get words k ≡ Some w
+    → number w ≡ slice_index (map number words) k
 word_is number words k w h e = ap number (element_is words k w w h e) ∙ sym (get_or-map number words k w 0 h)
 
 -- the place before which a memory ends is no further than its words allow

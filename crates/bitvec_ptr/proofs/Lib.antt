@@ -1,11 +1,12 @@
 pub mod BitLemmas
+pub mod CombineLemmas
 pub mod CopyLemmas
-pub mod EdgeLemmas
-pub mod JoinLemmas
+pub mod GatherLemmas
+pub mod ListJoins
 pub mod MemoryLemmas
 pub mod PlaceLemmas
 pub mod PlaceOrder
 pub mod RangeEnds
 pub mod RangeLemmas
 pub mod StepLemmas
-pub mod WriterLemmas
+pub mod WriterJoins

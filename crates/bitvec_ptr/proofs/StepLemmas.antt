@@ -9,7 +9,7 @@ use Rattle.std.proofs.lemmas.Nat.{div-add-mod'}
 use Rattle.std.proofs.Math.Nat.{mul-le-mul, mul-le-mul_left}
 use borrow.Author.Differences.{sum_is_lem, product_is}
 use mir.Val.{to_z, of_z}
-use Rattle.bitvec_ptr.specs.Place.{Ptr, place_at, place_of, greatest_isize}
+use Rattle.bitvec_ptr.specs.Place.{Ptr, place_at, greatest_isize}
 use Rattle.bitvec_ptr.specs.Steps.{wrapped_ptr}
 
 -- the quotient and the remainder make up the number
@@ -51,11 +51,17 @@ wrapped-from_parts bits ptr count far words word next f q r w =
 pub far_same : (index bit : ℕ) (count : ℤ) → FitsSigned w64 count → index ≡ bit → int_wrap w64 (pos index +ℤ to_z w64 (of_z w64 count)) ≡ int_wrap w64 (pos bit +ℤ count)
 far_same index bit count fits e = ap (λ n. int_wrap w64 (pos n +ℤ to_z w64 (of_z w64 count))) e ∙ ap (λ z. int_wrap w64 (pos bit +ℤ z)) (to_z-of_z w64 count fits)
 
--- where a step ends, from its parts
-pub moved-from_parts : (bits : ℕ) (from to : Ptr) (count far words word : ℤ) (next : ℕ) → 0 < bits → to ≡ record { word = word; bit = next } → far ≡ pos from.bit +ℤ count → words ≡ int_div_euclid far (pos bits)
-    → pos next ≡ int_rem_euclid far (pos bits) → word ≡ from.word +ℤ words → place_of bits to ≡ place_of bits from +ℤ count
-moved-from_parts bits from to count far words word next some e f q r w =
-    ap (place_of bits) e ∙ ap (λ z. place_at bits z next) w ∙ step_place from.word words count far from.bit next bits some f q r
+-- a step of `count` bits from an index of a word: `far` is their sum, `words` the words in it, and `next` the index that is left
+pub record IsStep (bits bit : ℕ) (count far words : ℤ) (next : ℕ) : Type 0 where
+  pub sum : far ≡ pos bit +ℤ count
+  pub carried : words ≡ int_div_euclid far (pos bits)
+  pub index : pos next ≡ int_rem_euclid far (pos bits)
+
+-- where a step ends
+pub moved-from_step : {bits bit : ℕ} {count far words : ℤ} {next : ℕ} → IsStep bits bit count far words next → (word to : ℤ) → 0 < bits
+    → to ≡ word +ℤ words → place_at bits to next ≡ place_at bits word bit +ℤ count
+moved-from_step {bits = bits} {bit = bit} {count = count} {far = far} {words = words} {next = next} is word to some e =
+    ap (λ z. place_at bits z next) e ∙ step_place word words count far bit next bits some is.sum is.carried is.index
 
 -- a number of 64 bits read as signed, and its negative
 pub cast_signed-wraps : (n : ℕ) → n < 18446744073709551616 → cast_signed w64 n ≡ int_wrap w64 (pos n)

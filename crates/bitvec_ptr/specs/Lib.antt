@@ -1,13 +1,13 @@
 pub mod BitPtr
 pub mod BitPtrRange
-pub mod Copies
+pub mod Combinations
 pub mod Cursor
 pub mod Memory
 pub mod Place
 pub mod PtrRange
 pub mod PtrRangeLemmas
-pub mod Shifts
 pub mod Steps
+pub mod Ways
 pub mod WordWriter
 pub mod Writer
 pub use Rattle.bitvec_mem.specs.Digit

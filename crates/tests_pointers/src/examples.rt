@@ -1,7 +1,8 @@
-//! The examples in the documents of pointers, their ranges and copies.
+//! The examples in the documents of pointers, their ranges, copies and other combinations.
 
-use bitvec_order::index::BitIdx;
+use bitvec_order::index::{BitIdx, Limits};
 use bitvec_order::order::{Lsb0, Msb0};
+use bitvec_ptr::ptr::combine::{And, AndNot, Or, Xor};
 use bitvec_ptr::ptr::single::BitPtr;
 use bitvec_ptr::ptr::writer::WordWriter;
 
@@ -39,6 +40,56 @@ fn bits_are_copied(rt: HostRuntime) {
     let dest: BitPtr<u16, Msb0> = BitPtr::new(0, BitIdx::new_unchecked(4));
     from.copy_to(&memory, dest, &mut target, 4);
     assert_eq!(rt; target, [0x0D00]);
+}
+
+#[test]
+fn a_set_less_another(rt: HostRuntime) {
+    let memory = [0b0011u8];
+    let mut target = [0b0101u8];
+    let first: BitPtr<u8, Lsb0> = BitPtr::new(0, BitIdx::MIN);
+    first.combine_to::<AndNot, u8, Lsb0>(&memory, first, &mut target, 4);
+    assert_eq!(rt; target, [0b0100]);
+}
+
+#[test]
+fn bits_are_combined(rt: HostRuntime) {
+    let memory = [0x2Cu8];
+    let mut target = [0xFFFFu16];
+    let from: BitPtr<u8, Lsb0> = BitPtr::new(0, BitIdx::new_unchecked(2));
+    let dest: BitPtr<u16, Msb0> = BitPtr::new(0, BitIdx::new_unchecked(4));
+    from.combine_to::<Xor, u16, Msb0>(&memory, dest, &mut target, 4);
+    assert_eq!(rt; target, [0xF2FF]);
+}
+
+#[test]
+fn bits_are_combined_through_a_writer(rt: HostRuntime) {
+    let memory = [0x0Fu8];
+    let mut target = [0x33u8, 0x33];
+    let from: BitPtr<u8, Lsb0> = BitPtr::new(0, BitIdx::MIN);
+    let dest: BitPtr<u8, Lsb0> = BitPtr::new(0, BitIdx::new_unchecked(4));
+    let mut writer = WordWriter::rising(&mut target);
+    from.combine_through::<Or, u8, Lsb0>(&memory, dest, &mut writer, 8);
+    assert_eq!(rt; (writer.mark(), writer.writes()), (2, 2));
+    assert_eq!(rt; target, [0xF3, 0x33]);
+}
+
+#[test]
+fn bits_are_combined_within_a_memory(rt: HostRuntime) {
+    let mut memory = [0x0Du8, 0xF7];
+    let from: BitPtr<u8, Lsb0> = BitPtr::new(0, BitIdx::MIN);
+    from.combine_within::<And>(&mut memory, BitPtr::new(1, BitIdx::MIN), 4);
+    assert_eq!(rt; memory, [0x0D, 0xF5]);
+}
+
+#[test]
+fn bits_are_combined_within_the_memory_of_a_writer(rt: HostRuntime) {
+    let mut memory = [0x0Fu8, 0x3C];
+    let from: BitPtr<u8, Lsb0> = BitPtr::new(0, BitIdx::MIN);
+    let dest: BitPtr<u8, Lsb0> = BitPtr::new(1, BitIdx::MIN);
+    let mut writer = WordWriter::falling(&mut memory);
+    from.combine_within_through::<AndNot>(dest, &mut writer, 8);
+    assert_eq!(rt; writer.writes(), 1);
+    assert_eq!(rt; memory, [0x0F, 0x30]);
 }
 
 #[test]

@@ -1,8 +1,11 @@
-//! Pointers, their ranges, counted copies and what the traits of these types are.
+//! Pointers, their ranges, counted copies and other combinations, and what the traits of these
+//! types are.
 //!
 //! They are named by the crates that they stand in, so that the tests wait for these alone.
 #![tactic(auto)]
 
+#[cfg(test)]
+mod combinations;
 #[cfg(test)]
 mod common;
 #[cfg(test)]

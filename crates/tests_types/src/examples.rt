@@ -5,7 +5,7 @@ ghost use Rattle.bitvec_order.specs.Order.{mask_start, mask_end, plain_mask_of};
 
 use bitvec_mem::mem::{BitElement, BitRegister};
 use bitvec_order::index::{BitEnd, BitIdx, BitMask, BitPos, BitSel, Limits, MaskLimits};
-use bitvec_order::order::{BitAt, Lsb0, Msb0, OrderCandidate};
+use bitvec_order::order::{BitAt, Direction, Lsb0, Msb0, OrderCandidate, direction_of};
 use bitvec_order::positions::{
     ByNumbers, ByPosition, Numbers, Positions, plain_mask_between, plain_selector,
 };
@@ -165,6 +165,13 @@ fn an_order(rt: HostRuntime) {
     assert_eq!(rt; index.select::<Msb0>().into_inner(), 0x40);
     let mask: BitMask<u8> = Msb0::mask(Some(index), None);
     assert_eq!(rt; mask.into_inner(), 0x7F);
+}
+
+#[test]
+fn a_direction(rt: HostRuntime) {
+    assert_eq!(rt; direction_of::<u8, Lsb0>(), Direction::Rises);
+    assert_eq!(rt; direction_of::<u8, Msb0>(), Direction::Falls);
+    assert_eq!(rt; direction_of::<u8, ByPosition<Swapped>>(), Direction::Other);
 }
 
 #[test]

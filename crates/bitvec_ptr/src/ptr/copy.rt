@@ -1,15 +1,21 @@
-//! Copies of ranges of bits, between two memories and inside one.
+//! Copies and other combinations of ranges of bits, between two memories and inside one.
+//!
+//! A copy is the combination that takes the source's bit, so all of them are one engine.
 
 ghost use Rattle.std.specs.Prelude.{◌≡◌, ℕ, ℤ, pos, nat_abs, ◌+◌, ◌*◌, ◌<◌, ◌≤◌, ◌+ℤ◌, ◌≤ℤ◌, true};
 ghost use Rattle.std.specs.Prelude.{false, length, map};
 ghost use Rattle.std.specs.Int.{int_div_euclid};
 ghost use Rattle.bitvec_ptr.specs.BitPtr.{ptr_of, index_at, bits_by, far_edge};
-ghost use Rattle.bitvec_ptr.specs.Memory.{list_with_copy};
+ghost use Rattle.bitvec_ptr.specs.Memory.{list_with_copy, list_with};
 ghost use Rattle.bitvec_ptr.specs.Place.{place_of, words_met, region_max_bits};
 ghost use Rattle.bitvec_ptr.specs.Steps.{RangeIsIn, AreApart};
 ghost use Rattle.bitvec_ptr.specs.WordWriter.{writer_memory, writer_of};
 
-use crate::ptr::counted::{copy_across, move_across};
+mod gather;
+mod words;
+
+use crate::ptr::combine::{Combine, Source};
+use crate::ptr::copy::words::{combine_bits, combine_bits_within};
 use crate::ptr::cursor::Cursor;
 use crate::ptr::single::BitPtr;
 use crate::ptr::writer::{WordWriter, near_edge};
@@ -50,15 +56,69 @@ impl<R: BitRegister, O: BitOrder<R>> BitPtr<R, O> {
             → (writer_of writer.new).mark ≡ far_edge dest count }
         ensures falling_mark { 0 < count → (writer_of writer.old).rising ≡ false
             → (writer_of writer.new).mark ≡ nat_abs (ptr_of dest).word }
+        ensures bits { bits_by dest O2.at_of (writer_of writer.new).words ≡ list_with_copy
+            (bits_by self O.at_of memory.now) (index_at self)
+            (bits_by dest O2.at_of (writer_of writer.old).words) (index_at dest) count }
+        ensures none { count ≡ 0 → writer_of writer.new ≡ writer_of writer.old }
+    {
+        self.combine_through::<Source, R2, O2>(memory, dest, writer, count);
+    }
+
+    /// Combines `count` bits of `memory`, from this pointer on, with those from `dest` on of the
+    /// memory that the writer borrows, and puts each word that they meet once and no other word.
+    ///
+    /// Bit j of the target's range becomes what `C` makes of it and of bit j of this range,
+    /// whatever their registers and orders are. What is required, and how the mark and the count of
+    /// writes move, is as for [`copy_through`](BitPtr::copy_through), which is this call with
+    /// [`Source`]. It takes some operations for each word of the target, and some for each bit
+    /// where the orders differ and neither both rise nor both fall. Our own.
+    ///
+    /// # Examples
+    ///
+    /// ```
+    /// let memory = [0x0Fu8];
+    /// let mut target = [0x33u8, 0x33];
+    /// let from: BitPtr<u8, Lsb0> = BitPtr::new(0, BitIdx::MIN);
+    /// let dest: BitPtr<u8, Lsb0> = BitPtr::new(0, BitIdx::new_unchecked(4));
+    /// let mut writer = WordWriter::rising(&mut target);
+    /// from.combine_through::<Or, u8, Lsb0>(&memory, dest, &mut writer, 8);
+    /// assert_eq!(rt; (writer.mark(), writer.writes()), (2, 2));
+    /// assert_eq!(rt; target, [0xF3, 0x33]);
+    /// ```
+    #[inline(always)]
+    pub fn combine_through<C: Combine, R2: BitRegister, O2: BitOrder<R2>>(
+        self,
+        memory: &[R],
+        dest: BitPtr<R2, O2>,
+        writer: &mut WordWriter<R2>,
+        count: usize,
+    )
+        requires from_in { RangeIsIn R.BITS (ptr_of self) (length memory.now) count }
+        requires to_in { RangeIsIn R2.BITS (ptr_of dest) (length (writer_of writer.old).words)
+            count }
+        requires rising { 0 < count → (writer_of writer.old).rising ≡ true
+            → (writer_of writer.old).mark ≡ nat_abs (ptr_of dest).word }
+        requires falling { 0 < count → (writer_of writer.old).rising ≡ false
+            → (writer_of writer.old).mark ≡ far_edge dest count }
+        ensures reference { (writer_memory writer.new).ghost_name
+            ≡ (writer_memory writer.old).ghost_name }
+        ensures direction { (writer_of writer.new).rising ≡ (writer_of writer.old).rising }
+        ensures len { length (writer_of writer.new).words ≡ length (writer_of writer.old).words }
+        ensures writes { (writer_of writer.new).writes
+            ≡ (writer_of writer.old).writes + words_met R2.BITS (ptr_of dest).bit count }
+        ensures rising_mark { 0 < count → (writer_of writer.old).rising ≡ true
+            → (writer_of writer.new).mark ≡ far_edge dest count }
+        ensures falling_mark { 0 < count → (writer_of writer.old).rising ≡ false
+            → (writer_of writer.new).mark ≡ nat_abs (ptr_of dest).word }
         ensures bits { bits_by dest O2.at_of (writer_of writer.new).words
-            ≡ list_with_copy (bits_by self O.at_of memory.now) (index_at self)
+            ≡ list_with C.of (bits_by self O.at_of memory.now) (index_at self)
             (bits_by dest O2.at_of (writer_of writer.old).words) (index_at dest) count }
         ensures none { count ≡ 0 → writer_of writer.new ≡ writer_of writer.old }
     {
         if count == 0 {
             return;
         }
-        copy_across::<R, O, R2, O2>(memory, Cursor::at(self), writer, Cursor::at(dest), count);
+        combine_bits::<C, R, O, R2, O2>(memory, Cursor::at(self), writer, Cursor::at(dest), count);
     }
 
     /// Copies `count` bits inside the memory that the writer borrows, from this pointer on, to
@@ -78,9 +138,9 @@ impl<R: BitRegister, O: BitOrder<R>> BitPtr<R, O> {
             → (writer_of writer.old).mark ≡ nat_abs (ptr_of dest).word }
         requires falling { 0 < count → (writer_of writer.old).rising ≡ false
             → (writer_of writer.old).mark ≡ far_edge dest count }
-        requires downwards { 0 < count → index_at dest ≤ index_at self
+        requires needs_rising { 0 < count → index_at dest ≤ index_at self
             → (writer_of writer.old).rising ≡ true }
-        requires upwards { 0 < count → index_at self < index_at dest
+        requires needs_falling { 0 < count → index_at self < index_at dest
             → (writer_of writer.old).rising ≡ false }
         ensures reference { (writer_memory writer.new).ghost_name
             ≡ (writer_memory writer.old).ghost_name }
@@ -97,10 +157,66 @@ impl<R: BitRegister, O: BitOrder<R>> BitPtr<R, O> {
             ≡ list_with_copy old (index_at self) old (index_at dest) count }
         ensures none { count ≡ 0 → writer_of writer.new ≡ writer_of writer.old }
     {
+        self.combine_within_through::<Source>(dest, writer, count);
+    }
+
+    /// Combines `count` bits inside the memory that the writer borrows, from this pointer on, with
+    /// those from `dest` on, and puts each word that they meet once and no other word.
+    ///
+    /// The two ranges may overlap, and each bit is combined with what was there before the call.
+    /// What is required, and how the mark and the count of writes move, is as for
+    /// [`copy_within_through`](BitPtr::copy_within_through), which is this call with [`Source`].
+    /// Our own.
+    ///
+    /// # Examples
+    ///
+    /// ```
+    /// let mut memory = [0x0Fu8, 0x3C];
+    /// let from: BitPtr<u8, Lsb0> = BitPtr::new(0, BitIdx::MIN);
+    /// let dest: BitPtr<u8, Lsb0> = BitPtr::new(1, BitIdx::MIN);
+    /// let mut writer = WordWriter::falling(&mut memory);
+    /// from.combine_within_through::<AndNot>(dest, &mut writer, 8);
+    /// assert_eq!(rt; writer.writes(), 1);
+    /// assert_eq!(rt; memory, [0x0F, 0x30]);
+    /// ```
+    #[inline(always)]
+    pub fn combine_within_through<C: Combine>(
+        self,
+        dest: Self,
+        writer: &mut WordWriter<R>,
+        count: usize,
+    )
+        requires from_in { RangeIsIn R.BITS (ptr_of self) (length (writer_of writer.old).words)
+            count }
+        requires to_in { RangeIsIn R.BITS (ptr_of dest) (length (writer_of writer.old).words)
+            count }
+        requires rising { 0 < count → (writer_of writer.old).rising ≡ true
+            → (writer_of writer.old).mark ≡ nat_abs (ptr_of dest).word }
+        requires falling { 0 < count → (writer_of writer.old).rising ≡ false
+            → (writer_of writer.old).mark ≡ far_edge dest count }
+        requires needs_rising { 0 < count → index_at dest ≤ index_at self
+            → (writer_of writer.old).rising ≡ true }
+        requires needs_falling { 0 < count → index_at self < index_at dest
+            → (writer_of writer.old).rising ≡ false }
+        ensures reference { (writer_memory writer.new).ghost_name
+            ≡ (writer_memory writer.old).ghost_name }
+        ensures direction { (writer_of writer.new).rising ≡ (writer_of writer.old).rising }
+        ensures len { length (writer_of writer.new).words ≡ length (writer_of writer.old).words }
+        ensures writes { (writer_of writer.new).writes
+            ≡ (writer_of writer.old).writes + words_met R.BITS (ptr_of dest).bit count }
+        ensures rising_mark { 0 < count → (writer_of writer.old).rising ≡ true
+            → (writer_of writer.new).mark ≡ far_edge dest count }
+        ensures falling_mark { 0 < count → (writer_of writer.old).rising ≡ false
+            → (writer_of writer.new).mark ≡ nat_abs (ptr_of dest).word }
+        ensures bits { let old = bits_by self O.at_of (writer_of writer.old).words
+            in bits_by self O.at_of (writer_of writer.new).words
+            ≡ list_with C.of old (index_at self) old (index_at dest) count }
+        ensures none { count ≡ 0 → writer_of writer.new ≡ writer_of writer.old }
+    {
         if count == 0 {
             return;
         }
-        move_across::<R, O>(Cursor::at(self), writer, Cursor::at(dest), count);
+        combine_bits_within::<C, R, O>(Cursor::at(self), writer, Cursor::at(dest), count);
     }
 
     /// Copies `count` bits of `memory`, from this pointer on, to those of `target` from `dest` on,
@@ -137,6 +253,43 @@ impl<R: BitRegister, O: BitOrder<R>> BitPtr<R, O> {
         let mut writer = WordWriter::rising(target);
         writer.skip_to(to.word);
         self.copy_through(memory, dest, &mut writer, count);
+    }
+
+    /// Combines `count` bits of `memory`, from this pointer on, with those of `target` from `dest`
+    /// on, and changes no other bit: [`run_in`](BitPtr::run_in) is the test of each range.
+    ///
+    /// Bit j of the target's range becomes what `C` makes of it and of bit j of this range,
+    /// whatever their registers and orders are. With [`Source`] it is
+    /// [`copy_to`](BitPtr::copy_to). Our own.
+    ///
+    /// # Examples
+    ///
+    /// ```
+    /// let memory = [0x2Cu8];
+    /// let mut target = [0xFFFFu16];
+    /// let from: BitPtr<u8, Lsb0> = BitPtr::new(0, BitIdx::new_unchecked(2));
+    /// let dest: BitPtr<u16, Msb0> = BitPtr::new(0, BitIdx::new_unchecked(4));
+    /// from.combine_to::<Xor, u16, Msb0>(&memory, dest, &mut target, 4);
+    /// assert_eq!(rt; target, [0xF2FF]);
+    /// ```
+    pub fn combine_to<C: Combine, R2: BitRegister, O2: BitOrder<R2>>(
+        self,
+        memory: &[R],
+        dest: BitPtr<R2, O2>,
+        target: &mut [R2],
+        count: usize,
+    )
+        requires from_in { RangeIsIn R.BITS (ptr_of self) (length memory.now) count }
+        requires to_in { RangeIsIn R2.BITS (ptr_of dest) (length target.old) count }
+        ensures bits { bits_by dest O2.at_of target.new
+            ≡ list_with C.of (bits_by self O.at_of memory.now) (index_at self)
+            (bits_by dest O2.at_of target.old) (index_at dest) count }
+        ensures words { length target.new ≡ length target.old }
+    {
+        let to = Cursor::at(dest);
+        let mut writer = WordWriter::rising(target);
+        writer.skip_to(to.word);
+        self.combine_through::<C, R2, O2>(memory, dest, &mut writer, count);
     }
 
     /// Another name of [`copy_to`](BitPtr::copy_to), since two memories never overlap.
@@ -209,11 +362,35 @@ impl<R: BitRegister, O: BitOrder<R>> BitPtr<R, O> {
             ≡ list_with_copy old (index_at self) old (index_at dest) count }
         ensures words { length memory.new ≡ length memory.old }
     {
+        self.combine_within::<Source>(memory, dest, count);
+    }
+
+    /// Combines `count` bits of a memory, from this pointer on, with those from `dest` on, and
+    /// changes no other bit: [`run_in`](BitPtr::run_in) is the test of each range.
+    ///
+    /// The two ranges may overlap, and each bit is combined with what was there before the call.
+    /// With [`Source`] it is [`copy_within`](BitPtr::copy_within). Our own.
+    ///
+    /// # Examples
+    ///
+    /// ```
+    /// let mut memory = [0x0Du8, 0xF7];
+    /// let from: BitPtr<u8, Lsb0> = BitPtr::new(0, BitIdx::MIN);
+    /// from.combine_within::<And>(&mut memory, BitPtr::new(1, BitIdx::MIN), 4);
+    /// assert_eq!(rt; memory, [0x0D, 0xF5]);
+    /// ```
+    pub fn combine_within<C: Combine>(self, memory: &mut [R], dest: Self, count: usize)
+        requires from_in { RangeIsIn R.BITS (ptr_of self) (length memory.old) count }
+        requires to_in { RangeIsIn R.BITS (ptr_of dest) (length memory.old) count }
+        ensures bits { let old = bits_by self O.at_of memory.old in bits_by self O.at_of memory.new
+            ≡ list_with C.of old (index_at self) old (index_at dest) count }
+        ensures words { length memory.new ≡ length memory.old }
+    {
         let to = Cursor::at(dest);
         let rising = to.is_at_most(Cursor::at(self));
         let edge = near_edge(rising, to.word, dest.elements(count));
         let mut writer = WordWriter::standing_at(memory, rising, edge);
-        self.copy_within_through(dest, &mut writer, count);
+        self.combine_within_through::<C>(dest, &mut writer, count);
     }
 
     /// Copies `count` bits of a memory, from `src` on, to those from this pointer on, and changes

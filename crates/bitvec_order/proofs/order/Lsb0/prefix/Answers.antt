@@ -17,10 +17,17 @@ returns-then-count-BITS-clause-set g c =
 
 pub returns-clause-value : goal.returns-clause-value
 returns-clause-value g c =
+    let R = g.R.BitRegister in
     c.new.ensures
-    ∙ low_prefix g.R.BitRegister.BITS c.args.upto c.into_inner-count.result (g.R.BitRegister.number c.ALL-2.result) (g.R.BitRegister.number c.shl.result) (g.R.BitRegister.number c.not.result)
-    (ap g.R.BitRegister.number c.ALL-2.ensures ∙ g.met.R.BitRegister.all_is_greatest) c.shl.ensures.low c.shl.ensures.moved c.not.ensures.digits c.not.ensures.below
-    c.into_inner-count.ensures.value c.into_inner-count.ensures.below
+    ∙ low_prefix {width = R.BITS} {count = c.into_inner-count.result} {all = R.number c.ALL-2.result} {s = R.number c.shl.result} {t = R.number c.not.result}
+    (record {
+      ones = ap R.number c.ALL-2.ensures ∙ g.met.R.BitRegister.all_is_greatest;
+      low = c.shl.ensures.low;
+      moved = c.shl.ensures.moved;
+      turned = c.not.ensures.digits;
+      below = c.not.ensures.below;
+    })
+    c.args.upto c.into_inner-count.ensures.value c.into_inner-count.ensures.below
 
 pub returns-clause-set : goal.returns-clause-set
 returns-clause-set g c =

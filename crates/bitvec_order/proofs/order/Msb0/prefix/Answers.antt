@@ -7,8 +7,9 @@ pub returns-clause-value : goal.returns-clause-value
 returns-clause-value g c =
     let law = g.met.R.BitRegister in
     let others : c.new_unchecked-others.result ≡ g.R.BitRegister.BITS - c.args.upto = omega (arith, c.new_unchecked-others.ensures, c.BITS.ensures, c.into_inner.ensures.value) in
-    high_prefix g.R.BitRegister.BITS g.R.BitRegister.MASK c.args.upto c.new_unchecked-others.result c.prefix.result c.not.result
-    law.width_at_least_8 law.mask_is_greatest_index c.into_inner.ensures.below others c.prefix.ensures.set c.not.ensures.below c.not.ensures.digits
+    high_prefix {width = g.R.BitRegister.BITS} {others = c.new_unchecked-others.result} {s = c.prefix.result} {t = c.not.result}
+    (record { lowest = c.prefix.ensures.set; turned = c.not.ensures.digits; below = c.not.ensures.below })
+    g.R.BitRegister.MASK c.args.upto law.width_at_least_8 law.mask_is_greatest_index c.into_inner.ensures.below others
 
 pub returns-clause-set : goal.returns-clause-set
 returns-clause-set g c =

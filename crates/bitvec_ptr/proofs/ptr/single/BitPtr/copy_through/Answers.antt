@@ -1,60 +1,21 @@
-use Rattle.std.proofs.Common.{◌+◌, ◌*◌, ◌<◌, length, map, nat_abs, sym, ap, ◌∙◌, arith}
-use Rattle.bitvec_ptr.specs.Memory.{memory_bits, list_with_copy}
-use Rattle.bitvec_ptr.proofs.CopyLemmas.{copied_none, met_covers}
-use Rattle.bitvec_ptr.proofs.PlaceLemmas.{words_met-none}
+use Rattle.std.proofs.Common.{◌+◌, ◌*◌, map, nat_abs, ◌∙◌}
+use Rattle.bitvec_ptr.specs.Memory.{memory_bits}
+use Rattle.bitvec_ptr.proofs.CombineLemmas.{combined_is_copied, met_fits}
 use Rattle.bitvec_ptr.proofs.ptr.single.BitPtr.copy_through.Goals as goal
-
-pub returns-then-count-eq0-clause-writes : goal.returns-then-count-eq0-clause-writes
-returns-then-count-eq0-clause-writes g c =
-    let none = words_met-none g.R2.BitRegister.BITS c.args.dest.bit c.args.count c.if-count-eq0.true in
-    omega (arith, none)
-
-pub returns-then-count-eq0-clause-bits : goal.returns-then-count-eq0-clause-bits
-returns-then-count-eq0-clause-bits g c =
-    let R = g.R.BitRegister in
-    let R2 = g.R2.BitRegister in
-    let source = memory_bits R.BITS g.O.BitAt.at_of (map R.number c.args.memory.now) in
-    let target = memory_bits R2.BITS g.O2.BitAt.at_of (map R2.number c.args.writer.now.words.now) in
-    copied_none source (nat_abs c.args.self.word * R.BITS + c.args.self.bit) target (nat_abs c.args.dest.word * R2.BITS + c.args.dest.bit) ∙ ap (λ n. list_with_copy source (nat_abs c.args.self.word * R.BITS + c.args.self.bit) target (nat_abs c.args.dest.word * R2.BITS + c.args.dest.bit) n) (sym c.if-count-eq0.true)
-
-pub copy_across-requires-clause-from_in : goal.copy_across-requires-clause-from_in
-copy_across-requires-clause-from_in g c =
-    let R = g.R.BitRegister in
-    let some : 0 < R.BITS = omega (arith, g.met.R.BitRegister.width_at_least_8) in
-    let more : 0 < c.args.count = omega arith in
-    rw c.at.ensures.place (met_covers R.BITS (nat_abs c.args.self.word) c.args.self.bit c.args.count (length c.args.memory.now) some more c.requires.from_in.1)
-
-pub copy_across-requires-clause-to_in : goal.copy_across-requires-clause-to_in
-copy_across-requires-clause-to_in g c = rw (c.at-2.ensures.word, c.at-2.ensures.bit) c.requires.to_in.1
-
-pub copy_across-requires-clause-rising : goal.copy_across-requires-clause-rising
-copy_across-requires-clause-rising g c = λ r.
-    let more : 0 < c.args.count = omega arith in
-    c.requires.rising more r ∙ sym c.at-2.ensures.word
-
-pub copy_across-requires-clause-falling : goal.copy_across-requires-clause-falling
-copy_across-requires-clause-falling g c = λ r.
-    let more : 0 < c.args.count = omega arith in
-    rw (c.at-2.ensures.word, c.at-2.ensures.bit) (c.requires.falling more r)
-
-pub returns-clause-writes : goal.returns-clause-writes
-returns-clause-writes g c = rw c.at-2.ensures.bit at c.copy_across.ensures.writes
-
-pub returns-clause-rising_mark : goal.returns-clause-rising_mark
-returns-clause-rising_mark g c = λ _ r. rw (c.at-2.ensures.word, c.at-2.ensures.bit) at (c.copy_across.ensures.rising_mark r)
-
-pub returns-clause-falling_mark : goal.returns-clause-falling_mark
-returns-clause-falling_mark g c = λ _ r. c.copy_across.ensures.falling_mark r ∙ c.at-2.ensures.word
 
 pub returns-clause-bits : goal.returns-clause-bits
 returns-clause-bits g c =
     let R = g.R.BitRegister in
     let R2 = g.R2.BitRegister in
-    let source = memory_bits R.BITS g.O.BitAt.at_of (map R.number c.args.memory.now) in
-    let target = memory_bits R2.BITS g.O2.BitAt.at_of (map R2.number c.args.writer.now.words.now) in
-    c.copy_across.ensures.bits
-    ∙ ap (λ v. list_with_copy source v target (c.at-2.result.word * R2.BITS + c.at-2.result.bit) c.args.count) c.at.ensures.place
-    ∙ ap (λ v. list_with_copy source (nat_abs c.args.self.word * R.BITS + c.args.self.bit) target v c.args.count) c.at-2.ensures.place
-
-pub returns-clause-none : goal.returns-clause-none
-returns-clause-none g c = λ e. absurd (omega arith)
+    let at = g.O.BitAt.at_of in
+    let at2 = g.O2.BitAt.at_of in
+    let from = c.args.self in
+    let dest = c.args.dest in
+    let source = c.args.memory.now in
+    let target = c.args.writer.now.words.now in
+    let count = c.args.count in
+    c.combine_through.ensures.bits
+    ∙ combined_is_copied (memory_bits R.BITS at (map R.number source)) (nat_abs from.word * R.BITS + from.bit)
+    (memory_bits R2.BITS at2 (map R2.number target)) (nat_abs dest.word * R2.BITS + dest.bit) count
+    (met_fits R2.BITS at2 R2.number target (nat_abs dest.word) dest.bit count g.met.R2.BitRegister.width_at_least_8 c.requires.to_in.1)
+    (met_fits R.BITS at R.number source (nat_abs from.word) from.bit count g.met.R.BitRegister.width_at_least_8 c.requires.from_in.1)

@@ -1,36 +1,19 @@
-use Rattle.std.proofs.Common.{sym, ◌∙◌, arith, inl, inr}
-use Rattle.std.proofs.lemmas.Bool.{cases_Bool}
+use Rattle.std.proofs.Common.{◌+◌, ◌*◌, map, nat_abs, ◌∙◌}
+use Rattle.bitvec_ptr.specs.Memory.{memory_bits}
+use Rattle.bitvec_ptr.proofs.CombineLemmas.{combined_is_copied, met_fits}
 use Rattle.bitvec_ptr.proofs.ptr.single.BitPtr.copy_within.Goals as goal
 
-pub near_edge-edge-requires : goal.near_edge-edge-requires
-near_edge-edge-requires g c = omega (arith, c.requires.to_in.1, c.at-to.ensures.word, c.elements.ensures)
-
-pub standing_at-writer-requires : goal.standing_at-writer-requires
-standing_at-writer-requires g c = omega (arith, c.near_edge-edge.ensures.most, c.requires.to_in.1, c.at-to.ensures.word, c.elements.ensures)
-
-pub copy_within_through-requires-clause-rising : goal.copy_within_through-requires-clause-rising
-copy_within_through-requires-clause-rising g c = λ _ r.
-    let writer = c.standing_at-writer.ensures in
-    writer.mark ∙ c.near_edge-edge.ensures.rising (sym writer.direction ∙ r) ∙ c.at-to.ensures.word
-
-pub copy_within_through-requires-clause-falling : goal.copy_within_through-requires-clause-falling
-copy_within_through-requires-clause-falling g c = λ _ r.
-    let writer = c.standing_at-writer.ensures in
-    let edge = c.near_edge-edge.ensures.falling (sym writer.direction ∙ r) in
-    omega (arith, edge, writer.mark, c.at-to.ensures.word, c.elements.ensures)
-
-pub copy_within_through-requires-clause-downwards : goal.copy_within_through-requires-clause-downwards
-copy_within_through-requires-clause-downwards g c = λ _ down.
-    c.standing_at-writer.ensures.direction
-    ∙ elim (cases_Bool c.is_at_most-rising.result) [
-      | inl e ↦ e
-      | inr e ↦ (let past = c.is_at_most-rising.ensures.no e in absurd (omega (arith, past, down, c.at-to.ensures.place, c.at.ensures.place)))
-    ]
-
-pub copy_within_through-requires-clause-upwards : goal.copy_within_through-requires-clause-upwards
-copy_within_through-requires-clause-upwards g c = λ _ up.
-    c.standing_at-writer.ensures.direction
-    ∙ elim (cases_Bool c.is_at_most-rising.result) [
-      | inl e ↦ (let at_most = c.is_at_most-rising.ensures.yes e in absurd (omega (arith, at_most, up, c.at-to.ensures.place, c.at.ensures.place)))
-      | inr e ↦ e
-    ]
+pub returns-clause-bits : goal.returns-clause-bits
+returns-clause-bits g c =
+    let R = g.R.BitRegister in
+    let at = g.O.BitAt.at_of in
+    let words = c.args.memory.now in
+    let from = c.args.self in
+    let dest = c.args.dest in
+    let count = c.args.count in
+    let some = g.met.R.BitRegister.width_at_least_8 in
+    let bits = memory_bits R.BITS at (map R.number words) in
+    c.combine_within.ensures.bits
+    ∙ combined_is_copied bits (nat_abs from.word * R.BITS + from.bit) bits (nat_abs dest.word * R.BITS + dest.bit) count
+    (met_fits R.BITS at R.number words (nat_abs dest.word) dest.bit count some c.requires.to_in.1)
+    (met_fits R.BITS at R.number words (nat_abs from.word) from.bit count some c.requires.from_in.1)

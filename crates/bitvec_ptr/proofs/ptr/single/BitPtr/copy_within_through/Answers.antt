@@ -1,70 +1,19 @@
-use Rattle.std.proofs.Common.{◌+◌, ◌*◌, ◌<◌, length, map, nat_abs, sym, ap, ◌∙◌, arith}
-use Rattle.bitvec_ptr.specs.Memory.{memory_bits, list_with_copy}
-use Rattle.bitvec_ptr.proofs.CopyLemmas.{copied_none, met_covers, from_rising, from_falling}
-use Rattle.bitvec_ptr.proofs.PlaceLemmas.{words_met-none}
+use Rattle.std.proofs.Common.{◌+◌, ◌*◌, map, nat_abs, ◌∙◌}
+use Rattle.bitvec_ptr.specs.Memory.{memory_bits}
+use Rattle.bitvec_ptr.proofs.CombineLemmas.{combined_is_copied, met_fits}
 use Rattle.bitvec_ptr.proofs.ptr.single.BitPtr.copy_within_through.Goals as goal
-
-pub returns-then-count-eq0-clause-writes : goal.returns-then-count-eq0-clause-writes
-returns-then-count-eq0-clause-writes g c =
-    let none = words_met-none g.R.BitRegister.BITS c.args.dest.bit c.args.count c.if-count-eq0.true in
-    omega (arith, none)
-
-pub returns-then-count-eq0-clause-bits : goal.returns-then-count-eq0-clause-bits
-returns-then-count-eq0-clause-bits g c =
-    let R = g.R.BitRegister in
-    let old = memory_bits R.BITS g.O.BitAt.at_of (map R.number c.args.writer.now.words.now) in
-    copied_none old (nat_abs c.args.self.word * R.BITS + c.args.self.bit) old (nat_abs c.args.dest.word * R.BITS + c.args.dest.bit) ∙ ap (λ n. list_with_copy old (nat_abs c.args.self.word * R.BITS + c.args.self.bit) old (nat_abs c.args.dest.word * R.BITS + c.args.dest.bit) n) (sym c.if-count-eq0.true)
-
-pub move_across-requires-clause-from_in : goal.move_across-requires-clause-from_in
-move_across-requires-clause-from_in g c =
-    let R = g.R.BitRegister in
-    let some : 0 < R.BITS = omega (arith, g.met.R.BitRegister.width_at_least_8) in
-    let more : 0 < c.args.count = omega arith in
-    rw c.at.ensures.place (met_covers R.BITS (nat_abs c.args.self.word) c.args.self.bit c.args.count (length c.args.writer.now.words.now) some more c.requires.from_in.1)
-
-pub move_across-requires-clause-to_in : goal.move_across-requires-clause-to_in
-move_across-requires-clause-to_in g c = rw (c.at-2.ensures.word, c.at-2.ensures.bit) c.requires.to_in.1
-
-pub move_across-requires-clause-rising : goal.move_across-requires-clause-rising
-move_across-requires-clause-rising g c = λ r.
-    let more : 0 < c.args.count = omega arith in
-    c.requires.rising more r ∙ sym c.at-2.ensures.word
-
-pub move_across-requires-clause-falling : goal.move_across-requires-clause-falling
-move_across-requires-clause-falling g c = λ r.
-    let more : 0 < c.args.count = omega arith in
-    rw (c.at-2.ensures.word, c.at-2.ensures.bit) (c.requires.falling more r)
-
-pub move_across-requires-clause-before : goal.move_across-requires-clause-before
-move_across-requires-clause-before g c = λ r.
-    let B = g.R.BitRegister.BITS in
-    let more : 0 < c.args.count = omega arith in
-    let below = from_rising c.args.writer.now.rising (nat_abs c.args.self.word * B + c.args.self.bit) (nat_abs c.args.dest.word * B + c.args.dest.bit) (c.requires.upwards more) r in
-    omega (arith, below, c.at.ensures.place, c.at-2.ensures.place)
-
-pub move_across-requires-clause-behind : goal.move_across-requires-clause-behind
-move_across-requires-clause-behind g c = λ r.
-    let B = g.R.BitRegister.BITS in
-    let more : 0 < c.args.count = omega arith in
-    let below = from_falling c.args.writer.now.rising (nat_abs c.args.self.word * B + c.args.self.bit) (nat_abs c.args.dest.word * B + c.args.dest.bit) (c.requires.downwards more) r in
-    omega (arith, below, c.at.ensures.place, c.at-2.ensures.place)
-
-pub returns-clause-writes : goal.returns-clause-writes
-returns-clause-writes g c = rw c.at-2.ensures.bit at c.move_across.ensures.writes
-
-pub returns-clause-rising_mark : goal.returns-clause-rising_mark
-returns-clause-rising_mark g c = λ _ r. rw (c.at-2.ensures.word, c.at-2.ensures.bit) at (c.move_across.ensures.rising_mark r)
-
-pub returns-clause-falling_mark : goal.returns-clause-falling_mark
-returns-clause-falling_mark g c = λ _ r. c.move_across.ensures.falling_mark r ∙ c.at-2.ensures.word
 
 pub returns-clause-bits : goal.returns-clause-bits
 returns-clause-bits g c =
     let R = g.R.BitRegister in
-    let old = memory_bits R.BITS g.O.BitAt.at_of (map R.number c.args.writer.now.words.now) in
-    c.move_across.ensures.bits
-    ∙ ap (λ v. list_with_copy old v old (c.at-2.result.word * R.BITS + c.at-2.result.bit) c.args.count) c.at.ensures.place
-    ∙ ap (λ v. list_with_copy old (nat_abs c.args.self.word * R.BITS + c.args.self.bit) old v c.args.count) c.at-2.ensures.place
-
-pub returns-clause-none : goal.returns-clause-none
-returns-clause-none g c = λ e. absurd (omega arith)
+    let at = g.O.BitAt.at_of in
+    let words = c.args.writer.now.words.now in
+    let from = c.args.self in
+    let dest = c.args.dest in
+    let count = c.args.count in
+    let some = g.met.R.BitRegister.width_at_least_8 in
+    let bits = memory_bits R.BITS at (map R.number words) in
+    c.combine_within_through.ensures.bits
+    ∙ combined_is_copied bits (nat_abs from.word * R.BITS + from.bit) bits (nat_abs dest.word * R.BITS + dest.bit) count
+    (met_fits R.BITS at R.number words (nat_abs dest.word) dest.bit count some c.requires.to_in.1)
+    (met_fits R.BITS at R.number words (nat_abs from.word) from.bit count some c.requires.from_in.1)

@@ -1,0 +1,9 @@
+use Rattle.std.proofs.Common.{ap, ◌∙◌}
+use Rattle.bitvec_mem.specs.Digit.{digit}
+use Rattle.bitvec_ptr.proofs.CombineLemmas.{without_none}
+use Rattle.bitvec_ptr.proofs.ptr.combine.AndNotCombine.ground.Goals as goal
+
+pub returns : goal.returns
+returns g c =
+    let R = g.R.BitRegister in
+    λ p h. without_none (R.number c.ZERO.result) p (digit (R.number c.args._old) p) (ap R.number c.ZERO.ensures ∙ g.met.R.BitRegister.zero_is_0)

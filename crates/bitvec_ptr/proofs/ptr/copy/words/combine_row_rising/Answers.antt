@@ -1,0 +1,48 @@
+use Rattle.std.proofs.Common.{◌≡◌, ◌+◌, ◌*◌, ◌≤◌, length, refl, ◌∙◌, arith}
+use Rattle.std.proofs.Math.Nat.{mul-le-mul_right}
+use Rattle.bitvec_ptr.proofs.CopyLemmas.{place_below}
+use Rattle.bitvec_ptr.proofs.GatherLemmas.{allows_elsewhere}
+use Rattle.bitvec_ptr.proofs.ListJoins.{row_less}
+use Rattle.bitvec_ptr.proofs.WriterJoins.{nothing_combined, joined_rising}
+use Rattle.bitvec_ptr.proofs.ptr.copy.words.combine_row_rising.Goals as goal
+
+pub loop-k-init : goal.loop-k-init
+loop-k-init g c =
+    nothing_combined (omega arith) c.requires.stands
+
+pub words_on-read-requires-clause-short : goal.words_on-read-requires-clause-short
+words_on-read-requires-clause-short g c =
+    let less = row_less g.R2.BitRegister.BITS (c.loop-k.k) c.args.count (omega arith) in
+    omega (arith, less)
+
+pub words_on-read-requires-clause-inside : goal.words_on-read-requires-clause-inside
+words_on-read-requires-clause-inside g c =
+    let R = g.R.BitRegister in
+    let R2 = g.R2.BitRegister in
+    let less = row_less R2.BITS (c.loop-k.k) c.args.count (omega arith) in
+    place_below R.BITS (c.args.from.word * R.BITS + c.args.from.bit + (c.loop-k.k) * R2.BITS) (length c.args.source.now)
+    (omega (arith, g.met.R.BitRegister.width_at_least_8)) (omega (arith, less)) (omega arith)
+
+pub combine_word-requires-clause-way : goal.combine_word-requires-clause-way
+combine_word-requires-clause-way g c =
+    let R = g.R.BitRegister in
+    let R2 = g.R2.BitRegister in
+    allows_elsewhere c.args.way R.BITS g.O.BitAt.at_of R2.BITS g.O2.BitAt.at_of c.args.from.bit 0 c.words_on-read.result.bit 0 c.requires.way
+    (λ w e. c.words_on-read.ensures.bit w ∙ e)
+
+pub combine_word-requires-clause-from_in : goal.combine_word-requires-clause-from_in
+combine_word-requires-clause-from_in g c =
+    let less = row_less g.R2.BitRegister.BITS (c.loop-k.k) c.args.count (omega arith) in
+    omega (arith, less, c.words_on-read.ensures.place, c.BITS.ensures, c.loop-k.invariant.len)
+
+pub loop-k-preserved : goal.loop-k-preserved
+loop-k-preserved g c =
+    let R = g.R.BitRegister in
+    let R2 = g.R2.BitRegister in
+    let k = c.loop-k.k in
+    let less = row_less R2.BITS k c.args.count (omega arith) in
+    let next : (k + 1) * R2.BITS ≡ k * R2.BITS + R2.BITS = omega arith in
+    let write : (c.args.to + k) * R2.BITS + 0 ≡ c.args.to * R2.BITS + k * R2.BITS = omega arith in
+    let room : (c.args.to + c.args.count) * R2.BITS ≤ length c.args.writer.now.words.now * R2.BITS = mul-le-mul_right R2.BITS c.requires.to_in in
+    joined_rising c.requires.direction (omega (arith, less, next, room)) (omega (arith, less, next, c.requires.from_in)) c.words_on-read.ensures.place
+    write refl (omega (arith, next, c.BITS.ensures)) refl c.loop-k.invariant c.combine_word.ensures

@@ -1,0 +1,10 @@
+use Rattle.std.proofs.Common.{◌+◌, ◌*◌}
+use Rattle.bitvec_ptr.specs.Combinations.{HasCombined}
+use Rattle.bitvec_ptr.proofs.ptr.copy.words.combine_row_rising.Given as goal
+
+abbrev pub invariant-loop-k : goal.invariant-loop-k
+invariant-loop-k g l =
+    let R = g.R.BitRegister in
+    let R2 = g.R2.BitRegister in
+    HasCombined g.C.Combine.of R.BITS g.O.BitAt.at_of R.number l.source (l.fn.from.word * R.BITS + l.fn.from.bit) R2.BITS g.O2.BitAt.at_of R2.number
+    l.fn.writer l.writer (l.to * R2.BITS) (l.k * R2.BITS) l.to l.k
