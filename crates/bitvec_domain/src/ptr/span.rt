@@ -205,10 +205,10 @@ impl<R: BitRegister, O> BitSpan<R, O> {
         requires { len ≤ region_max_bits }
         ensures { span_of result ≡ span_at R.BITS place len }
     {
-        let bits = usize::from(R::BITS);
+        let start: BitPtr<R, O> = BitPtr::at(place);
         BitSpan {
-            word: (place / bits) as isize,
-            head: (place % bits) as u8,
+            word: start.address(),
+            head: start.bit().into_inner(),
             len,
             of: PhantomData,
         }

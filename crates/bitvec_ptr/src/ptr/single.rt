@@ -2,7 +2,7 @@
 
 ghost use Rattle.std.specs.Prelude.{◌≡◌, ⊤, ℕ, ℤ, pos, neg_ℤ, ◌+◌, ◌-◌, ◌/◌, ◌==◌, if◌then◌else◌};
 ghost use Rattle.std.specs.Prelude.{Some, length, map, slice_get, slice_set, swap, ◌<◌, ◌≤◌, ◌+ℤ◌};
-ghost use Rattle.std.specs.Prelude.{◌≤ℤ◌, ◌↔◌, IsTrue, FitsSigned};
+ghost use Rattle.std.specs.Prelude.{◌≤ℤ◌, ◌↔◌, ◌%◌, IsTrue, FitsSigned};
 ghost use Rattle.std.specs.Int.{w64, int_wrap};
 ghost use Rattle.bitvec_ptr.specs.Place.{place_of, words_met};
 ghost use Rattle.bitvec_ptr.specs.Memory.{bit_of};
@@ -82,6 +82,28 @@ impl<R: BitRegister, O> BitPtr<R, O> {
         BitPtr {
             word,
             bit: bit.into_inner(),
+            of: PhantomData,
+        }
+    }
+
+    /// The pointer to the bit number `place` of a memory, where the first bit of the first word has
+    /// number 0. Constant time. Our own.
+    ///
+    /// # Examples
+    ///
+    /// ```
+    /// let memory = [0x00u8, 0x10];
+    /// let pointer: BitPtr<u8, Lsb0> = BitPtr::at(12);
+    /// assert!(rt; pointer.read(&memory));
+    /// ```
+    pub fn at(place: usize) -> Self
+        ensures { ptr_of result
+            ≡ record { word = pos (place / R.BITS); bit = place % R.BITS } }
+    {
+        let bits = usize::from(R::BITS);
+        BitPtr {
+            word: (place / bits) as isize,
+            bit: (place % bits) as u8,
             of: PhantomData,
         }
     }
