@@ -5,7 +5,7 @@ ghost use Rattle.std.specs.Prelude.{true, false, Some, None, MatchOption, nat_ab
 ghost use Rattle.std.specs.Prelude.{slice_index, slice_range};
 ghost use Rattle.bitvec_order.specs.Order.{IsMaskOf};
 ghost use Rattle.bitvec_ptr.specs.Place.{words_met, tail_of};
-ghost use Rattle.bitvec_domain.specs.Span.{Fits, list_of, word_of, words_of};
+ghost use Rattle.bitvec_domain.specs.Span.{Fits, word_of, words_of};
 ghost use Rattle.bitvec_domain.specs.Parts.{part_of, parts_of, value_of, items};
 ghost use Rattle.bitvec_domain.specs.Parts.{is_enclave, HasShortBody};
 
@@ -242,7 +242,7 @@ impl<'a, R: BitRegister, O> Default for Domain<'a, R, O> {
 }
 
 impl<R: BitRegister, O: BitOrder<R>> BitSpan<R, O> {
-    ghost use Rattle.bitvec_domain.specs.BitSpan.{span_of};
+    ghost use Rattle.bitvec_domain.specs.BitSpan.{span_of, list_by};
     ghost use Rattle.bitvec_domain.specs.Domain.{element_part, optional_part, domain_parts};
 
     /// The part of the `k`-th word that the span meets, counted from 0.
@@ -255,8 +255,7 @@ impl<R: BitRegister, O: BitOrder<R>> BitSpan<R, O> {
         ensures part { element_part R.number result
             ≡ part_of R.BITS (span_of self) (map R.number memory.now) k }
         ensures word { value_of R.BITS O.at_of (element_part R.number result)
-            ≡ word_of R.BITS O.at_of (span_of self).head
-            (list_of R.BITS O.at_of (span_of self) (map R.number memory.now)) k }
+            ≡ word_of R.BITS O.at_of (span_of self).head (list_by self O.at_of memory.now) k }
     {
         let at = self.address() as usize + k;
         let (elements, tail) = self.extent();
@@ -340,8 +339,7 @@ impl<R: BitRegister, O: BitOrder<R>> BitSpan<R, O> {
         ensures parts { domain_parts R.number result
             ≡ parts_of R.BITS (span_of self) (map R.number memory.now) }
         ensures items { items R.BITS O.at_of (domain_parts R.number result)
-            ≡ words_of R.BITS O.at_of (span_of self).head
-            (list_of R.BITS O.at_of (span_of self) (map R.number memory.now)) }
+            ≡ words_of R.BITS O.at_of (span_of self).head (list_by self O.at_of memory.now) }
         ensures short { HasShortBody R.BITS (domain_parts R.number result) }
     {
         let elements = self.elements();

@@ -1,7 +1,7 @@
 //! The bits of a span, by the words in which they lie.
 
 ghost use Rattle.std.specs.Prelude.{◌≡◌, ⊤, true, false, MatchOption, length, map};
-ghost use Rattle.bitvec_domain.specs.Span.{Fits, list_of};
+ghost use Rattle.bitvec_domain.specs.Span.{Fits};
 ghost use Rattle.bitvec_domain.specs.BitParts.{bit_parts_of};
 ghost use Rattle.bitvec_domain.specs.BitParts.{is_bit_enclave, joined_bits};
 ghost use Rattle.bitvec_domain.specs.Parts.{HasShortBody, parts_of};
@@ -132,7 +132,7 @@ impl<'a, R: BitRegister, O> Domain<'a, R, O> {
 }
 
 impl<R: BitRegister, O: BitOrder<R>> BitSpan<R, O> {
-    ghost use Rattle.bitvec_domain.specs.BitSpan.{span_of};
+    ghost use Rattle.bitvec_domain.specs.BitSpan.{span_of, list_by};
     ghost use Rattle.bitvec_domain.specs.BitDomain.{bit_parts};
 
     /// The bits of the span in a memory, by the words in which they lie.
@@ -143,7 +143,7 @@ impl<R: BitRegister, O: BitOrder<R>> BitSpan<R, O> {
         ensures parts { bit_parts R.number result
             ≡ bit_parts_of R.BITS (parts_of R.BITS (span_of self) (map R.number memory.now)) }
         ensures joined { joined_bits R.BITS O.at_of (bit_parts R.number result)
-            ≡ list_of R.BITS O.at_of (span_of self) (map R.number memory.now) }
+            ≡ list_by self O.at_of memory.now }
     {
         self.domain(memory).into_bit_domain()
     }

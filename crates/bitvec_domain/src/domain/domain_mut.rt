@@ -5,7 +5,7 @@ ghost use Rattle.std.specs.Prelude.{not, true, false, length, map, IfSome, Match
 ghost use Rattle.std.specs.Prelude.{Some, None, IsNone, [], replicate, option_map};
 ghost use Rattle.std.specs.Borrow.{sem};
 ghost use Rattle.bitvec_ptr.specs.Place.{words_met};
-ghost use Rattle.bitvec_domain.specs.Span.{Fits, list_of, KeepsOthers};
+ghost use Rattle.bitvec_domain.specs.Span.{Fits};
 ghost use Rattle.bitvec_domain.specs.Parts.{parts_of, is_enclave, HasShortBody};
 ghost use Rattle.bitvec_domain.specs.Loans.{is_inside, has_head, has_tail, words_before};
 ghost use Rattle.bitvec_domain.specs.Loans.{body_words, span_loans, word_of_bit, filled_loan};

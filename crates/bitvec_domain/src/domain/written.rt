@@ -2,7 +2,7 @@
 
 ghost use Rattle.std.specs.Prelude.{◌≡◌, nat_abs, ◌+◌, ◌*◌, ◌≤◌, IfSome, Some, None};
 ghost use Rattle.std.specs.Prelude.{if◌then◌else◌, length, map};
-ghost use Rattle.bitvec_domain.specs.Span.{Fits, list_of, KeepsOthers};
+ghost use Rattle.bitvec_domain.specs.Span.{Fits};
 ghost use Rattle.bitvec_domain.specs.Loans.{has_head, has_tail};
 ghost use Rattle.bitvec_domain.specs.Lending.{name_of};
 ghost use Rattle.bitvec_domain.specs.Pieces.{names_of};
