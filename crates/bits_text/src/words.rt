@@ -18,8 +18,8 @@ pub fn words_of<'a, R: BitRegister, A: Allocator>(
     alloc: &'a A,
     text: &str,
 ) -> Result<Option<Vec<R, &'a A>>, AllocError>
-    ensures ok { IfOk result (λ words. MatchOption words
-        ((numbers : List ℕ) → ¬ IsMemoryText R.BITS text.now numbers)
+    ensures ok { IfOk result (λ it. MatchOption it
+        ((list : List ℕ) → ¬ IsMemoryText R.BITS text.now list)
         (λ v. IsMemoryText R.BITS text.now (map R.number v.items))) }
     ensures err { OnErr result
         (IsSomeAnd (slice_get (pieces text.now) 0) (IsWordText R.BITS)) }
@@ -73,8 +73,8 @@ fn write_next<A: Allocator>(text: &mut String<A>, n: u128) -> Result<(), AllocEr
     write_number(text, n)
 }
 
-// Writes a number in hexadecimal. Its digits are pushed at once, since `push_str` says that the text
-// stays where memory is refused, and `write!` does not.
+// Writes a number in hexadecimal. Its digits are pushed at once, since `push_str` says that the
+// text stays where memory is refused, and `write!` does not.
 fn write_number<A: Allocator>(text: &mut String<A>, n: u128) -> Result<(), AllocError>
     ensures ok { OnOk result (string_bytes text.new ≡ string_bytes text.old ++ hexadecimal n) }
     ensures err { OnErr result (AppendsFront (string_bytes text.old) (string_bytes text.new)
