@@ -8,6 +8,8 @@ mod ends;
 #[cfg(test)]
 mod examples;
 #[cfg(test)]
+mod isolation;
+#[cfg(test)]
 mod laws;
 #[cfg(test)]
 mod no_memory;
