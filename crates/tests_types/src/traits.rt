@@ -11,7 +11,7 @@ ghost use Rattle.std.specs.declared.cmp.Ordering.TheVariants.{Equal};
 
 use bitvec_mem::mem::{BitElement, BitRegister};
 use bitvec_order::index::{BitEnd, BitIdx, BitIdxError, BitMask, BitPos, BitSel};
-use bitvec_order::order::{Lsb0, Msb0};
+use bitvec_order::order::{Direction, Lsb0, Msb0};
 use bitvec_verify::verify::{OrderFault, VerifyFault};
 use std::alloc::AllocError;
 use std::cmp::Ordering;
@@ -256,6 +256,20 @@ fn copied_fault_of_a_register(fault: &VerifyFault) -> Result<VerifyFault, AllocE
     ensures { result ≡ Ok fault.now }
 {
     fault.clone()
+}
+
+// Directions are equal where they are one variant.
+
+fn equal_directions(here: Direction, there: Direction) -> bool
+    ensures { IsTrue result ↔ (here ≡ there) }
+{
+    here == there
+}
+
+fn copied_direction(direction: &Direction) -> Result<Direction, AllocError>
+    ensures { result ≡ Ok direction.now }
+{
+    direction.clone()
 }
 
 // Each of the two orders has one value.
