@@ -3,15 +3,13 @@
 
 mod spans;
 
-use bitvec::index::BitIdx;
 use bitvec::order::Lsb0;
 use bitvec::ptr::span::BitSpan;
 use std::io;
 
 fn main(rt: HostRuntime) -> io::Result<()> {
     let mut memory = [0x12, 0x34, 0x56];
-    let head = BitIdx::new_unchecked(4);
-    let span: BitSpan<u8, Lsb0> = BitSpan::new(0, head, 12).unwrap();
+    let span: BitSpan<u8, Lsb0> = BitSpan::at(4, 12).unwrap();
     for word in span.domain(&memory) {
         println!(rt; "read {word:02x}")?;
     }

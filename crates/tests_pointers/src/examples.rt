@@ -16,6 +16,13 @@ fn a_pointer(rt: HostRuntime) {
 }
 
 #[test]
+fn a_pointer_by_the_number_of_a_bit(rt: HostRuntime) {
+    let memory = [0x00u8, 0x10];
+    let pointer: BitPtr<u8, Lsb0> = BitPtr::at(12);
+    assert!(rt; pointer.read(&memory));
+}
+
+#[test]
 fn a_bit_is_read(rt: HostRuntime) {
     let memory = [0x0Du8, 0x80];
     let pointer: BitPtr<u8, Lsb0> = BitPtr::new(0, BitIdx::new_unchecked(2));

@@ -3,7 +3,7 @@
 use bitvec::domain::BitDomain;
 use bitvec::index::BitIdx;
 use bitvec::mem::BitRegister;
-use bitvec::order::{BitOrder, Lsb0};
+use bitvec::order::{BitOrder, Lsb0, Msb0};
 use bitvec::ptr::span::{BitSpan, BitSpanError};
 use bitvec::run::{Command, Reply, Request, can_run, run};
 use std::marker::PhantomData;
@@ -33,6 +33,41 @@ fn an_error_of_a_span(rt: HostRuntime) {
     assert!(rt; long == Err(BitSpanError::TooLong(usize::MAX)));
     let high = BitSpan::<u8, Lsb0>::new(isize::MAX, head, 1);
     assert!(rt; high == Err(BitSpanError::TooHigh(isize::MAX, PhantomData)));
+}
+
+#[test]
+fn a_span_by_the_number_of_a_bit(rt: HostRuntime) {
+    let mut memory = [0x12u8, 0x34, 0x56];
+    let span: BitSpan<u8, Lsb0> = BitSpan::at(4, 12).unwrap();
+    span.fill(&mut memory, true);
+    assert_eq!(rt; memory, [0xF2, 0xFF, 0x56]);
+}
+
+#[test]
+fn a_range_of_a_span(rt: HostRuntime) {
+    let mut memory = [0x00u8; 2];
+    let span: BitSpan<u8, Lsb0> = BitSpan::at(2, 12).unwrap();
+    span.range(2, 8).fill(&mut memory, true);
+    assert_eq!(rt; memory, [0xF0, 0x03]);
+}
+
+#[test]
+fn a_bit_through_a_span(rt: HostRuntime) {
+    let mut memory = [0x00u8; 2];
+    let span: BitSpan<u8, Lsb0> = BitSpan::at(6, 4).unwrap();
+    span.write(&mut memory, 2, true);
+    assert_eq!(rt; memory, [0x00, 0x01]);
+    assert!(rt; span.read(&memory, 2));
+}
+
+#[test]
+fn a_copy_from_another_span(rt: HostRuntime) {
+    let source = [0x0Fu16];
+    let from: BitSpan<u16, Msb0> = BitSpan::at(8, 8).unwrap();
+    let mut memory = [0x00u8; 2];
+    let span: BitSpan<u8, Lsb0> = BitSpan::at(4, 8).unwrap();
+    span.copy_from(&mut memory, from, &source);
+    assert_eq!(rt; memory, [0x00, 0x0F]);
 }
 
 #[test]

@@ -4,8 +4,8 @@ use bitvec::prelude::*;
 use bitvec::run::{can_run, run};
 
 fn two_in_one_byte(memory: &mut [u8; 1]) -> [Reply<u8>; 3] {
-    let first: BitSpan<u8, Lsb0> = BitSpan::new(0, BitIdx::new_unchecked(0), 3).unwrap();
-    let second = BitSpan::new(0, BitIdx::new_unchecked(3), 5).unwrap();
+    let first: BitSpan<u8, Lsb0> = BitSpan::at(0, 3).unwrap();
+    let second = BitSpan::at(3, 5).unwrap();
     let requests = [
         Request {
             span: 1,
