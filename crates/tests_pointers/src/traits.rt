@@ -14,6 +14,7 @@ use bitvec_ptr::ptr::range::BitPtrRange;
 use bitvec_ptr::ptr::single::BitPtr;
 use std::alloc::AllocError;
 use std::hash::{Hash, Hasher};
+use std::ops::Range;
 
 // A pointer is its word and its bit, a range its two ends.
 
@@ -67,6 +68,13 @@ fn copied_range<R: BitRegister, O>(
     ensures { result ≡ Ok range.now }
 {
     range.clone()
+}
+
+fn ends_of_range<R: BitRegister, O>(range: BitPtrRange<R, O>) -> Range<BitPtr<R, O>>
+    ensures start { ptr_of result.start ≡ (range_of range).start }
+    ensures end { ptr_of result.end ≡ (range_of range).end }
+{
+    range.into()
 }
 
 fn default_range<R: BitRegister, O>() -> BitPtrRange<R, O>

@@ -1,5 +1,5 @@
-//! What equality, order, hash, copy and default of spans, of their refusals and of commands are,
-//! and what each name stands for.
+//! What equality, order, hash, copy and default of spans, of their refusals, of domains and of
+//! commands are, and what each name stands for.
 //!
 //! Each function does what its name says, and its contract is the promise: so a body of an impl
 //! that breaks it is refused, though no contract of the layer names it.
@@ -7,9 +7,12 @@
 ghost use Rattle.std.specs.Prelude.{◌≡◌, ◌↔◌, ◌-◌, pos, IsTrue, Ok};
 ghost use Rattle.std.specs.Ordering.{nat_cmp, int_cmp};
 ghost use Rattle.std.specs.declared.cmp.Ordering.TheVariants.{Less};
+ghost use Rattle.bitvec.specs.BitDomain.{bit_parts};
+ghost use Rattle.bitvec.specs.BitDomainMut.{lent_bits};
+ghost use Rattle.bitvec.specs.BitParts.{bit_region, no_bits};
 ghost use Rattle.bitvec.specs.BitSpan.{span_of};
 
-use bitvec::domain::{BitDomain, BitDomainMut, Domain, DomainMut};
+use bitvec::domain::{BitDomain, BitDomainMut, BitWords, Domain, DomainMut, PartialElement};
 use bitvec::index::{BitIdx, BitPos};
 use bitvec::mem::BitRegister;
 use bitvec::order::{BitAt, LocalBits, Lsb0, Msb0};
@@ -38,6 +41,52 @@ fn default_span<R: BitRegister, O>() -> BitSpan<R, O>
     ensures { span_of result ≡ record { word = pos 0; head = 0; len = 0 } }
 {
     BitSpan::default()
+}
+
+// A part, a domain and their bits are what they show: a copy is the same one.
+
+fn copied_part<'a, R: BitRegister, O>(
+    part: &PartialElement<'a, R, O>,
+) -> Result<PartialElement<'a, R, O>, AllocError>
+    ensures { result ≡ Ok part.now }
+{
+    part.clone()
+}
+
+fn copied_domain<'a, R: BitRegister, O>(
+    domain: &Domain<'a, R, O>,
+) -> Result<Domain<'a, R, O>, AllocError>
+    ensures { result ≡ Ok domain.now }
+{
+    domain.clone()
+}
+
+fn copied_bits<'a, R: BitRegister, O>(
+    bits: &BitWords<'a, R, O>,
+) -> Result<BitWords<'a, R, O>, AllocError>
+    ensures { result ≡ Ok bits.now }
+{
+    bits.clone()
+}
+
+fn copied_bit_domain<'a, R: BitRegister, O>(
+    domain: &BitDomain<'a, R, O>,
+) -> Result<BitDomain<'a, R, O>, AllocError>
+    ensures { result ≡ Ok domain.now }
+{
+    domain.clone()
+}
+
+fn default_bit_domain<'a, R: BitRegister, O>() -> BitDomain<'a, R, O>
+    ensures { bit_parts R.number result ≡ bit_region no_bits no_bits no_bits }
+{
+    BitDomain::default()
+}
+
+fn default_bit_domain_mut<'a, R: BitRegister, O>() -> BitDomainMut<'a, R, O>
+    ensures { lent_bits R.number result ≡ bit_region no_bits no_bits no_bits }
+{
+    BitDomainMut::default()
 }
 
 // A refused span: `TooLong` comes before `TooHigh`, and the same case goes by its number.
