@@ -1,20 +1,17 @@
 -- Bits of a memory written from a list, stretch by stretch.
-use Rattle.std.proofs.Common.{◌≡◌, ℕ, ◌+◌, ◌-◌, ◌*◌, ◌/◌, ◌%◌, ◌<◌, ◌≤◌, Bool, true, false, ◌&&◌, if◌then◌else◌, nat_le, nat_lt, List, ◌++◌, length, map, refl, sym, ap, ◌∙◌, subst, arith, inl, inr}
-use Rattle.std.specs.Prelude.{nat_abs, pos, slice_index, slice_set}
-use Rattle.std.proofs.lemmas.List.{length-append, length-map, get_or_past, get_or_append_left, get_or-append-add, get_or-set_same, get_or-set_other}
-use Rattle.std.proofs.lemmas.Nat.{mul-le, le-div, div-add-mod'}
+use Rattle.std.proofs.Common.{◌≡◌, ℕ, ◌+◌, ◌-◌, ◌*◌, ◌/◌, ◌%◌, ◌<◌, ◌≤◌, Bool, true, false, ◌&&◌, if◌then◌else◌, nat_le, nat_lt, List, ◌++◌, length, refl, sym, ap, ◌∙◌, arith, inl, inr}
+use Rattle.std.specs.Prelude.{slice_index, slice_set}
+use Rattle.std.proofs.lemmas.List.{length-append, get_or_append_left, get_or-append-add, get_or-set_same, get_or-set_other}
+use Rattle.std.proofs.lemmas.Nat.{mul-le, div-add-mod'}
 use Rattle.std.proofs.lemmas.Bool.{cases_eq, cases_lt, le-leb, lt-leb, lt-ltb, le-ltb}
 use Rattle.std.proofs.Math.Nat.{lt_of_mul-lt-mul_right}
 use Rattle.bitvec_mem.specs.Digit.{digit}
 use Rattle.bitvec_ptr.specs.Memory.{bit_of, memory_bits}
-use Rattle.bitvec_ptr.specs.Place.{words_met}
-use Rattle.bitvec_ptr.proofs.MemoryLemmas.{place_parts, tabulate-from_elements}
+use Rattle.bitvec_ptr.proofs.MemoryLemmas.{place_parts}
 use Rattle.bitvec_ptr.proofs.BitLemmas.{length-memory_bits, get_or-memory_bits}
 use Rattle.bitvec_domain.specs.Span.{element}
 use Rattle.bitvec_domain.specs.Stretch.{Stretch}
 use Rattle.bitvec_domain.specs.Written.{IsWritten}
-use Rattle.bitvec_domain.proofs.CoverLemmas.{covers-own}
-use Rattle.bitvec_domain.proofs.WordsLemmas.{met_within}
 
 not_first : (a b : Bool) → a ≡ false → (a && b) ≡ false
 not_first true b e = absurd cc

@@ -1,6 +1,6 @@
 -- What a `PartialElement` and a `Domain` show, over the numbers of their words.
 use Rattle.std.specs.Prelude.{ℕ, Option, Some, None, map, slice_index}
-use Rattle.bitvec_domain.specs.declared.domain.PartialElement.{PartialElement}
+use Rattle.bitvec_domain.specs.declared.domain.partial_element.PartialElement.{PartialElement}
 use Rattle.bitvec_domain.specs.declared.domain.Domain.{Domain}
 pub use Rattle.bitvec_domain.specs.declared.domain.Domain.TheVariants.{Enclave, Region}
 use Rattle.bitvec_domain.specs.Parts.{Part, Parts, enclave, region}

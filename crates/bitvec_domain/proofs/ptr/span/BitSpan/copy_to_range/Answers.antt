@@ -1,4 +1,4 @@
-use Rattle.std.proofs.Common.{map, length, ap, sym, subst, ◌∙◌}
+use Rattle.std.proofs.Common.{map, length, ap, sym, ◌∙◌}
 use Rattle.bitvec_ptr.specs.BitPtr.{ptr_of}
 use Rattle.bitvec_ptr.specs.Place.{index_of}
 use Rattle.bitvec_ptr.proofs.PlaceOrder.{bit_below}

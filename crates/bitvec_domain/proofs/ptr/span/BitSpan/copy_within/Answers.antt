@@ -1,4 +1,4 @@
-use Rattle.std.proofs.Common.{map, length, arith}
+use Rattle.std.proofs.Common.{map, length}
 use Rattle.bitvec_domain.specs.BitSpan.{span_of}
 use Rattle.bitvec_domain.proofs.BecomesLemmas.{fits-numbers, moved-becomes, range-len}
 use Rattle.bitvec_domain.proofs.ptr.span.BitSpan.copy_within.Goals as goal

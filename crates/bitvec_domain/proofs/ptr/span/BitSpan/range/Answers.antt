@@ -1,6 +1,6 @@
-use Rattle.std.proofs.Common.{◌≡◌, ◌<◌, ap, ◌∙◌, subst, sym, arith}
+use Rattle.std.proofs.Common.{◌<◌, ap, ◌∙◌, subst, sym, arith}
 use Rattle.bitvec_ptr.proofs.PlaceOrder.{bit_below}
-use Rattle.bitvec_domain.specs.Span.{Span, Fits, AreDisjoint, BecomesList, list_of, span_from, span_range}
+use Rattle.bitvec_domain.specs.Span.{Span, Fits, AreDisjoint, BecomesList, list_of, span_from}
 use Rattle.bitvec_domain.specs.BitSpan.{span_of}
 use Rattle.bitvec_domain.proofs.BecomesLemmas.{range-list, range-fits, range-apart, range-becomes}
 use Rattle.bitvec_domain.proofs.ptr.span.BitSpan.range.Goals as goal

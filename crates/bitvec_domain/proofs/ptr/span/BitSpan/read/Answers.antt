@@ -1,6 +1,5 @@
-use Rattle.std.proofs.Common.{◌<◌, map, length, sym, ◌∙◌, ap, get_or, false, arith}
+use Rattle.std.proofs.Common.{map, length}
 use Rattle.bitvec_ptr.specs.BitPtr.{ptr_of}
-use Rattle.bitvec_ptr.proofs.CopyLemmas.{bit_is}
 use Rattle.bitvec_ptr.proofs.PlaceOrder.{bit_below}
 use Rattle.bitvec_domain.specs.BitSpan.{span_of}
 use Rattle.bitvec_domain.proofs.BecomesLemmas.{fits-numbers, element-read}

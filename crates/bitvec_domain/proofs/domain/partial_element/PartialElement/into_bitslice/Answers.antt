@@ -1,6 +1,6 @@
 use Rattle.std.proofs.Common.{arith}
 use Rattle.bitvec_domain.proofs.WordsLemmas.{one_met}
-use Rattle.bitvec_domain.proofs.domain.PartialElement.into_bitslice.Goals as goal
+use Rattle.bitvec_domain.proofs.domain.partial_element.PartialElement.into_bitslice.Goals as goal
 
 pub invariant_of-result-clause-short : goal.invariant_of-result-clause-short
 invariant_of-result-clause-short g c = omega (arith, c.args.self.tail_in, g.met.R.BitRegister.width_at_most_128)

@@ -1,5 +1,5 @@
 use Rattle.std.proofs.Common.{Some, arith}
-use Rattle.bitvec_domain.proofs.domain.PartialElement.mask.Goals as goal
+use Rattle.bitvec_domain.proofs.domain.partial_element.PartialElement.mask.Goals as goal
 
 pub mask-requires : goal.mask-requires
 mask-requires g c = omega (arith, c.args.self.now.ordered)

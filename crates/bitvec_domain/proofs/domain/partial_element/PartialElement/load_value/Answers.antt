@@ -3,7 +3,7 @@ use Rattle.std.proofs.lemmas.List.{get_or-map}
 use Rattle.bitvec_mem.specs.Digit.{digit}
 use Rattle.bitvec_domain.specs.Domain.{element_part}
 use Rattle.bitvec_domain.proofs.PartLemmas.{value_of-from_mask}
-use Rattle.bitvec_domain.proofs.domain.PartialElement.load_value.Goals as goal
+use Rattle.bitvec_domain.proofs.domain.partial_element.PartialElement.load_value.Goals as goal
 
 pub returns : goal.returns
 returns g c =
