@@ -5,7 +5,7 @@ use Rattle.bitvec_domain.specs.Span.{Fits}
 use Rattle.bitvec_domain.specs.BitSpan.{span_of}
 use Rattle.bitvec.specs.declared.run.command.Command.TheVariants.{Store}
 use Rattle.bitvec.proofs.CommandLemmas.{step-kept, step-store, word_past}
-use Rattle.bitvec.proofs.run.step.store.Goals as goal
+use Rattle.bitvec.proofs.run.steps.store.Goals as goal
 
 pub returns-in-Some : goal.returns-in-Some
 returns-in-Some g c =
