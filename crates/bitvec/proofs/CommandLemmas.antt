@@ -1,5 +1,6 @@
 -- One command through a span, from what an edit of the span or of one part of it does.
-use Rattle.std.proofs.Common.{◌≡◌, ℕ, ◌+◌, ◌-◌, ◌%◌, ◌<◌, ◌≤◌, Bool, true, false, not, ◌&&◌, nat_le, nat_lt, List, ◌++◌, length, take, drop, replicate, arith, sym, ◌∙◌, ap, refl, subst, inl, inr}
+use Rattle.std.proofs.Common.{◌≡◌, ℕ, ◌+◌, ◌-◌, ◌%◌, ◌<◌, ◌≤◌, Bool, true, false, not, ◌&&◌, nat_le, nat_lt, List, ◌++◌, length, take, drop}
+use Rattle.std.proofs.Common.{replicate, arith, sym, ◌∙◌, ap, refl, subst, inl, inr}
 use Rattle.std.specs.Prelude.{nat_abs, slice_index, slice_set, swap}
 use Rattle.std.proofs.lemmas.Bool.{le-leb, lt-leb, lt-ltb, le-ltb, cond-true, cond-false, cases_lt}
 use Rattle.bitvec_mem.specs.Digit.{digit}
@@ -19,7 +20,8 @@ use Rattle.bitvec.specs.Run.{IsStep}
 use Rattle.bitvec.proofs.WordLemmas.{becomes-edited, word_of-answered}
 
 -- with no edit the span keeps its list
-becomes-own : (bits : ℕ) (at : ℕ → ℕ) (span : Span) (memory : List ℕ) → BecomesList bits at span memory memory (list_of bits at span memory)
+becomes-own : (bits : ℕ) (at : ℕ → ℕ) (span : Span) (memory : List ℕ)
+    → BecomesList bits at span memory memory (list_of bits at span memory)
 becomes-own bits at span memory = becomes bits at span memory memory _ refl (λ place out. refl) refl
 
 -- a command past the end
@@ -33,7 +35,8 @@ step-past bits at span memory command past = record {
 -- the same, where the memory is shown to be as before
 pub step-kept : (bits : ℕ) (at : ℕ → ℕ) (span : Span) (old new : List ℕ) (command : Command ℕ)
     → is_past_end bits span.head command (list_of bits at span old) ≡ true → new ≡ old → IsStep bits at span old command PastEnd new
-step-kept bits at span old new command past kept = subst (λ m. IsStep bits at span old command PastEnd m) (sym kept) (step-past bits at span old command past)
+step-kept bits at span old new command past kept =
+    subst (λ m. IsStep bits at span old command PastEnd m) (sym kept) (step-past bits at span old command past)
 
 -- a command that is not
 pub step-within : (bits : ℕ) (at : ℕ → ℕ) (span : Span) (old new : List ℕ) (command : Command ℕ) (reply : Reply ℕ)
@@ -58,7 +61,8 @@ word_within bits at span memory k h = rw (length-list_of bits at span memory) (l
 pub bit_past : (bits : ℕ) (at : ℕ → ℕ) (span : Span) (memory : List ℕ) (i : ℕ) → span.len ≤ i → nat_le (length (list_of bits at span memory)) i ≡ true
 bit_past bits at span memory i h = rw (length-list_of bits at span memory) (le-leb span.len i h)
 
-pub bit_within : (bits : ℕ) (at : ℕ → ℕ) (span : Span) (memory : List ℕ) (i : ℕ) → i < span.len → nat_le (length (list_of bits at span memory)) i ≡ false
+pub bit_within : (bits : ℕ) (at : ℕ → ℕ) (span : Span) (memory : List ℕ) (i : ℕ) → i < span.len
+    → nat_le (length (list_of bits at span memory)) i ≡ false
 bit_within bits at span memory i h = rw (length-list_of bits at span memory) (lt-leb span.len i h)
 
 -- when a swap, a copy or a fill is past the end
@@ -105,28 +109,36 @@ step-read bits at span memory i got h is =
 
 -- edits of the span's bits
 module _ (bits : ℕ) (at : ℕ → ℕ) (span : Span) (old new : List ℕ) where
-  pub step-replace : (i : ℕ) (bit got : Bool) → i < span.len → got ≡ element (list_of bits at span old) i → BecomesList bits at span old new (slice_set (list_of bits at span old) i bit)
-      → IsStep bits at span old (Replace i bit) (Bit got) new
-  step-replace i bit got h is edit = step-within bits at span old new (Replace i bit) (Bit got) (bit_within bits at span old i h) (ap Bit is) edit
+  pub step-replace : (i : ℕ) (bit got : Bool) → i < span.len → got ≡ element (list_of bits at span old) i
+      → BecomesList bits at span old new (slice_set (list_of bits at span old) i bit) → IsStep bits at span old (Replace i bit) (Bit got) new
+  step-replace i bit got h is edit =
+      step-within bits at span old new (Replace i bit) (Bit got) (bit_within bits at span old i h) (ap Bit is) edit
 
-  pub step-swap : (i j : ℕ) → i < span.len → j < span.len → BecomesList bits at span old new (swap (list_of bits at span old) i j) → IsStep bits at span old (Swap i j) Done new
+  pub step-swap : (i j : ℕ) → i < span.len → j < span.len → BecomesList bits at span old new (swap (list_of bits at span old) i j)
+      → IsStep bits at span old (Swap i j) Done new
   step-swap i j h k edit =
-      step-within bits at span old new (Swap i j) Done (rw (length-list_of bits at span old, lt-ltb i span.len h, lt-ltb j span.len k) refl) refl edit
+      step-within bits at span old new (Swap i j) Done
+      (rw (length-list_of bits at span old, lt-ltb i span.len h, lt-ltb j span.len k) refl) refl edit
 
   pub step-copy : (from to count : ℕ) → from + count ≤ span.len → to + count ≤ span.len
-      → BecomesList bits at span old new (list_with_copy (list_of bits at span old) from (list_of bits at span old) to count) → IsStep bits at span old (Copy from to count) Done new
+      → BecomesList bits at span old new (list_with_copy (list_of bits at span old) from (list_of bits at span old) to count)
+      → IsStep bits at span old (Copy from to count) Done new
   step-copy from to count h k edit =
-      step-within bits at span old new (Copy from to count) Done (rw (length-list_of bits at span old, le-leb (from + count) span.len h, le-leb (to + count) span.len k) refl) refl edit
+      step-within bits at span old new (Copy from to count) Done
+      (rw (length-list_of bits at span old, le-leb (from + count) span.len h, le-leb (to + count) span.len k) refl) refl edit
 
   pub step-fill : (from to : ℕ) (value : Bool) → from ≤ to → to ≤ span.len
-      → BecomesList bits at span old new (take from (list_of bits at span old) ++ replicate (to - from) value ++ drop to (list_of bits at span old)) → IsStep bits at span old (Fill from to value) Done new
+      → BecomesList bits at span old new (take from (list_of bits at span old) ++ replicate (to - from) value ++ drop to (list_of bits at span old))
+      → IsStep bits at span old (Fill from to value) Done new
   step-fill from to value rises within edit =
-      step-within bits at span old new (Fill from to value) Done (rw (length-list_of bits at span old, le-leb from to rises, le-leb to span.len within) refl) refl edit
+      step-within bits at span old new (Fill from to value) Done
+      (rw (length-list_of bits at span old, le-leb from to rises, le-leb to span.len within) refl) refl edit
 
 -- edits of the span's bits in one word
 module _ (bits : ℕ) (at : ℕ → ℕ) (span : Span) (k : ℕ) (old new : List ℕ) (got : ℕ)
     (law : IsOneToOne bits at) (in_head : span.head < bits) (fits : Fits bits span (length old)) (met : k < words_met bits span.head span.len) where
-  pub step-store : (value : ℕ) → EditsPart bits at (slot_of bits span k) (λ i. digit value (at i)) old new got → IsStep bits at span old (Store k value) (Word got) new
+  pub step-store : (value : ℕ) → EditsPart bits at (slot_of bits span k) (λ i. digit value (at i)) old new got
+      → IsStep bits at span old (Store k value) (Word got) new
   step-store value edits =
       let after : ℕ → Bool = λ i. digit value (at i) in
       step-within bits at span old new (Store k value) (Word got) (word_within bits at span old k met)
@@ -148,7 +160,8 @@ module _ (bits : ℕ) (at : ℕ → ℕ) (span : Span) (k : ℕ) (old new : List
       (becomes-edited bits at span k after old new got law in_head fits met edits (λ j. false) (λ j h e. refl))
 
   -- turning over needs the old digit at the place of bit j
-  pub step-invert : EditsPart bits at (slot_of bits span k) (λ i. not (digit (slice_index old (nat_abs span.word + k)) (at i))) old new got → IsStep bits at span old (Invert k) (Word got) new
+  pub step-invert : EditsPart bits at (slot_of bits span k) (λ i. not (digit (slice_index old (nat_abs span.word + k)) (at i))) old new got
+      → IsStep bits at span old (Invert k) (Word got) new
   step-invert edits =
       let some : 0 < bits = omega arith in
       let after : ℕ → Bool = λ i. not (digit (slice_index old (nat_abs span.word + k)) (at i)) in

@@ -47,7 +47,8 @@ IsBeside {S} bits view spans other = (s : ℕ) (span : S) → slice_get spans s 
 pub record IsPlaced {S : Type 0} (bits : ℕ) (at : ℕ → ℕ) (view : S → Span) (spans : List S) (list_for : ℕ → S → List Bool) (old new : List ℕ) : Type 0 where
   pub lists : (s : ℕ) (span : S) → slice_get spans s ≡ Some span → list_of bits at (view span) new ≡ list_for s span
   pub others : (place : ℕ) → IsOutside bits view spans place → bit_of bits at new place ≡ bit_of bits at old place
-  pub apart : (word : ℤ) (head len : ℕ) → pos 0 ≤ℤ word → IsBeside bits view spans (record { word = word; head = head; len = len })
+  pub apart : (word : ℤ) (head len : ℕ) → pos 0 ≤ℤ word
+      → IsBeside bits view spans (record { word = word; head = head; len = len })
       → list_of bits at (record { word = word; head = head; len = len }) new ≡ list_of bits at (record { word = word; head = head; len = len }) old
   pub as_many_words : length new ≡ length old
 

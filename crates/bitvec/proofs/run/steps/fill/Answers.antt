@@ -20,7 +20,8 @@ returns-then-can_fill g c =
     let xs = list_of width at span old in
     let many : c.range.result.len ≡ c.args.to - c.args.from = ap (λ (s : Span). s.len) c.range.ensures.span in
     step-fill width at span old new c.args.from c.args.to c.args.value within.0 (omega (arith, c.len.ensures, within.1))
-    (becomes-same width at span old new _ _ (ap (λ n. take c.args.from xs ++ replicate n c.args.value ++ drop c.args.to xs) many) (c.range.ensures.edits at old new _ fits c.fill.ensures))
+    (becomes-same width at span old new _ _ (ap (λ n. take c.args.from xs ++ replicate n c.args.value ++ drop c.args.to xs) many)
+    (c.range.ensures.edits at old new _ fits c.fill.ensures))
 
 pub returns-else-can_fill : goal.returns-else-can_fill
 returns-else-can_fill g c =
@@ -31,4 +32,5 @@ returns-else-can_fill g c =
     let never : c.args.from ≤ c.args.to → c.args.to ≤ c.args.span.len → ⊥ = λ p q.
     let yes = c.if-can_fill.ensures.1 (p, omega (arith, c.len.ensures, q)) in
     search rules in
-    step-past width at span words (Fill c.args.from c.args.to c.args.value) (rw (length-list_of width at span words) (fill_past c.args.from c.args.to c.args.span.len never))
+    step-past width at span words (Fill c.args.from c.args.to c.args.value)
+    (rw (length-list_of width at span words) (fill_past c.args.from c.args.to c.args.span.len never))

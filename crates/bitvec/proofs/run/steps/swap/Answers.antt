@@ -9,8 +9,8 @@ use Rattle.bitvec.proofs.run.steps.swap.Goals.{else-index-len-via-then-index-len
 pub returns-then-with-len : goal.returns-then-with-len
 returns-then-with-len g c =
     let number = g.R.BitRegister.number in
-    step-swap g.R.BitRegister.BITS g.O.BitAt.at_of (span_of c.args.span) (map number c.args.memory.now) (map number c.swap.new.memory) c.args.index c.args.with
-    (omega (arith, c.len-len.ensures)) (omega (arith, c.len-len.ensures)) c.swap.ensures
+    step-swap g.R.BitRegister.BITS g.O.BitAt.at_of (span_of c.args.span) (map number c.args.memory.now) (map number c.swap.new.memory)
+    c.args.index c.args.with (omega (arith, c.len-len.ensures)) (omega (arith, c.len-len.ensures)) c.swap.ensures
 
 pub returns-else-index-len : goal.returns-else-index-len
 returns-else-index-len g c =
@@ -22,4 +22,5 @@ returns-else-index-len g c =
       | else-index-len-via-then-index-len+else-with-len w ↦ (λ p q. omega (arith, c.len-len.ensures))
       | else-index-len-via-else-index-len w ↦ (λ p q. omega (arith, c.len-len.ensures))
     ] in
-    step-past width at span words (Swap c.args.index c.args.with) (rw (length-list_of width at span words) (swap_past c.args.index c.args.with c.args.span.len never))
+    step-past width at span words (Swap c.args.index c.args.with)
+    (rw (length-list_of width at span words) (swap_past c.args.index c.args.with c.args.span.len never))
