@@ -45,7 +45,7 @@ pub run-none : {S : Type 0} (bits : ℕ) (at : ℕ → ℕ) (view : S → Span) 
 run-none bits at view spans words = record {
   own = λ s span is. refl;
   no_span = tt;
-  placed = record { lists = λ s span is. refl; others = λ place out. refl; as_many_words = refl };
+  placed = record { lists = λ s span is. refl; others = λ place out. refl; apart = λ word head len from beside. refl; as_many_words = refl };
 }
 
 -- one run and another make a longer one
@@ -58,6 +58,7 @@ run-more bits at view spans old mid new qs ps rs ts h k = record {
   placed = record {
     lists = λ s span is. let l = h.placed.lists s span is in let m = k.placed.lists s span is in let f = own_commands-append s qs ps in rw (f, list_after_all-append, m, l) refl;
     others = λ place out. k.placed.others place out ∙ h.placed.others place out;
+    apart = λ word head len from beside. k.placed.apart word head len from beside ∙ h.placed.apart word head len from beside;
     as_many_words = k.placed.as_many_words ∙ h.placed.as_many_words;
   };
 }

@@ -62,6 +62,7 @@ run_of_views {S} bits at view spans old new requests replies run = record {
     lists = λ s span is. let found = from_view view spans s span is in
         subst (λ (p : Span). list_of bits at p new ≡ alone_list bits at p old (own_commands s requests)) found.2 (run.placed.lists s found.0 found.1);
     others = λ place out. run.placed.others place (λ s x is. out s (view x) (at_view view spans s x is));
+    apart = λ word head len from beside. run.placed.apart word head len from (λ s x is. beside s (view x) (at_view view spans s x is));
     as_many_words = run.placed.as_many_words;
   };
 }

@@ -1,14 +1,10 @@
 pub mod AppendedRuns
 pub mod BitCommandLemmas
 pub mod CommandLemmas
-pub mod FillLemmas
 pub mod LaterLemmas
 pub mod LawLemmas
-pub mod MoveLemmas
 pub mod RequestLemmas
 pub mod RisingLemmas
-pub mod SpanBitLemmas
-pub mod SpanLemmas
 pub mod TurnLemmas
 pub mod WordLemmas
 pub use Rattle.bitvec_mem.proofs.DigitLemmas
@@ -17,6 +13,7 @@ pub use Rattle.bitvec_order.proofs.IndexLemmas
 pub use Rattle.bitvec_ptr.proofs.CopyLemmas
 pub use Rattle.bitvec_ptr.proofs.MemoryLemmas
 pub use Rattle.bitvec_ptr.proofs.PlaceLemmas
+pub use Rattle.bitvec_domain.proofs.BecomesLemmas
 pub use Rattle.bitvec_domain.proofs.CoverLemmas
 pub use Rattle.bitvec_domain.proofs.PartLemmas
 pub use Rattle.bitvec_domain.proofs.SplitLemmas

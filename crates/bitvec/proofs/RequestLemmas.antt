@@ -11,7 +11,6 @@ use Rattle.bitvec.specs.declared.run.command.Reply.{Reply}
 use Rattle.bitvec.specs.declared.run.command.Reply.TheVariants.{PastEnd, NoSpan}
 use Rattle.bitvec.specs.Commands.{is_past_end, answer_of, reply_to}
 use Rattle.bitvec.specs.Run.{CanRun, IsRun, IsStep}
-use Rattle.bitvec.proofs.SpanLemmas.{list_of-other}
 
 -- each span fits
 pub fits_at : {S : Type 0} (bits : ℕ) (view : S → Span) (spans : List S) (words s : ℕ) (span : S) → CanRun bits view spans words → slice_get spans s ≡ Some span → Fits bits (view span) words
@@ -59,8 +58,8 @@ run-one {S} bits at view spans named old new request reply can named_is step =
     let same : (span : S) → (s : ℕ) → slice_get spans s ≡ Some span → request.span ≡ s → named ≡ span =
     λ span s is e. same_Some named span (sym named_is ∙ (ap (slice_get spans) e ∙ is)) in
     let kept : (span : S) → (s : ℕ) → slice_get spans s ≡ Some span → request.span ≢ s → list_of bits at (view span) new ≡ list_of bits at (view span) old =
-    λ span s is differ. list_of-other bits at (view span) (view named) (length old) old new (fits_at bits view spans (length old) s span can is)
-    (apart_at bits view spans (length old) s request.span span named can is named_is (λ e. differ (sym e))) step.others in
+    λ span s is differ. step.becomes.apart (view span).word (view span).head (view span).len (fits_at bits view spans (length old) s span can is).0
+    (apart_at bits view spans (length old) request.span s named span can named_is is differ) in
     record {
       own = λ s span is. elim (cases_eq request.span s) [
         | inl e ↦ let t = eq-eqb request.span s e in let n = same span s is e in let a = step.answered in rw (t, ← n) (ap (λ x. x ∷ []) a)
@@ -75,11 +74,12 @@ run-one {S} bits at view spans named old new request reply can named_is step =
       );
       placed = record {
         lists = λ s span is. elim (cases_eq request.span s) [
-          | inl e ↦ let t = eq-eqb request.span s e in let n = same span s is e in rw (t, ← n) step.edited
+          | inl e ↦ let t = eq-eqb request.span s e in let n = same span s is e in rw (t, ← n) step.becomes.list
           | inr differ ↦ let t = ne_eqb request.span s differ in rw t (kept span s is differ)
         ];
-        others = λ place out. step.others place (out request.span named named_is);
-        as_many_words = step.as_many_words;
+        others = λ place out. step.becomes.others place (out request.span named named_is);
+        apart = λ word head len from beside. step.becomes.apart word head len from (beside request.span named named_is);
+        as_many_words = step.becomes.words;
       };
     }
 
@@ -92,6 +92,7 @@ run-no_span bits at view spans memory request past = record {
   placed = record {
     lists = λ s span is. let t = ne_eqb request.span s (λ e. omega (arith, slice_get_within spans s span is)) in rw t refl;
     others = λ place out. refl;
+    apart = λ word head len from beside. refl;
     as_many_words = refl;
   };
 }

@@ -1,4 +1,4 @@
--- An edit of the part that a span has in a word, as an edit of the span's list.
+-- An edit of the part that a span has in a word, as an edit of the span.
 use Rattle.std.proofs.Common.{◌≡◌, ◌≢◌, ℕ, ◌+◌, ◌-◌, ◌*◌, ◌/◌, ◌%◌, ◌<◌, ◌≤◌, Bool, true, false, ◌&&◌, nat_le, nat_lt, if◌then◌else◌, List, length, arith, sym, ◌∙◌, ap, refl, subst, inl, inr}
 use Rattle.std.specs.Prelude.{slice_index, pos, nat_abs}
 use Rattle.std.proofs.lemmas.Nat.{div-add-mod', mod_below}
@@ -8,15 +8,15 @@ use Rattle.std.proofs.lemmas.List.{get_or-set_same, get_or-set_other}
 use Rattle.bitvec_mem.specs.Digit.{digit}
 use Rattle.bitvec_order.specs.Order.{IsOneToOne}
 use Rattle.bitvec_order.proofs.IndexLemmas.{digit-number_of_at}
-use Rattle.bitvec_ptr.specs.Memory.{bit_of}
 use Rattle.bitvec_ptr.specs.Place.{words_met}
 use Rattle.bitvec_ptr.proofs.MemoryLemmas.{tabulate_same}
-use Rattle.bitvec_domain.specs.Span.{Span, Covers, Fits, list_of, word_of}
+use Rattle.bitvec_domain.specs.Span.{Span, Covers, Fits, KeepsOthers, BecomesList, list_of, word_of}
 use Rattle.bitvec_domain.specs.Parts.{part_head, part_tail, part_of}
 use Rattle.bitvec_domain.specs.Slot.{slot_of, edited_word, EditsPart}
 use Rattle.bitvec_domain.proofs.PartLemmas.{inside-from_part, part-from_inside, bit_of-span, element-list_of, length-list_of, value_of-part_of}
-use Rattle.bitvec.specs.Commands.{with_word}
+use Rattle.bitvec_domain.proofs.BecomesLemmas.{becomes}
 use Rattle.bitvec_domain.proofs.CoverLemmas.{covers-own}
+use Rattle.bitvec.specs.Commands.{with_word}
 
 both : (a b : Bool) → a ≡ true → b ≡ true → (a && b) ≡ true
 both true true e f = refl
@@ -65,7 +65,7 @@ module _ (bits : ℕ) (at : ℕ → ℕ) (span : Span) (k : ℕ) (after : ℕ �
       ∙ ap (λ b. if b then after i else digit (slice_index old (nat_abs span.word + k)) (at i)) out
 
   -- the list after the edit
-  pub list_of-edited : (f : ℕ → Bool) → ((j : ℕ) → j < span.len → (span.head + j) / bits ≡ k → after ((span.head + j) % bits) ≡ f j)
+  list_of-edited : (f : ℕ → Bool) → ((j : ℕ) → j < span.len → (span.head + j) / bits ≡ k → after ((span.head + j) % bits) ≡ f j)
       → list_of bits at span new ≡ with_word bits span.head (list_of bits at span old) k f
   list_of-edited f says =
       rw (length-list_of bits at span old) (tabulate_same span.len _ _ false (λ j h.
@@ -84,7 +84,7 @@ module _ (bits : ℕ) (at : ℕ → ℕ) (span : Span) (k : ℕ) (after : ℕ �
       ]))
 
   -- every place outside
-  pub others-edited : (place : ℕ) → ¬ Covers bits span (pos place) → bit_of bits at new place ≡ bit_of bits at old place
+  others-edited : KeepsOthers bits at span old new
   others-edited place outside =
       let small = mod_below place bits some_bits in
       elim (cases_eq (place / bits) (nat_abs span.word + k)) [
@@ -105,8 +105,13 @@ module _ (bits : ℕ) (at : ℕ → ℕ) (span : Span) (k : ℕ) (after : ℕ �
         | inr differ ↦ ap (λ w. digit w (at (place % bits))) (word_other (place / bits) differ)
       ]
 
-  pub words-edited : length new ≡ length old
+  words-edited : length new ≡ length old
   words-edited = ap length edits.words ∙ length-set old (nat_abs span.word + k) edited
+
+  -- the span's list becomes the one with other bits in its word k, where `f` says them by their places in the list
+  pub becomes-edited : (f : ℕ → Bool) → ((j : ℕ) → j < span.len → (span.head + j) / bits ≡ k → after ((span.head + j) % bits) ≡ f j)
+      → BecomesList bits at span old new (with_word bits span.head (list_of bits at span old) k f)
+  becomes-edited f says = becomes bits at span old new _ (list_of-edited f says) others-edited words-edited
 
   -- the answer is the word of the list
   pub word_of-answered : answer ≡ word_of bits at span.head (list_of bits at span old) k

@@ -14,14 +14,13 @@ ghost use Rattle.bitvec.specs.Run.{CanRun, IsRun};
 use crate::mem::BitRegister;
 use crate::order::BitOrder;
 use crate::ptr::span::BitSpan;
-use crate::run::step::step;
 
-mod bit;
 mod command;
-mod step;
+mod steps;
 mod word;
 
 pub use self::command::{Command, Reply, Request};
+pub use self::steps::step;
 
 // Whether a span has no bit in common with any of the others.
 fn is_apart<R: BitRegister, O>(span: BitSpan<R, O>, others: &[BitSpan<R, O>]) -> bool

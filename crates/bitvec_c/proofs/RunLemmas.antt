@@ -1,13 +1,12 @@
--- Runs of one request through one span, and of requests by plain numbers.
-use Rattle.std.proofs.Common.{◌≡◌, ℕ, ◌+◌, ◌<◌, ◌≤◌, List, [], ◌∷◌, length, get_or, take, take_all, refl, sym, ap, subst, ◌∙◌, arith}
+-- Steps through spans and runs of requests, by plain numbers.
+use Rattle.std.proofs.Common.{◌≡◌, ℕ, ◌+◌, ◌<◌, ◌≤◌, List, [], ◌∷◌, length, get_or, take, take_all, sym, subst, arith}
 use Rattle.std.proofs.lemmas.Int.{ints}
-use Rattle.std.specs.Prelude.{pos, slice_set}
+use Rattle.std.specs.Prelude.{slice_set}
 use Rattle.std.proofs.lemmas.List.{take_more, take_more_set, map_push}
 use Rattle.std.proofs.lemmas.List.Elements.{All-append}
-use Rattle.std.proofs.lemmas.Option.{get_or_from_slice_get, slice_get_within}
 use Rattle.bitvec.proofs.AppendedRuns.{run-more}
 use Rattle.bitvec.specs.Run.{CanRun, IsStep, IsRun}
-use Rattle.bitvec.specs.Span.{Span, Fits, Covers}
+use Rattle.bitvec.specs.Span.{Span}
 use Rattle.bitvec.specs.declared.run.command.Command.{Command}
 use Rattle.bitvec.specs.declared.run.command.Reply.{Reply}
 use Rattle.bitvec_c.specs.Plain.{plain_span, AllInside, AllApart, plain_request, reply_of, IsPlainReply, IsPlainRun}
@@ -16,44 +15,12 @@ use Rattle.bitvec_c.specs.declared.plain.PlainRequest.{PlainRequest}
 use Rattle.bitvec_c.specs.declared.plain.PlainReply.{PlainReply}
 use Rattle.bitvec_c.proofs.RangeLemmas.{range_within}
 
--- one span can run where it lies in the memory
-pub can_run_one : {S : Type 0} (bits : ℕ) (view : S → Span) (span : S) (words : ℕ) → Fits bits (view span) words → CanRun bits view (span ∷ []) words
-can_run_one bits view span words fits = (
-  (λ k d h. let first : k ≡ 0 = omega arith in rw first fits),
-  (λ i j d before below. absurd (omega arith)),
-)
-
 -- ranges that end within a memory and have no bit in common can run
 pub can_run_plain : (bits : ℕ) (spans : List PlainSpan) (words : ℕ) → 0 < bits → AllInside bits words spans → AllApart bits spans → CanRun bits (plain_span bits) spans words
 can_run_plain bits spans words some inside apart = (
   (λ k d h. let span = get_or spans k d in (omega (arith, ints), range_within bits words span.start span.count some (inside k d h))),
   apart,
 )
-
--- a run of one request through one span is the step of its command
-pub step_of_run : {S : Type 0} (bits : ℕ) (at : ℕ → ℕ) (view : S → Span) (span : S) (old new : List ℕ) (command : Command ℕ) (reply : Reply ℕ)
-    → IsRun bits at view (span ∷ []) old (record { span = 0; command = command } ∷ []) (reply ∷ []) new → IsStep bits at (view span) old command reply new
-step_of_run bits at view span old new command reply is = record {
-  answered = let own = is.own 0 span refl in cc;
-  edited = is.placed.lists 0 span refl;
-  others = λ place outside. is.placed.others place (λ s other found here.
-      let below = slice_get_within (span ∷ []) s other found in
-      let first : s ≡ 0 = omega arith in
-      let same : span ≡ other = ap (λ n. get_or (span ∷ []) n span) (sym first) ∙ get_or_from_slice_get (span ∷ []) s other span found in
-      outside (subst (λ x. Covers bits (view x) (pos place)) (sym same) here));
-  as_many_words = is.placed.as_many_words;
-}
-
--- a list of one element that is set
-pub one_set : {X : Type 0} (xs : List X) (x : X) → length xs ≡ 1 → slice_set xs 0 x ≡ x ∷ []
-one_set [] x h = absurd (omega arith)
-one_set (y ∷ []) x h = refl
-one_set (y ∷ (z ∷ zs)) x h = absurd (omega arith)
-
-pub one_read : {X : Type 0} (xs : List X) (x : X) → length xs ≡ 1 → x ≡ get_or xs 0 x → xs ≡ x ∷ []
-one_read [] x h e = absurd (omega arith)
-one_read (y ∷ []) x h e = ap (λ z. z ∷ []) (sym e)
-one_read (y ∷ (z ∷ zs)) x h e = absurd (omega arith)
 
 -- a step by other names of the span, the command and the reply
 pub step_as : (bits : ℕ) (at : ℕ → ℕ) (s t : Span) (old new : List ℕ) (c d : Command ℕ) (r q : Reply ℕ) → s ≡ t → c ≡ d → q ≡ r → IsStep bits at s old c r new → IsStep bits at t old d q new

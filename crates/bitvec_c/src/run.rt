@@ -1,10 +1,7 @@
 //! Runs of commands through disjoint spans of one memory.
 
 ghost use Rattle.std.specs.Prelude.{◌≡◌, ◌≢◌, ℕ, ◌+◌, ◌*◌, ◌≤◌, ◌↔◌, IsTrue, [], ◌∷◌, length, map};
-ghost use Rattle.bitvec.specs.BitSpan.{span_of};
-ghost use Rattle.bitvec.specs.Commands.{command_number, reply_number};
-ghost use Rattle.bitvec.specs.Run.{CanRun, IsStep};
-ghost use Rattle.bitvec.specs.Span.{Fits};
+ghost use Rattle.bitvec.specs.Run.{CanRun};
 ghost use Rattle.bitvec_c.specs.Order.{order_at};
 ghost use Rattle.bitvec_c.specs.Plain.{plain_span, AllShort, AllInside, AreCommands};
 ghost use Rattle.bitvec_c.specs.Plain.{IsPlainRun};
@@ -22,8 +19,7 @@ use crate::status::{
 };
 use bitvec::mem::BitRegister;
 use bitvec::order::{BitOrder, Lsb0, Msb0};
-use bitvec::ptr::span::BitSpan;
-use bitvec::run::{Command, Reply, Request, run};
+use bitvec::run::{Reply, step};
 
 // Whether each range ends within so many words.
 fn are_inside<R: BitRegister>(spans: &[PlainSpan], words: usize) -> bool
@@ -85,36 +81,12 @@ fn test_run<R: BitRegister>(
     OK
 }
 
-// Gives a command to a span, by a run of one request. The room for the request and for its reply is
-// the caller's, who knows how large a word is.
-fn step<R: BitRegister, O: BitOrder<R>>(
-    span: BitSpan<R, O>,
-    memory: &mut [R],
-    command: Command<R>,
-    request: &mut [Request<R>],
-    reply: &mut [Reply<R>],
-) -> Reply<R>
-    requires fits { Fits R.BITS (span_of span) (length memory.old) }
-    requires request { length request.old ≡ 1 }
-    requires reply { length reply.old ≡ 1 }
-    ensures { IsStep R.BITS O.at_of (span_of span) (map R.number memory.old)
-        (command_number R.number command) (reply_number R.number result) (map R.number memory.new) }
-{
-    request[0] = Request { span: 0, command };
-    run(&[span], memory, request, reply);
-    reply[0]
-}
-
 // Serves one request.
 fn serve<R: BitRegister, O: BitOrder<R>>(
     spans: &[PlainSpan],
     memory: &mut [R],
     request: &PlainRequest,
-    room: &mut [Request<R>],
-    reply_room: &mut [Reply<R>],
 ) -> PlainReply
-    requires room { length room.old ≡ 1 }
-    requires reply_room { length reply_room.old ≡ 1 }
     requires narrow { R.BITS ≤ 64 }
     requires short { AllShort spans.now }
     requires can_run { CanRun R.BITS (plain_span R.BITS) spans.now (length memory.old) }
@@ -126,7 +98,7 @@ fn serve<R: BitRegister, O: BitOrder<R>>(
         let range = spans[request.span];
         let own = span::<R, O>(range.start, range.count);
         let command = command_of(request);
-        plain_reply(step(own, memory, command, room, reply_room))
+        plain_reply(step(own, memory, command))
     } else {
         plain_reply::<R>(Reply::NoSpan)
     }
@@ -138,11 +110,7 @@ fn run_in<R: BitRegister, O: BitOrder<R>>(
     memory: &mut [R],
     requests: &[PlainRequest],
     replies: &mut [PlainReply],
-    room: &mut [Request<R>],
-    reply_room: &mut [Reply<R>],
 )
-    requires room { length room.old ≡ 1 }
-    requires reply_room { length reply_room.old ≡ 1 }
     requires narrow { R.BITS ≤ 64 }
     requires short { AllShort spans.now }
     requires can_run { CanRun R.BITS (plain_span R.BITS) spans.now (length memory.old) }
@@ -152,7 +120,7 @@ fn run_in<R: BitRegister, O: BitOrder<R>>(
         replies.new (map R.number memory.new) }
 {
     for n in 0..requests.len() {
-        replies[n] = serve::<R, O>(spans, memory, &requests[n], room, reply_room);
+        replies[n] = serve::<R, O>(spans, memory, &requests[n]);
     }
 }
 
@@ -163,11 +131,7 @@ fn run_requests<R: BitRegister>(
     memory: &mut [R],
     requests: &[PlainRequest],
     replies: &mut [PlainReply],
-    room: &mut [Request<R>],
-    reply_room: &mut [Reply<R>],
 )
-    requires room { length room.old ≡ 1 }
-    requires reply_room { length reply_room.old ≡ 1 }
     requires narrow { R.BITS ≤ 64 }
     requires short { AllShort spans.now }
     requires can_run { CanRun R.BITS (plain_span R.BITS) spans.now (length memory.old) }
@@ -177,9 +141,9 @@ fn run_requests<R: BitRegister>(
         requests.now replies.new (map R.number memory.new) }
 {
     if order == LSB0 {
-        run_in::<R, Lsb0>(spans, memory, requests, replies, room, reply_room);
+        run_in::<R, Lsb0>(spans, memory, requests, replies);
     } else {
-        run_in::<R, Msb0>(spans, memory, requests, replies, room, reply_room);
+        run_in::<R, Msb0>(spans, memory, requests, replies);
     }
 }
 
@@ -190,11 +154,7 @@ fn run_plain<R: BitRegister>(
     memory: &mut [R],
     requests: &[PlainRequest],
     replies: &mut [PlainReply],
-    room: &mut [Request<R>],
-    reply_room: &mut [Reply<R>],
 ) -> u8
-    requires room { length room.old ≡ 1 }
-    requires reply_room { length reply_room.old ≡ 1 }
     requires narrow { R.BITS ≤ 64 }
     ensures status { IsRunStatus R.BITS order spans.now (length memory.old) requests.now
         (length replies.old) result }
@@ -206,7 +166,7 @@ fn run_plain<R: BitRegister>(
     let count = replies.len();
     let status = test_run::<R>(order, spans, memory.len(), requests, count);
     if status == OK {
-        run_requests(order, spans, memory, requests, replies, room, reply_room);
+        run_requests(order, spans, memory, requests, replies);
     }
     status
 }
@@ -279,20 +239,7 @@ pub extern "C" fn bitvec_c_run_u8(
     ensures kept { result ≢ ok → memory.new ≡ memory.old }
     ensures unanswered { result ≢ ok → replies.new ≡ replies.old }
 {
-    let mut room = [Request {
-        span: 0,
-        command: Command::Load(0),
-    }];
-    let mut reply_room = [Reply::NoSpan];
-    run_plain(
-        order,
-        spans,
-        memory,
-        requests,
-        replies,
-        &mut room,
-        &mut reply_room,
-    )
+    run_plain(order, spans, memory, requests, replies)
 }
 
 /// Gives the spans of a memory of words of 16 bits the commands of the requests, in their order,
@@ -315,20 +262,7 @@ pub extern "C" fn bitvec_c_run_u16(
     ensures kept { result ≢ ok → memory.new ≡ memory.old }
     ensures unanswered { result ≢ ok → replies.new ≡ replies.old }
 {
-    let mut room = [Request {
-        span: 0,
-        command: Command::Load(0),
-    }];
-    let mut reply_room = [Reply::NoSpan];
-    run_plain(
-        order,
-        spans,
-        memory,
-        requests,
-        replies,
-        &mut room,
-        &mut reply_room,
-    )
+    run_plain(order, spans, memory, requests, replies)
 }
 
 /// Gives the spans of a memory of words of 32 bits the commands of the requests, in their order,
@@ -351,20 +285,7 @@ pub extern "C" fn bitvec_c_run_u32(
     ensures kept { result ≢ ok → memory.new ≡ memory.old }
     ensures unanswered { result ≢ ok → replies.new ≡ replies.old }
 {
-    let mut room = [Request {
-        span: 0,
-        command: Command::Load(0),
-    }];
-    let mut reply_room = [Reply::NoSpan];
-    run_plain(
-        order,
-        spans,
-        memory,
-        requests,
-        replies,
-        &mut room,
-        &mut reply_room,
-    )
+    run_plain(order, spans, memory, requests, replies)
 }
 
 /// Gives the spans of a memory of words of 64 bits the commands of the requests, in their order,
@@ -387,18 +308,5 @@ pub extern "C" fn bitvec_c_run_u64(
     ensures kept { result ≢ ok → memory.new ≡ memory.old }
     ensures unanswered { result ≢ ok → replies.new ≡ replies.old }
 {
-    let mut room = [Request {
-        span: 0,
-        command: Command::Load(0),
-    }];
-    let mut reply_room = [Reply::NoSpan];
-    run_plain(
-        order,
-        spans,
-        memory,
-        requests,
-        replies,
-        &mut room,
-        &mut reply_room,
-    )
+    run_plain(order, spans, memory, requests, replies)
 }

@@ -72,7 +72,7 @@ module _ (at : ℕ → ℕ) (start len value : ℕ) (span : Span) (slot : Slot) 
   -- every bit before the field and behind it stays
   pub outside_same : (place : ℕ) → (place < start) ⊎ (start + len ≤ place) → bit_of 32 at new place ≡ bit_of 32 at old place
   outside_same place out =
-      step.others place
+      step.becomes.others place
       (λ covers. elim out [
         | inl before ↦ omega (arith, ints, before, covers.0)
         | inr behind ↦ omega (arith, ints, behind, covers.1)
@@ -80,7 +80,7 @@ module _ (at : ℕ → ℕ) (start len value : ℕ) (span : Span) (slot : Slot) 
 
   -- the field has the value's digits
   pub inside_stored : (place : ℕ) → start ≤ place → place < start + len → bit_of 32 at new place ≡ digit value (at place)
-  inside_stored = stored at start len value old new some in_word step.edited
+  inside_stored = stored at start len value old new some in_word step.becomes.list
 
 -- the word of a field's bits, shifted down
 pub number_in-from : (at : ℕ → ℕ) (start len value lowest : ℕ) (span : Span) (words : List ℕ) → span ≡ field_span start len → value ≡ word_of 32 at span.head (list_of 32 at span (map (λ w. w) words)) 0 → lowest ≡ lowest_of at start len

@@ -5,7 +5,7 @@ use bitvec::index::BitIdx;
 use bitvec::mem::BitRegister;
 use bitvec::order::{BitOrder, Lsb0, Msb0};
 use bitvec::ptr::span::{BitSpan, BitSpanError};
-use bitvec::run::{Command, Reply, Request, can_run, run};
+use bitvec::run::{Command, Reply, Request, can_run, run, step};
 use std::marker::PhantomData;
 use std::test::Fail;
 
@@ -248,4 +248,20 @@ fn two_spans_of_one_byte(rt: HostRuntime) {
     run(&[low, high], &mut memory, &requests, &mut replies);
     assert_eq!(rt; replies, [Reply::Word(0x02), Reply::Word(0x58)]);
     assert_eq!(rt; memory, [0xA5]);
+}
+
+#[test]
+fn one_step(rt: HostRuntime) {
+    let span: BitSpan<u8, Lsb0> = BitSpan::at(4, 8).unwrap();
+    let mut memory = [0x12u8, 0x34];
+    assert_eq!(rt;
+        step(span, &mut memory, Command::Replace(7, true)),
+        Reply::Bit(false)
+    );
+    assert_eq!(rt; memory, [0x12, 0x3C]);
+    assert_eq!(rt;
+        step(span, &mut memory, Command::Replace(8, true)),
+        Reply::PastEnd
+    );
+    assert_eq!(rt; memory, [0x12, 0x3C]);
 }

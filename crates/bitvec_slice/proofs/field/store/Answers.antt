@@ -6,7 +6,7 @@ use Rattle.bitvec.specs.Place.{words_met}
 use Rattle.bitvec.specs.Span.{Fits, element, list_of}
 use Rattle.bitvec.proofs.MemoryLemmas.{length-tabulate}
 use Rattle.bitvec.proofs.PartLemmas.{length-list_of}
-use Rattle.bitvec.proofs.WordLemmas.{list_of-edited, others-edited, words-edited}
+use Rattle.bitvec.proofs.WordLemmas.{becomes-edited}
 use Rattle.bitvec_slice.specs.Field.{field_bits, field_list, number_with, lowest_digits}
 use Rattle.bitvec_slice.proofs.FieldPartLemmas.{has_parts, has_parts_below}
 use Rattle.bitvec_slice.proofs.FieldStoreLemmas.{stored_before, stored_none, stored_more, stored_all, stored_loads, length-field_list}
@@ -40,12 +40,11 @@ loop-k-preserved g c =
     let met : c.loop-k.k < words_met width span.head span.len = omega (arith, c.loop-k-test.true, c.elements-k-end.ensures.value) in
     let after = λ (i : ℕ). digit (number c.word_digits-word.result) (at i) in
     let edits = c.store_word.ensures in
-    let kept = others-edited width at (span_of span) c.loop-k.k after old new (number c.store_word.result) g.met.O.BitOrder.one_to_one head fits met edits in
+    let edit = becomes-edited width at (span_of span) c.loop-k.k after old new (number c.store_word.result) g.met.O.BitOrder.one_to_one head fits met edits (element xs) c.word_digits-word.ensures in
     record {
-      list = list_of-edited width at (span_of span) c.loop-k.k after old new (number c.store_word.result) g.met.O.BitOrder.one_to_one head fits met edits (element xs) c.word_digits-word.ensures
-          ∙ stored_more width span.head span.len c.loop-k.k xs first (list_of width at (span_of span) old) c.loop-k.invariant.list;
-      others = λ place out. kept place out ∙ c.loop-k.invariant.others place out;
-      words = sym (length-map c.store_word.new.memory number) ∙ words-edited width at (span_of span) c.loop-k.k after old new (number c.store_word.result) g.met.O.BitOrder.one_to_one head fits met edits ∙ many ∙ c.loop-k.invariant.words;
+      list = edit.list ∙ stored_more width span.head span.len c.loop-k.k xs first (list_of width at (span_of span) old) c.loop-k.invariant.list;
+      others = λ place out. edit.others place out ∙ c.loop-k.invariant.others place out;
+      words = sym (length-map c.store_word.new.memory number) ∙ edit.words ∙ many ∙ c.loop-k.invariant.words;
     }
 
 pub word_digits-word-requires-clause-small : goal.word_digits-word-requires-clause-small

@@ -12,7 +12,6 @@ ghost use Rattle.bitvec.specs.declared.run.command.Command.TheVariants.{Swap, Co
 use crate::mem::BitRegister;
 use crate::order::BitOrder;
 use crate::ptr::span::BitSpan;
-use crate::run::bit::bit_pointer;
 use crate::run::command::{Command, Reply};
 use crate::run::word;
 
@@ -96,7 +95,7 @@ fn read<R: BitRegister, O: BitOrder<R>>(span: BitSpan<R, O>, memory: &[R], index
         (reply_number R.number result) (map R.number memory.now) }
 {
     if index < span.len() {
-        Reply::Bit(bit_pointer(span, index).read(memory))
+        Reply::Bit(span.read(memory, index))
     } else {
         Reply::PastEnd
     }
@@ -114,7 +113,7 @@ fn replace<R: BitRegister, O: BitOrder<R>>(
         (reply_number R.number result) (map R.number memory.new) }
 {
     if index < span.len() {
-        Reply::Bit(bit_pointer(span, index).replace(memory, bit))
+        Reply::Bit(span.replace(memory, index, bit))
     } else {
         Reply::PastEnd
     }
@@ -133,9 +132,7 @@ fn swap<R: BitRegister, O: BitOrder<R>>(
 {
     let len = span.len();
     if index < len && with < len {
-        let here = bit_pointer(span, index);
-        let there = bit_pointer(span, with);
-        here.swap_within(memory, there);
+        span.swap(memory, index, with);
         Reply::Done
     } else {
         Reply::PastEnd
@@ -161,11 +158,8 @@ fn copy<R: BitRegister, O: BitOrder<R>>(
     ensures { IsStep R.BITS O.at_of (span_of span) (map R.number memory.old) (Copy from to count)
         (reply_number R.number result) (map R.number memory.new) }
 {
-    let len = span.len();
-    if can_copy(len, from, to, count) {
-        let source = bit_pointer(span, from);
-        let target = bit_pointer(span, to);
-        source.copy_within(memory, target, count);
+    if can_copy(span.len(), from, to, count) {
+        span.copy_within(memory, from, to, count);
         Reply::Done
     } else {
         Reply::PastEnd
@@ -179,7 +173,7 @@ fn can_fill(len: usize, from: usize, to: usize) -> bool
     from <= to && to <= len
 }
 
-// Makes a stretch of the span's bits the same, through the span of that stretch.
+// Makes a stretch of the span's bits the same.
 fn fill<R: BitRegister, O: BitOrder<R>>(
     span: BitSpan<R, O>,
     memory: &mut [R],
@@ -191,19 +185,33 @@ fn fill<R: BitRegister, O: BitOrder<R>>(
     ensures { IsStep R.BITS O.at_of (span_of span) (map R.number memory.old) (Fill from to value)
         (reply_number R.number result) (map R.number memory.new) }
 {
-    let len = span.len();
-    if can_fill(len, from, to) {
-        let (upto, _) = span.split_at(to);
-        let (_, stretch) = upto.split_at(from);
-        stretch.fill(memory, value);
+    if can_fill(span.len(), from, to) {
+        span.range(from, to).fill(memory, value);
         Reply::Done
     } else {
         Reply::PastEnd
     }
 }
 
-// Gives a span one command.
-pub(crate) fn step<R: BitRegister, O: BitOrder<R>>(
+/// Gives one span of a memory a command, and returns what [`run`](crate::run::run) replies to it.
+///
+/// Requires a span that [`fits`](BitSpan::fits). It replies [`Reply::PastEnd`] where the command
+/// names a word or a bit past the span's end, and the memory stays then; it never replies
+/// [`Reply::NoSpan`]. Otherwise the span has the list that the command leaves, and every other bit
+/// of the memory is as before, and so is the list of every span that is disjoint from this one. A
+/// `Copy` or a `Fill` costs by words, and each other command constant time. Our own.
+///
+/// # Examples
+///
+/// ```
+/// let span: BitSpan<u8, Lsb0> = BitSpan::at(4, 8).unwrap();
+/// let mut memory = [0x12u8, 0x34];
+/// assert_eq!(rt; step(span, &mut memory, Command::Replace(7, true)), Reply::Bit(false));
+/// assert_eq!(rt; memory, [0x12, 0x3C]);
+/// assert_eq!(rt; step(span, &mut memory, Command::Replace(8, true)), Reply::PastEnd);
+/// assert_eq!(rt; memory, [0x12, 0x3C]);
+/// ```
+pub fn step<R: BitRegister, O: BitOrder<R>>(
     span: BitSpan<R, O>,
     memory: &mut [R],
     command: Command<R>,

@@ -2,7 +2,7 @@ use Rattle.std.proofs.Common.{map}
 use Rattle.bitvec_domain.specs.BitSpan.{span_of}
 use Rattle.bitvec.specs.declared.run.command.Command.TheVariants.{Load}
 use Rattle.bitvec.proofs.CommandLemmas.{step-past, step-load, word_past}
-use Rattle.bitvec.proofs.run.step.load.Goals as goal
+use Rattle.bitvec.proofs.run.steps.load.Goals as goal
 
 pub returns-in-Some : goal.returns-in-Some
 returns-in-Some g c =
