@@ -3,12 +3,11 @@
 //! Each part is the bits of a span, and is seen as a list of truth values of its own: what is
 //! written through one part changes the list of no other, even where they share a word.
 
-ghost use Rattle.std.specs.Prelude.{◌≡◌, ◌≢◌, ℕ, ◌<◌, ◌≤◌, ◌↔◌, IsTrue, length, map};
-ghost use Rattle.std.specs.Prelude.{slice_set, IsSome, IfSome, All};
-ghost use Rattle.bitvec.specs.BitSpan.{span_of, list_by};
-ghost use Rattle.bitvec.specs.Span.{Fits, KeepsOthers, element};
+ghost use Rattle.std.specs.Prelude.{◌≡◌, ◌≢◌, ℕ, ◌-◌, ◌<◌, ◌≤◌, ◌↔◌, IsTrue, length, map};
+ghost use Rattle.std.specs.Prelude.{◌++◌, take, drop, replicate, slice_set, IsSome, IfSome, All};
+ghost use Rattle.bitvec.specs.BitSpan.{span_of};
+ghost use Rattle.bitvec.specs.Span.{element};
 ghost use Rattle.bitvec.specs.Run.{CanRun};
-ghost use Rattle.bits.specs.Fill.{with_filled};
 ghost use Rattle.bits.specs.Interval.{interval_span, IsSpan};
 
 use bitvec::index::BitIdx;
@@ -17,56 +16,6 @@ use bitvec::order::BitOrder;
 use bitvec::ptr::span::BitSpan;
 use bitvec::run::can_run;
 use std::marker::PhantomData;
-
-// Bit `i` of a span.
-fn read_bit<R: BitRegister, O: BitOrder<R>>(span: BitSpan<R, O>, memory: &[R], i: usize) -> bool
-    requires fits { Fits R.BITS (span_of span) (length memory.now) }
-    requires inside { i < (span_of span).len }
-    ensures { result ≡ element (list_by span O.at_of memory.now) i }
-{
-    span.bitptr(i).read(memory)
-}
-
-// Writes bit `i` of a span, and changes no other bit.
-fn write_bit<R: BitRegister, O: BitOrder<R>>(
-    span: BitSpan<R, O>,
-    memory: &mut [R],
-    i: usize,
-    bit: bool,
-)
-    requires fits { Fits R.BITS (span_of span) (length memory.old) }
-    requires inside { i < (span_of span).len }
-    ensures list { list_by span O.at_of memory.new
-        ≡ slice_set (list_by span O.at_of memory.old) i bit }
-    ensures others { KeepsOthers R.BITS O.at_of (span_of span) (map R.number memory.old)
-        (map R.number memory.new) }
-    ensures words { length memory.new ≡ length memory.old }
-{
-    span.bitptr(i).write(memory, bit);
-}
-
-// Makes the bits of a span from number `from` to before number `to` the same, and changes no other.
-fn fill_bits<R: BitRegister, O: BitOrder<R>>(
-    span: BitSpan<R, O>,
-    memory: &mut [R],
-    from: usize,
-    to: usize,
-    bit: bool,
-)
-    requires fits { Fits R.BITS (span_of span) (length memory.old) }
-    requires ordered { from ≤ to }
-    requires inside { to ≤ (span_of span).len }
-    ensures list { list_by span O.at_of memory.new
-        ≡ with_filled (list_by span O.at_of memory.old) from to
-        bit }
-    ensures others { KeepsOthers R.BITS O.at_of (span_of span) (map R.number memory.old)
-        (map R.number memory.new) }
-    ensures words { length memory.new ≡ length memory.old }
-{
-    for i in from..to {
-        write_bit(span, memory, i, bit);
-    }
-}
 
 // A span by its numbers.
 //
@@ -146,7 +95,8 @@ fn accepts<R: BitRegister, O, const N: usize>(spans: [BitSpan<R, O>; N], words: 
 
 impl<'a, R: BitRegister, O: BitOrder<R>, const N: usize> Parts<'a, R, O, N> {
     ghost use Rattle.std.specs.Borrow.{sem, Array, RestsIfNone};
-    ghost use Rattle.bits.specs.View.{lent_memory, part_spans, part_span, part_list, KeepsOutside};
+    ghost use Rattle.bits.specs.View.{lent_memory, part_spans, part_span, part_list};
+    ghost use Rattle.bits.specs.View.{KeepsOutside, KeepsApart};
 
     // Where a part lies.
     fn span(&self, part: usize) -> BitSpan<R, O>
@@ -208,7 +158,7 @@ impl<'a, R: BitRegister, O: BitOrder<R>, const N: usize> Parts<'a, R, O, N> {
         requires inside { i < (part_span self.now part).len }
         ensures { result ≡ element (part_list self.now part) i }
     {
-        read_bit(self.span(part), self.memory, i)
+        self.span(part).read(self.memory, i)
     }
 
     /// Writes bit `i` of a part, and changes no other bit of the memory. Requires that there is
@@ -221,11 +171,12 @@ impl<'a, R: BitRegister, O: BitOrder<R>, const N: usize> Parts<'a, R, O, N> {
         ensures edited { part_list self.new part ≡ slice_set (part_list self.old part) i bit }
         ensures kept { (s : ℕ) → s ≢ part → part_list self.new s ≡ part_list self.old s }
         ensures others { KeepsOutside self.old self.new }
+        ensures apart { KeepsApart self.old self.new }
         ensures words { length (lent_memory self.new).now ≡ length (lent_memory self.old).now }
     {
         let own = self.span(part);
         let memory = &mut *self.memory;
-        write_bit(own, memory, i, bit);
+        own.write(memory, i, bit);
     }
 
     /// Makes the bits of a part from number `from` to before number `to` the same, and changes no
@@ -237,15 +188,16 @@ impl<'a, R: BitRegister, O: BitOrder<R>, const N: usize> Parts<'a, R, O, N> {
         requires inside { to ≤ (part_span self.old part).len }
         ensures reference { (lent_memory self.new).ghost_name ≡ (lent_memory self.old).ghost_name }
         ensures spans { part_spans self.new ≡ part_spans self.old }
-        ensures edited { part_list self.new part
-            ≡ with_filled (part_list self.old part) from to bit }
+        ensures edited { let old = part_list self.old part in part_list self.new part
+            ≡ take from old ++ replicate (to - from) bit ++ drop to old }
         ensures kept { (s : ℕ) → s ≢ part → part_list self.new s ≡ part_list self.old s }
         ensures others { KeepsOutside self.old self.new }
+        ensures apart { KeepsApart self.old self.new }
         ensures words { length (lent_memory self.new).now ≡ length (lent_memory self.old).now }
     {
-        let span = self.span(part);
+        let range = self.span(part).range(from, to);
         let memory = &mut *self.memory;
-        fill_bits(span, memory, from, to, bit);
+        range.fill(memory, bit);
     }
 
     /// Whether two parts have equal lists. Requires that there are such parts.

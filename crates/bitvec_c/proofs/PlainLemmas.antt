@@ -4,17 +4,16 @@ use Rattle.std.specs.Prelude.{pos}
 use Rattle.std.proofs.lemmas.Bool.{cases_lt}
 use Rattle.std.proofs.lemmas.Int.{ints}
 use Rattle.std.proofs.lemmas.Nat.{div-add-mod'}
-use Rattle.bitvec.specs.Span.{Covers, AreDisjoint}
-use Rattle.bitvec_c.specs.Range.{range_span}
+use Rattle.bitvec.specs.Span.{Covers, AreDisjoint, span_at}
 
 -- the places of a range are those from its first bit on
-pub range_covers : (bits start count place : ℕ) → start ≤ place → place < start + count → Covers bits (range_span bits start count) (pos place)
+pub range_covers : (bits start count place : ℕ) → start ≤ place → place < start + count → Covers bits (span_at bits start count) (pos place)
 range_covers bits start count place from below =
     let whole = div-add-mod' start bits in
     (omega (arith, ints, whole, from), omega (arith, ints, whole, below))
 
 -- ranges that have bits, and none in common: one ends before the other starts
-pub ends_before : (bits start count other_start other_count : ℕ) → 0 < count → 0 < other_count → AreDisjoint bits (range_span bits start count) (range_span bits other_start other_count)
+pub ends_before : (bits start count other_start other_count : ℕ) → 0 < count → 0 < other_count → AreDisjoint bits (span_at bits start count) (span_at bits other_start other_count)
     → other_start < start + count → other_start + other_count ≤ start
 ends_before bits start count other_start other_count some others apart later =
     elim (cases_lt start (other_start + other_count)) [
@@ -26,6 +25,6 @@ ends_before bits start count other_start other_count some others apart later =
     ]
 
 -- a range that ends before another starts has no bit in common with it
-pub apart_before : (bits start count other_start other_count : ℕ) → start + count ≤ other_start → AreDisjoint bits (range_span bits start count) (range_span bits other_start other_count)
+pub apart_before : (bits start count other_start other_count : ℕ) → start + count ≤ other_start → AreDisjoint bits (span_at bits start count) (span_at bits other_start other_count)
 apart_before bits start count other_start other_count h place here there =
     absurd (omega (arith, ints, h, here.1, there.0, div-add-mod' start bits, div-add-mod' other_start bits))

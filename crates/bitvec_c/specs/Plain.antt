@@ -2,7 +2,7 @@
 -- number, and a memory is the list of its words' numbers.
 use Rattle.std.specs.Prelude.{◌≡◌, ℕ, ◌+◌, ◌*◌, ◌%◌, ◌^◌, ◌≤◌, ◌==◌, Bool, List, map, All, AllPairs, if◌then◌else◌}
 use Rattle.bitvec.specs.Place.{region_max_bits}
-use Rattle.bitvec.specs.Span.{Span, AreDisjoint}
+use Rattle.bitvec.specs.Span.{Span, AreDisjoint, span_at}
 use Rattle.bitvec.specs.Run.{IsRun}
 use Rattle.bitvec.specs.declared.run.command.Command.{Command}
 use Rattle.bitvec.specs.declared.run.command.Command.TheVariants.{Load, Store, Set, Clear, Invert, Read, Replace, Swap, Copy, Fill}
@@ -12,11 +12,10 @@ use Rattle.bitvec.specs.declared.run.command.Reply.TheVariants.{Word, Bit, Done,
 use Rattle.bitvec_c.specs.declared.plain.PlainSpan.{PlainSpan}
 use Rattle.bitvec_c.specs.declared.plain.PlainRequest.{PlainRequest}
 use Rattle.bitvec_c.specs.declared.plain.PlainReply.{PlainReply}
-use Rattle.bitvec_c.specs.Range.{range_span}
 
 -- the span of a range by its numbers
 abbrev pub plain_span : ℕ → PlainSpan → Span
-plain_span bits span = range_span bits span.start span.count
+plain_span bits span = span_at bits span.start span.count
 
 -- each range has no more bits than a span can have
 abbrev pub AllShort : List PlainSpan → Type 0

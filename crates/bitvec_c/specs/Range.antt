@@ -1,26 +1,22 @@
 -- Ranges of the bits of a memory. A place counts the bits of a memory from 0 on, `bits` is the width of a word, `at` takes
 -- an index in a word to its position in the number, and a memory is the list of its words' numbers.
-use Rattle.std.specs.Prelude.{◌≡◌, ℕ, pos, ◌/◌, ◌%◌, Bool, List, length, slice_set}
+use Rattle.std.specs.Prelude.{◌≡◌, ℕ, pos, ◌/◌, ◌%◌, Bool, List, slice_set}
 use Rattle.bitvec.specs.Memory.{memory_bits, list_with_copy}
 use Rattle.bitvec.specs.Place.{Ptr}
-use Rattle.bitvec.specs.Span.{Span, KeepsOthers, list_of}
+use Rattle.bitvec.specs.Span.{BecomesList, span_at, list_of}
 
 -- the word and the index in it of a place
 abbrev pub place_ptr : ℕ → ℕ → Ptr
 place_ptr bits place = record { word = pos (place / bits); bit = place % bits }
 
--- the span of the `count` bits from place `start` on
-abbrev pub range_span : ℕ → ℕ → ℕ → Span
-range_span bits start count = record { word = pos (start / bits); head = start % bits; len = count }
-
--- these bits in a memory, in order
+-- the `count` bits from place `start` on in a memory, in order
 abbrev pub range_bits : ℕ → (ℕ → ℕ) → ℕ → ℕ → List ℕ → List Bool
-range_bits bits at start count words = list_of bits at (range_span bits start count) words
+range_bits bits at start count words = list_of bits at (span_at bits start count) words
 
--- the bits of a range become those of a list, and every other bit of the memory is as before
+-- the bits of a range become those of a list, and all else stays: every other bit of the memory, so the list of every span
+-- beside the range, and the number of words
 abbrev pub RangeBecomes : ℕ → (ℕ → ℕ) → ℕ → ℕ → List Bool → List ℕ → List ℕ → Type 0
-RangeBecomes bits at start count xs old new =
-    (range_bits bits at start count new ≡ xs) × KeepsOthers bits at (range_span bits start count) old new × (length new ≡ length old)
+RangeBecomes bits at start count xs old new = BecomesList bits at (span_at bits start count) old new xs
 
 -- two ranges of as many bits, each in a memory of its own, have the same bits
 abbrev pub HaveSameBits : ℕ → (ℕ → ℕ) → ℕ → List ℕ → ℕ → List ℕ → ℕ → Type 0

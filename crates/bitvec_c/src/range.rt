@@ -4,14 +4,12 @@ ghost use Rattle.std.specs.Prelude.{◌≡◌, ℕ, ◌+◌, ◌*◌, ◌<◌, �
 ghost use Rattle.bitvec.specs.BitPtr.{ptr_of};
 ghost use Rattle.bitvec.specs.BitSpan.{span_of};
 ghost use Rattle.bitvec.specs.Place.{index_of, region_max_bits};
-ghost use Rattle.bitvec.specs.Span.{Fits};
+ghost use Rattle.bitvec.specs.Span.{Fits, span_at};
 ghost use Rattle.bitvec.specs.Steps.{IsIn, RangeIsIn};
 ghost use Rattle.bitvec_slice.specs.BitSlice.{slice_span, bits_of};
 ghost use Rattle.bitvec_slice.specs.BitSliceMut.{lent_memory, lent_span};
-ghost use Rattle.bitvec_c.specs.Range.{place_ptr, range_span, range_bits};
+ghost use Rattle.bitvec_c.specs.Range.{place_ptr, range_bits};
 
-use bitvec::index::BitIdx;
-use bitvec::mem;
 use bitvec::mem::BitRegister;
 use bitvec::order::BitOrder;
 use bitvec::ptr::single::BitPtr;
@@ -26,21 +24,17 @@ pub(crate) fn pointer<R: BitRegister, O>(place: usize) -> BitPtr<R, O>
     ensures range_inside { (words count : ℕ) → place + count ≤ words * R.BITS
         → RangeIsIn R.BITS (ptr_of result) words count }
 {
-    let width = mem::bits_of::<R>();
-    let bit = BitIdx::new_unchecked((place % width) as u8);
-    BitPtr::new((place / width) as isize, bit)
+    BitPtr::at(place)
 }
 
 /// The span of the `count` bits from a place on.
 pub(crate) fn span<R: BitRegister, O>(start: usize, count: usize) -> BitSpan<R, O>
     requires { count ≤ region_max_bits }
-    ensures span { span_of result ≡ range_span R.BITS start count }
+    ensures span { span_of result ≡ span_at R.BITS start count }
     ensures fits { (words : ℕ) → start + count ≤ words * R.BITS
         → Fits R.BITS (span_of result) words }
 {
-    let width = mem::bits_of::<R>();
-    let head = BitIdx::new_unchecked((start % width) as u8);
-    BitSpan::new((start / width) as isize, head, count).unwrap()
+    BitSpan::at_unchecked(start, count)
 }
 
 /// The bits of a range of a memory.
@@ -51,7 +45,7 @@ pub(crate) fn bits<R: BitRegister, O: BitOrder<R>>(
 ) -> BitSlice<'_, R, O>
     requires short { count ≤ region_max_bits }
     requires inside { start + count ≤ length memory.now * R.BITS }
-    ensures span { slice_span result ≡ range_span R.BITS start count }
+    ensures span { slice_span result ≡ span_at R.BITS start count }
     ensures bits { bits_of result
         ≡ range_bits R.BITS O.at_of start count (map R.number memory.now) }
 {
@@ -68,7 +62,7 @@ pub(crate) fn bits_mut<R: BitRegister, O: BitOrder<R>>(
     requires inside { start + count ≤ length memory.old * R.BITS }
     ensures reference { (lent_memory result).ghost_name ≡ memory.entry.ghost_name }
     ensures memory { (lent_memory result).now ≡ memory.old }
-    ensures span { lent_span result ≡ range_span R.BITS start count }
+    ensures span { lent_span result ≡ span_at R.BITS start count }
 {
     BitSliceMut::new_unchecked(span::<R, O>(start, count), memory)
 }

@@ -1,18 +1,9 @@
 //! Copies by their words: what is put, how often, and where the mark ends.
 
 use crate::common::{bit_at, same};
-use bitvec_mem::mem::BitRegister;
-use bitvec_order::index::BitIdx;
 use bitvec_order::order::{BitOrder, Lsb0, Msb0};
 use bitvec_ptr::ptr::single::BitPtr;
 use bitvec_ptr::ptr::writer::WordWriter;
-
-// The pointer at a place from 0 on.
-fn at<R: BitRegister, O>(place: u16) -> BitPtr<R, O> {
-    let width = u16::from(R::BITS);
-    let bit = BitIdx::new_unchecked((place % width) as u8);
-    BitPtr::new((place / width) as isize, bit)
-}
 
 // The number of words put and the mark.
 fn progress<R: Copy>(writer: &WordWriter<R>) -> (usize, usize) {
@@ -80,11 +71,12 @@ fn counts_no_copy_of_no_bits(rt: HostRuntime) {
 // Sixteen bits copied from place `from` of two words to place `to` of two words.
 fn words_copied<O: BitOrder<u16>, O2: BitOrder<u16>>(
     source: [u16; 2],
-    from: u16,
-    to: u16,
+    from: usize,
+    to: usize,
 ) -> [u16; 2] {
     let mut target = [0u16; 2];
-    let (from, to) = (at::<u16, O>(from), at::<u16, O2>(to));
+    let from: BitPtr<u16, O> = BitPtr::at(from);
+    let to: BitPtr<u16, O2> = BitPtr::at(to);
     if from.run_in(source.len(), 16) && to.run_in(target.len(), 16) {
         from.copy_to(&source, to, &mut target, 16);
     }
@@ -214,26 +206,26 @@ fn list_of(words: [u64; 3], turned: bool) -> [bool; 192] {
 }
 
 // Whether 62 bits of three words that are moved are so many truth values moved in their list.
-fn moves_as_in_a_list<O: BitOrder<u64>>(turned: bool, from: u16, to: u16) -> bool {
+fn moves_as_in_a_list<O: BitOrder<u64>>(turned: bool, from: usize, to: usize) -> bool {
     let words = [
         0x0123_4567_89AB_CDEFu64,
         0xFEDC_BA98_7654_3210,
         0x0F1E_2D3C_4B5A_6978,
     ];
     let mut memory = words;
-    let (start, end) = (at::<u64, O>(from), at::<u64, O>(to));
+    let start: BitPtr<u64, O> = BitPtr::at(from);
+    let end: BitPtr<u64, O> = BitPtr::at(to);
     if from > 130 || to > 130 || !(start.run_in(3, 62) && end.run_in(3, 62)) {
         return false;
     }
     start.copy_within(&mut memory, end, 62);
     let mut list = list_of(words, turned);
-    let first = usize::from(from);
-    list.copy_within(first..first + 62, usize::from(to));
+    list.copy_within(from..from + 62, to);
     list_of(memory, turned) == list
 }
 
 // The same at so many places up and down, under both orders.
-fn moves_up_and_down(distance: u16) -> [bool; 4] {
+fn moves_up_and_down(distance: usize) -> [bool; 4] {
     [
         moves_as_in_a_list::<Lsb0>(false, 0, distance),
         moves_as_in_a_list::<Lsb0>(false, distance, 0),

@@ -1,7 +1,6 @@
 //! Spans from numbers.
 
 use crate::lines::fault::Fault;
-use bits_text::places::pointer_at;
 use bitvec::mem::BitRegister;
 use bitvec::ptr::span::BitSpan;
 use std::alloc::Allocator;
@@ -12,7 +11,7 @@ pub fn span_at<'a, R: BitRegister, O, A: Allocator>(
     start: u64,
     len: u64,
 ) -> Result<BitSpan<R, O>, Fault<&'a A>> {
-    match BitSpan::from_bitptr(pointer_at(start), len as usize) {
+    match BitSpan::at(start as usize, len as usize) {
         Ok(span) => Ok(span),
         Err(error) => Err(Fault::line(alloc, &error)),
     }

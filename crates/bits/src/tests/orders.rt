@@ -95,8 +95,7 @@ fn to(span: usize, command: Command<u8>) -> Request<u8> {
 
 /// The span of `len` bits from a place on.
 fn span_at<O>(start: u8, len: usize) -> BitSpan<u8, O> {
-    let head = BitIdx::new_unchecked(start % 8);
-    BitSpan::new(isize::from(start / 8), head, len).unwrap_or_default()
+    BitSpan::at(usize::from(start), len).unwrap_or_default()
 }
 
 /// The replies to requests through spans of a memory and the memory after them, or `None` where

@@ -1,14 +1,13 @@
 //! Parts of one memory.
 
-ghost use Rattle.std.specs.Prelude.{◌≡◌, ℕ, ◌<◌, List, [], ◌∷◌, length, map, slice_set, true};
+ghost use Rattle.std.specs.Prelude.{◌≡◌, ℕ, ℤ, pos, ◌<◌, ◌≤ℤ◌, List, [], ◌∷◌, All, length, map};
+ghost use Rattle.std.specs.Prelude.{replicate, slice_set, true};
 ghost use Rattle.bitvec.specs.BitSpan.{span_of};
 ghost use Rattle.bitvec.specs.Memory.{bit_of};
 ghost use Rattle.bitvec.specs.Run.{CanRun, IsOutside};
-ghost use Rattle.bitvec.specs.Span.{list_of};
-ghost use Rattle.bits.specs.Fill.{with_filled};
+ghost use Rattle.bitvec.specs.Span.{AreDisjoint, list_of};
 
 use crate::view::Parts;
-use bitvec::index::BitIdx;
 use bitvec::mem::BitRegister;
 use bitvec::order::{BitOrder, Lsb0};
 use bitvec::ptr::span::BitSpan;
@@ -16,13 +15,12 @@ use bitvec::run::can_run;
 
 // The span of `len` bits from a place of a memory of `u8` on.
 fn span_at(start: u8, len: usize) -> BitSpan<u8, Lsb0> {
-    let head = BitIdx::new_unchecked(start % 8);
-    BitSpan::new(isize::from(start / 8), head, len).unwrap_or_default()
+    BitSpan::at(usize::from(start), len).unwrap_or_default()
 }
 
 // Sixteen bits, split at 8 and each half at 4.
 fn nibbles() -> [BitSpan<u8, Lsb0>; 4] {
-    let whole: BitSpan<u8, Lsb0> = BitSpan::new(0, BitIdx::new_unchecked(0), 16).unwrap();
+    let whole: BitSpan<u8, Lsb0> = BitSpan::at_unchecked(0, 16);
     let (low, high) = whole.split_at(8);
     let (first, second) = low.split_at(4);
     let (third, fourth) = high.split_at(4);
@@ -124,7 +122,8 @@ fn spans_that_overlap_or_do_not_fit_are_refused(rt: HostRuntime) {
     }
 }
 
-// Sets a bit of one part and fills another, and knows the whole memory when the view is gone.
+// Sets a bit of one part and fills another, and knows the whole memory when the view is gone, and
+// the list of each span beside the parts.
 fn write_two_parts<R: BitRegister, O: BitOrder<R>>(
     memory: &mut [R],
     a: BitSpan<R, O>,
@@ -135,12 +134,18 @@ fn write_two_parts<R: BitRegister, O: BitOrder<R>>(
     ensures first { list_of R.BITS O.at_of (span_of a) (map R.number memory.new)
         ≡ slice_set (list_of R.BITS O.at_of (span_of a) (map R.number memory.old)) 1 true }
     ensures second { list_of R.BITS O.at_of (span_of b) (map R.number memory.new)
-        ≡ with_filled (list_of R.BITS O.at_of (span_of b) (map R.number memory.old)) 0
-        (span_of b).len true }
+        ≡ replicate (span_of b).len true }
     ensures others { (place : ℕ)
         → IsOutside R.BITS (λ span. span) (span_of a ∷ span_of b ∷ []) place
         → bit_of R.BITS O.at_of (map R.number memory.new) place
         ≡ bit_of R.BITS O.at_of (map R.number memory.old) place }
+    ensures apart { (word : ℤ) (head len : ℕ) → pos 0 ≤ℤ word
+        → All (λ part. AreDisjoint R.BITS part (record { word = word; head = head; len = len }))
+        (span_of a ∷ span_of b ∷ [])
+        → list_of R.BITS O.at_of (record { word = word; head = head; len = len })
+        (map R.number memory.new)
+        ≡ list_of R.BITS O.at_of (record { word = word; head = head; len = len })
+        (map R.number memory.old) }
     ensures words { length memory.new ≡ length memory.old }
 {
     let mut parts = Parts::new_unchecked(memory, [a, b]);

@@ -1,7 +1,5 @@
-use Rattle.std.proofs.Common.{map}
-use Rattle.std.proofs.lemmas.List.{length-map}
-use Rattle.bitvec.specs.BitSpan.{span_of}
-use Rattle.bitvec_c.proofs.RangeLemmas.{range_filled}
+use Rattle.std.proofs.Common.{map, replicate, subst}
+use Rattle.bitvec.specs.Span.{Span, BecomesList}
 use Rattle.bitvec_c.proofs.fill.fill_in.Goals as goal
 
 pub fill-requires : goal.fill-requires
@@ -9,6 +7,8 @@ fill-requires g c = c.span.ensures.fits _ c.requires.inside
 
 pub returns : goal.returns
 returns g c =
-    let number = g.R.BitRegister.number in
-    range_filled g.R.BitRegister.BITS g.O.BitAt.at_of c.args.start c.args.count c.args.bit (span_of c.span.result) (map number c.args.memory.now) (map number c.fill.new.memory) c.span.ensures.span
-    c.fill.ensures.list c.fill.ensures.others (simp length-map c.fill.ensures.words)
+    let width = g.R.BitRegister.BITS in
+    let at = g.O.BitAt.at_of in
+    let old = map g.R.BitRegister.number c.args.memory.now in
+    let new = map g.R.BitRegister.number c.fill.new.memory in
+    subst (λ (s : Span). BecomesList width at s old new (replicate s.len c.args.bit)) c.span.ensures.span c.fill.ensures

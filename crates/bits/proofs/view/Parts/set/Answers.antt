@@ -1,28 +1,36 @@
-use Rattle.std.proofs.Common.{rules, ℕ, ◌<◌, Some, map, length, sym, ap, ◌∙◌, subst, refl, arith}
-use Rattle.std.proofs.lemmas.List.{length-map}
-use Rattle.std.proofs.lemmas.Option.{slice_get-get_or}
-use Rattle.bitvec.specs.BitSpan.{span_of}
-use Rattle.bitvec.specs.Run.{CanRun}
-use Rattle.bits.specs.Interval.{interval_span, no_span}
-use Rattle.bits.specs.View.{part_spans}
-use Rattle.bits.proofs.ViewLemmas.{kept_lists}
+use Rattle.std.proofs.Common.{rules, ◌<◌, length}
+use Rattle.bits.proofs.ViewLemmas.{part_becomes, lists_kept, outside_kept, apart_kept}
 use Rattle.bits.proofs.view.Parts.set.Goals as goal
 
 pub returns-clause-kept : goal.returns-clause-kept
 returns-clause-kept g c =
+    let width = g.R.BitRegister.BITS in
     let number = g.R.BitRegister.number in
     let parts = c.args.self.now in
+    let old = parts.memory.now in
+    let new = c.write.new.memory in
     let inside : c.args.part < length parts.intervals = search rules in
-    let long = length-map parts.intervals interval_span in
-    let named = slice_get-get_or (part_spans parts) c.args.part no_span (omega (arith, inside, long)) ∙ ap Some (sym c.span-own.ensures) in
-    kept_lists g.R.BitRegister.BITS g.O.BitAt.at_of (λ span. span) (part_spans parts) c.args.part (span_of c.span-own.result) no_span (map number parts.memory.now) (map number c.write_bit.new.memory)
-    (subst (λ (n : ℕ). CanRun g.R.BitRegister.BITS (λ span. span) (part_spans parts) n) (sym (length-map parts.memory.now number)) parts.can_run)
-    named refl c.write_bit.ensures.others
+    let at = g.O.BitAt.at_of in
+    lists_kept (part_becomes width at number parts.intervals c.args.part old new parts.can_run inside c.span-own.ensures c.write.ensures)
 
 pub returns-clause-others : goal.returns-clause-others
 returns-clause-others g c =
+    let width = g.R.BitRegister.BITS in
+    let number = g.R.BitRegister.number in
     let parts = c.args.self.now in
+    let old = parts.memory.now in
+    let new = c.write.new.memory in
     let inside : c.args.part < length parts.intervals = search rules in
-    let long = length-map parts.intervals interval_span in
-    let named = slice_get-get_or (part_spans parts) c.args.part no_span (omega (arith, inside, long)) ∙ ap Some (sym c.span-own.ensures) in
-    λ place out. c.write_bit.ensures.others place (out c.args.part (span_of c.span-own.result) named)
+    let at = g.O.BitAt.at_of in
+    outside_kept (part_becomes width at number parts.intervals c.args.part old new parts.can_run inside c.span-own.ensures c.write.ensures)
+
+pub returns-clause-apart : goal.returns-clause-apart
+returns-clause-apart g c =
+    let width = g.R.BitRegister.BITS in
+    let number = g.R.BitRegister.number in
+    let parts = c.args.self.now in
+    let old = parts.memory.now in
+    let new = c.write.new.memory in
+    let inside : c.args.part < length parts.intervals = search rules in
+    let at = g.O.BitAt.at_of in
+    apart_kept (part_becomes width at number parts.intervals c.args.part old new parts.can_run inside c.span-own.ensures c.write.ensures)
