@@ -17,6 +17,8 @@ pub use Rattle.bitvec_order.proofs.IndexLemmas
 pub use Rattle.bitvec_ptr.proofs.CopyLemmas
 pub use Rattle.bitvec_ptr.proofs.MemoryLemmas
 pub use Rattle.bitvec_ptr.proofs.PlaceLemmas
+pub use Rattle.bitvec_domain.proofs.BecomesLemmas
 pub use Rattle.bitvec_domain.proofs.CoverLemmas
 pub use Rattle.bitvec_domain.proofs.PartLemmas
+pub use Rattle.bitvec_domain.proofs.PointerLemmas
 pub use Rattle.bitvec_domain.proofs.SplitLemmas
