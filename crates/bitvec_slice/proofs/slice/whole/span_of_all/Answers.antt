@@ -1,6 +1,6 @@
 use Rattle.std.proofs.Common.{rules, ◌*◌, ◌≤◌}
 use Rattle.bitvec_slice.proofs.SlicePartLemmas.{whole_fits}
-use Rattle.bitvec_slice.proofs.slice.part.span_of_all.Goals as goal
+use Rattle.bitvec_slice.proofs.slice.whole.span_of_all.Goals as goal
 
 pub returns-clause-fits : goal.returns-clause-fits
 returns-clause-fits g c =
