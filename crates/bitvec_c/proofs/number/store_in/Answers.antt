@@ -10,7 +10,7 @@ returns-then-big g c =
     let stored = c.store_be.ensures.stored in
     rw c.if-big.true
     (stored_range g.R.BitRegister.BITS g.O.BitAt.at_of true g.O.Sequential.RISES c.args.start c.args.count c.args.number (lent_span before) (lent_span behind) g.R.BitRegister.number c.args.memory.now
-    (lent_memory before).now (lent_memory behind).now _ (search rules) c.bits_mut-range.ensures.memory c.bits_mut-range.ensures.span stored.1 stored.0 stored.3 stored.4)
+    (lent_memory before).now (lent_memory behind).now _ (search rules) c.bits_mut-range.ensures.memory c.bits_mut-range.ensures.span stored.1 stored.0 stored.3.others stored.3.words)
 
 pub returns : goal.returns
 returns g c =
@@ -19,4 +19,4 @@ returns g c =
     let stored = c.store_le.ensures.stored in
     rw c.if-big.false
     (stored_range g.R.BitRegister.BITS g.O.BitAt.at_of false g.O.Sequential.RISES c.args.start c.args.count c.args.number (lent_span before) (lent_span behind) g.R.BitRegister.number c.args.memory.now
-    (lent_memory before).now (lent_memory behind).now _ (search rules) c.bits_mut-range.ensures.memory c.bits_mut-range.ensures.span stored.1 stored.0 stored.3 stored.4)
+    (lent_memory before).now (lent_memory behind).now _ (search rules) c.bits_mut-range.ensures.memory c.bits_mut-range.ensures.span stored.1 stored.0 stored.3.others stored.3.words)
