@@ -16,4 +16,5 @@ pub use Rattle.bitvec_ptr.proofs.PlaceLemmas
 pub use Rattle.bitvec_domain.proofs.BecomesLemmas
 pub use Rattle.bitvec_domain.proofs.CoverLemmas
 pub use Rattle.bitvec_domain.proofs.PartLemmas
+pub use Rattle.bitvec_domain.proofs.PointerLemmas
 pub use Rattle.bitvec_domain.proofs.SplitLemmas

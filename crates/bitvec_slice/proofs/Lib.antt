@@ -1,6 +1,4 @@
-mod CopiedLemmas
 pub mod CountLemmas
-mod EditLemmas
 mod EqualLemmas
 pub mod FieldLemmas
 pub mod FieldPartLemmas
@@ -12,3 +10,4 @@ pub mod OnesLemmas
 pub mod SameWordsLemmas
 mod SkipLemmas
 pub mod SlicePartLemmas
+mod SpanEdits

@@ -8,12 +8,6 @@ use Rattle.std.proofs.lemmas.List.Edits.{swap_is}
 use Rattle.bitvec.specs.Memory.{list_with_copy}
 use Rattle.bitvec.specs.Span.{element}
 
--- two elements are each put in the other's place
-pub swapped : (xs ys zs : List Bool) (i j : ℕ) (x y : Bool) → i < length xs → j < length xs → x ≡ element xs i → y ≡ element xs j
-    → ys ≡ slice_set xs i y → zs ≡ slice_set ys j x → zs ≡ swap xs i j
-swapped xs ys zs i j x y h k e f first second =
-    second ∙ ap (λ ws. slice_set ws j x) first ∙ ap (λ b. slice_set (slice_set xs i b) j x) f ∙ ap (λ b. slice_set (slice_set xs i (element xs j)) j b) e ∙ swap_is xs i j false h k
-
 -- the elements of a list after two are exchanged
 module _ (xs : List Bool) (i j : ℕ) (h : i < length xs) (k : j < length xs) (apart : i ≢ j) where
   element_first : element (swap xs i j) i ≡ element xs j

@@ -9,13 +9,12 @@ use Rattle.std.proofs.lemmas.Nat.{div-add-mod'}
 use Rattle.bitvec.specs.Digit.{digit}
 use Rattle.bitvec.specs.Memory.{bit_of, memory_bits}
 use Rattle.bitvec.specs.Place.{words_met}
-use Rattle.bitvec.specs.Span.{Span, Fits, list_of}
+use Rattle.bitvec.specs.Span.{Span, Fits, list_of, span_upto}
 use Rattle.bitvec.proofs.CopyLemmas.{word_within}
 use Rattle.bitvec.proofs.DigitLemmas.{digit-zero}
 use Rattle.bitvec.proofs.MemoryLemmas.{tabulate-from_elements, tabulate_same}
 use Rattle.bitvec.proofs.PartLemmas.{length-list_of}
 use Rattle.bitvec.proofs.PlaceLemmas.{words_met-none, words_met-some}
-use Rattle.bitvec.proofs.SplitLemmas.{span_before}
 use Rattle.bitvec_slice.specs.Whole.{whole_span}
 
 met_whole : (bits words count : ℕ) → count ≤ words * bits → words_met bits 0 count ≤ words
@@ -47,7 +46,7 @@ drop_first : (xs ys : List Bool) (n : ℕ) → length xs ≡ n → drop n (xs ++
 drop_first xs ys n e = subst (λ m. drop m (xs ++ ys) ≡ ys) e (drop-append_seam xs ys)
 
 -- two spans whose lists, joined, are that of a third, where the first has its first `mid` bits
-module _ (bits : ℕ) (at : ℕ → ℕ) (first second span : Span) (words : List ℕ) (mid : ℕ) (is_first : first ≡ span_before span mid)
+module _ (bits : ℕ) (at : ℕ → ℕ) (first second span : Span) (words : List ℕ) (mid : ℕ) (is_first : first ≡ span_upto span mid)
     (joined : list_of bits at first words ++ list_of bits at second words ≡ list_of bits at span words) where
   long : length (list_of bits at first words) ≡ mid
   long = length-list_of bits at first words ∙ ap (λ (s : Span). s.len) is_first

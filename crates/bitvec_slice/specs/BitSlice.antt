@@ -2,7 +2,7 @@
 use Rattle.std.specs.Prelude.{ℕ, Bool, List, map}
 use Rattle.bitvec.specs.BitSpan.{span_of}
 use Rattle.bitvec.specs.Span.{Span, list_of, word_of}
-use Rattle.bitvec_slice.specs.declared.slice.BitSlice.{BitSlice}
+use Rattle.bitvec_slice.specs.declared.slice.bit_slice.BitSlice.{BitSlice}
 
 -- the memory that it reads
 abbrev pub slice_memory : {R O : Type 0} {a b c d e f g h i : _} → BitSlice R O a b c d e f g h i → List R

@@ -1,7 +1,7 @@
 -- What a `BitSliceMut` shows.
-use Rattle.std.specs.Prelude.{◌≡◌, ℕ, Bool, List, length, map}
+use Rattle.std.specs.Prelude.{◌≡◌, ℕ, Bool, List, map}
 use Rattle.std.specs.Borrow.{MutBor}
-use Rattle.bitvec.specs.Span.{Span, KeepsOthers, list_of}
+use Rattle.bitvec.specs.Span.{Span, BecomesList, list_of}
 use Rattle.bitvec_slice.specs.declared.slice.bit_slice_mut.BitSliceMut.{BitSliceMut}
 
 -- the memory that it borrows
@@ -24,8 +24,9 @@ lent_words {a = own} slice = map own.number (lent_memory slice).now
 abbrev pub lent_bits : {R O : Type 0} {a b c d e f g h i : _} → BitSliceMut R O a b c d e f g h i → List Bool
 lent_bits {a = own} {i = order} slice = list_of own.BITS order.at_of (lent_span slice) (lent_words slice)
 
--- a slice's bits become those of a list, and all else stays: its loan, its place, and every other bit of the memory
+-- A slice's bits become those of a list, and all else stays: its place, its loan, every other bit of the memory, and the
+-- list of every span beside it.
 abbrev pub BecomesBits : {R O : Type 0} {a b c d e f g h i : _} → (old new : BitSliceMut R O a b c d e f g h i) → List Bool → Type 0
 BecomesBits {a = own} {i = order} old new bits =
     (lent_bits new ≡ bits) × (lent_span new ≡ lent_span old) × ((lent_memory new).ghost_name ≡ (lent_memory old).ghost_name)
-    × KeepsOthers own.BITS order.at_of (lent_span old) (lent_words old) (lent_words new) × (length (lent_words new) ≡ length (lent_words old))
+    × BecomesList own.BITS order.at_of (lent_span old) (lent_words old) (lent_words new) bits

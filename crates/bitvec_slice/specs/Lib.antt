@@ -4,6 +4,5 @@ pub mod Bits
 pub mod Field
 pub mod Iter
 pub mod Ones
-pub mod SpanStretch
 pub mod Whole
 pub mod Words

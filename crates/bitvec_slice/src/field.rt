@@ -7,11 +7,11 @@
 
 ghost use Rattle.std.specs.Prelude.{◌≡◌, ℕ, ◌+◌, ◌-◌, ◌*◌, ◌/◌, ◌<◌, ◌≤◌, ◌==◌, ◌&&◌, ◌^◌, ◌%◌};
 ghost use Rattle.std.specs.Prelude.{Bool, true, false, nat_lt, if◌then◌else◌, length, map, refl};
-ghost use Rattle.bitvec.specs.BitSpan.{span_of, list_by};
+ghost use Rattle.bitvec.specs.BitSpan.{span_of, list_by, Becomes};
 ghost use Rattle.bitvec.specs.Digit.{digit};
 ghost use Rattle.bitvec.specs.Place.{words_met};
 ghost use Rattle.bitvec.specs.Slot.{slot_of, EditsPart};
-ghost use Rattle.bitvec.specs.Span.{Fits, KeepsOthers, element};
+ghost use Rattle.bitvec.specs.Span.{Fits, element};
 ghost use Rattle.bitvec_slice.specs.Field.{IsSequential, stretch_start, stretch_end, shift_at};
 ghost use Rattle.bitvec_slice.specs.Field.{place_in, word_at, le_bits, be_bits, field_bits};
 ghost use Rattle.bitvec_slice.specs.Field.{le_list, be_list, field_list, number_with};
@@ -212,21 +212,15 @@ fn store<R: BitRegister, O: Sequential<R>, N: BitRegister>(
     big: bool,
 )
     requires fits { Fits R.BITS (span_of span) (length memory.old) }
-    requires small { length (list_by span O.at_of memory.old)
-        ≤ N.BITS }
-    ensures list { list_by span O.at_of memory.new
-        ≡ field_list big R.BITS O.RISES (span_of span).head (lowest_digits
-        (length (list_by span O.at_of memory.old))
-        (N.number value)) }
+    requires small { length (list_by span O.at_of memory.old) ≤ N.BITS }
+    ensures stored { Becomes span O.at_of memory.old memory.new
+        (field_list big R.BITS O.RISES (span_of span).head
+        (lowest_digits (length (list_by span O.at_of memory.old)) (N.number value))) }
     ensures loaded { number_with (field_bits big R.BITS O.RISES (span_of span).head
         (list_by span O.at_of memory.new))
-        ≡ N.number value
-        % 2 ^ length (list_by span O.at_of memory.old) }
+        ≡ N.number value % 2 ^ length (list_by span O.at_of memory.old) }
     ensures parts { HasParts big R.BITS O.RISES (span_of span) (map R.number memory.new)
         (N.number value) }
-    ensures others { KeepsOthers R.BITS O.at_of (span_of span) (map R.number memory.old)
-        (map R.number memory.new) }
-    ensures words { length memory.new ≡ length memory.old }
 {
     for k in 0..span.elements() {
         let word = word_digits(span, k, value, big);

@@ -1,111 +1,18 @@
 //! Slices of bits, for reading and for writing.
 
-ghost use Rattle.std.specs.Prelude.{◌≡◌, ⊤, ◌<◌, ◌↔◌, IsTrue, IsSome, IfSome, length, map};
-ghost use Rattle.std.specs.Prelude.{slice_get};
-ghost use Rattle.bitvec.specs.BitSpan.{span_of, list_by};
-ghost use Rattle.bitvec.specs.Span.{Fits, element};
-
-use crate::slice::bit::read_bit;
-use bitvec::mem::BitRegister;
-use bitvec::order::BitOrder;
-use bitvec::ptr::span::BitSpan;
-use std::alloc::AllocError;
-
-mod bit;
+mod bit_slice;
 mod bit_slice_mut;
 mod edit;
 mod equal;
 mod find;
 mod iter;
+mod moves;
 mod ones;
-mod part;
+mod parts;
 mod same_words;
+mod whole;
 
+pub use self::bit_slice::BitSlice;
 pub use self::bit_slice_mut::BitSliceMut;
 pub use self::iter::Iter;
 pub use self::ones::{IterOnes, IterZeros};
-
-/// The bits of a span in a memory, for reading.
-///
-/// # Examples
-///
-/// ```
-/// let memory = [0x2Cu8];
-/// let span: BitSpan<u8, Lsb0> = BitSpan::new(0, BitIdx::new_unchecked(2), 4).unwrap();
-/// let slice = BitSlice::new(span, &memory).ok_or("outside")?;
-/// assert_eq!(rt; slice.get(0), Some(true));
-/// assert_eq!(rt; slice.get(4), None);
-/// assert_eq!(rt; slice.count_ones(), 3);
-/// assert_eq!(rt; slice.first_zero(), Some(2));
-/// ```
-pub struct BitSlice<'a, R: BitRegister, O: BitOrder<R>> {
-    pub(crate) memory: &'a [R],
-    pub(crate) span: BitSpan<R, O>,
-    pub ghost fits: { Fits R.BITS (span_of span) (length memory.now) },
-}
-
-impl<'a, R: BitRegister, O: BitOrder<R>> Clone for BitSlice<'a, R, O> {
-    ghost is_clone = { λ it copy. copy ≡ it };
-
-    ghost is_infallible = { λ _. ⊤ };
-
-    fn clone(&self) -> Result<Self, AllocError> {
-        Ok(*self)
-    }
-}
-
-impl<'a, R: BitRegister, O: BitOrder<R>> Copy for BitSlice<'a, R, O> {}
-
-impl<'a, R: BitRegister, O: BitOrder<R>> BitSlice<'a, R, O> {
-    ghost use Rattle.bitvec_slice.specs.BitSlice.{slice_memory, slice_span, slice_len, bits_of};
-
-    /// The bits of a span in a memory, and `None` exactly where the span does not lie in it.
-    pub fn new(span: BitSpan<R, O>, memory: &'a [R]) -> Option<Self>
-        ensures accepted { IsSome result ↔ Fits R.BITS (span_of span) (length memory.now) }
-        ensures memory { IfSome result (λ slice. slice_memory slice ≡ memory.now) }
-        ensures span { IfSome result (λ slice. slice_span slice ≡ span_of span) }
-        ensures bits { IfSome result (λ slice. bits_of slice
-            ≡ list_by span O.at_of memory.now) }
-    {
-        if span.fits(memory.len()) {
-            Some(BitSlice { memory, span })
-        } else {
-            None
-        }
-    }
-
-    /// How many bits there are.
-    pub fn len(&self) -> usize
-        ensures value { result ≡ slice_len self.now }
-        ensures list { result ≡ length (bits_of self.now) }
-    {
-        self.span.len()
-    }
-
-    /// Whether there are none.
-    pub fn is_empty(&self) -> bool
-        ensures { IsTrue result ↔ (slice_len self.now ≡ 0) }
-    {
-        self.len() == 0
-    }
-
-    /// The bit `i` places after the first, and `None` where there are no more than `i` bits.
-    pub fn get(&self, i: usize) -> Option<bool>
-        ensures { result ≡ slice_get (bits_of self.now) i }
-    {
-        if i < self.len() {
-            Some(self.get_unchecked(i))
-        } else {
-            None
-        }
-    }
-
-    /// The bit `i` places after the first. Requires that there is one: [`len`](BitSlice::len) is
-    /// the test.
-    pub fn get_unchecked(&self, i: usize) -> bool
-        requires { i < slice_len self.now }
-        ensures { result ≡ element (bits_of self.now) i }
-    {
-        read_bit(self.span, self.memory, i)
-    }
-}

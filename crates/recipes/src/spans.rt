@@ -1,9 +1,9 @@
 //! Spans whose numbers come from outside: each function tests what the call below it requires.
 
-ghost use Rattle.std.specs.Prelude.{◌≡◌, ◌↔◌, IsTrue, IsFalse, IsSome, IfSome, length, map};
+ghost use Rattle.std.specs.Prelude.{◌≡◌, ◌↔◌, IsTrue, IsFalse, IsSome, IfSome, length};
 ghost use Rattle.std.specs.Prelude.{replicate};
-ghost use Rattle.bitvec.specs.BitSpan.{span_of};
-ghost use Rattle.bitvec.specs.Span.{Fits, KeepsOthers, list_of};
+ghost use Rattle.bitvec.specs.BitSpan.{span_of, list_by, Becomes};
+ghost use Rattle.bitvec.specs.Span.{Fits};
 ghost use Rattle.bitvec_slice.specs.BitSlice.{bits_of, slice_len};
 ghost use Rattle.bitvec_slice.specs.Bits.{ones_in};
 
@@ -15,8 +15,7 @@ use bitvec_slice::slice::{BitSlice, BitSliceMut};
 /// How many bits of a span are ones, and `None` exactly where the span does not lie in the memory.
 pub fn ones_of<R: BitRegister, O: BitOrder<R>>(span: BitSpan<R, O>, memory: &[R]) -> Option<usize>
     ensures inside { IsSome result ↔ Fits R.BITS (span_of span) (length memory.now) }
-    ensures ones { IfSome result (λ ones. ones
-        ≡ ones_in (list_of R.BITS O.at_of (span_of span) (map R.number memory.now))) }
+    ensures ones { IfSome result (λ ones. ones ≡ ones_in (list_by span O.at_of memory.now)) }
 {
     Some(BitSlice::new(span, memory)?.count_ones())
 }
@@ -28,11 +27,8 @@ pub fn fill_if_inside<R: BitRegister, O: BitOrder<R>>(
     bit: bool,
 ) -> bool
     ensures inside { IsTrue result ↔ Fits R.BITS (span_of span) (length memory.old) }
-    ensures list { IsTrue result → list_of R.BITS O.at_of (span_of span) (map R.number memory.new)
-        ≡ replicate (span_of span).len bit }
-    ensures others { KeepsOthers R.BITS O.at_of (span_of span) (map R.number memory.old)
-        (map R.number memory.new) }
-    ensures words { length memory.new ≡ length memory.old }
+    ensures filled { IsTrue result → Becomes span O.at_of memory.old memory.new
+        (replicate (span_of span).len bit) }
     ensures refused { IsFalse result → memory.new ≡ memory.old }
 {
     if !span.fits(memory.len()) {
@@ -51,11 +47,8 @@ pub fn copy_if_inside<R: BitRegister, O: BitOrder<R>, R2: BitRegister, O2: BitOr
 ) -> bool
     ensures inside { IsTrue result ↔ (Fits R2.BITS (span_of span) (length memory.old)
         × (slice_len source.now ≡ (span_of span).len)) }
-    ensures list { IsTrue result → list_of R2.BITS O2.at_of (span_of span)
-        (map R2.number memory.new) ≡ bits_of source.now }
-    ensures others { KeepsOthers R2.BITS O2.at_of (span_of span) (map R2.number memory.old)
-        (map R2.number memory.new) }
-    ensures words { length memory.new ≡ length memory.old }
+    ensures copied { IsTrue result → Becomes span O2.at_of memory.old memory.new
+        (bits_of source.now) }
     ensures refused { IsFalse result → memory.new ≡ memory.old }
 {
     if !span.fits(memory.len()) || source.len() != span.len() {

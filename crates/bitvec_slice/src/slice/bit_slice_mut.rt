@@ -9,7 +9,6 @@ ghost use Rattle.bitvec.specs.Place.{place_at, region_max_bits, greatest_isize};
 ghost use Rattle.bitvec.specs.Span.{Fits, element};
 
 use crate::slice::BitSlice;
-use crate::slice::bit::write_bit;
 use bitvec::index::BitIdx;
 use bitvec::mem::BitRegister;
 use bitvec::order::BitOrder;
@@ -168,6 +167,6 @@ impl<'a, R: BitRegister, O: BitOrder<R>> BitSliceMut<'a, R, O> {
     {
         let span = self.span();
         let memory = &mut *self.memory;
-        write_bit(span, memory, i, bit);
+        span.write(memory, i, bit);
     }
 }

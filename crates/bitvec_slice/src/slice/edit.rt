@@ -6,10 +6,7 @@ ghost use Rattle.std.specs.List.{swap};
 ghost use Rattle.bitvec.specs.Memory.{list_with_copy};
 ghost use Rattle.bitvec.specs.Span.{element};
 
-use crate::slice::bit::{
-    copy_bits, copy_stretch, fill_stretch, reverse_bits, rotate_bits, shift_bits_left,
-    shift_bits_right, swap_bits,
-};
+use crate::slice::moves::{reverse_bits, rotate_bits, shift_bits_left, shift_bits_right};
 use crate::slice::{BitSlice, BitSliceMut};
 use bitvec::mem::BitRegister;
 use bitvec::order::BitOrder;
@@ -26,9 +23,9 @@ impl<'a, R: BitRegister, O: BitOrder<R>> BitSliceMut<'a, R, O> {
         ensures previous { result ≡ element (lent_bits self.old) i }
         ensures bits { BecomesBits self.old self.new (slice_set (lent_bits self.old) i bit) }
     {
-        let previous = self.get_unchecked(i);
-        self.set(i, bit);
-        previous
+        let span = self.span();
+        let memory = &mut *self.memory;
+        span.replace(memory, i, bit)
     }
 
     /// Makes each bit the same, word by word.
@@ -52,7 +49,7 @@ impl<'a, R: BitRegister, O: BitOrder<R>> BitSliceMut<'a, R, O> {
     {
         let span = self.span();
         let memory = &mut *self.memory;
-        fill_stretch(span, memory, from, to, bit);
+        span.range(from, to).fill(memory, bit);
     }
 
     /// Exchanges the bits `i` and `j` places after the first. Requires that there are both.
@@ -63,7 +60,7 @@ impl<'a, R: BitRegister, O: BitOrder<R>> BitSliceMut<'a, R, O> {
     {
         let span = self.span();
         let memory = &mut *self.memory;
-        swap_bits(span, memory, i, j);
+        span.swap(memory, i, j);
     }
 
     /// Copies the bits of a range to as many from number `dest` on, word by word. What is copied is
@@ -80,7 +77,7 @@ impl<'a, R: BitRegister, O: BitOrder<R>> BitSliceMut<'a, R, O> {
     {
         let span = self.span();
         let memory = &mut *self.memory;
-        copy_stretch(span, memory, src.start, dest, src.end - src.start);
+        span.copy_within(memory, src.start, dest, src.end - src.start);
     }
 
     /// Copies the bits of another slice, of any register and order, word by word. Requires that it
@@ -94,7 +91,7 @@ impl<'a, R: BitRegister, O: BitOrder<R>> BitSliceMut<'a, R, O> {
     {
         let span = self.span();
         let memory = &mut *self.memory;
-        copy_bits(source.span, source.memory, span, memory);
+        span.copy_from(memory, source.span, source.memory);
     }
 
     /// Puts the bits in the opposite order.

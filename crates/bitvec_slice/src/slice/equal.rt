@@ -11,7 +11,7 @@ use crate::slice::BitSlice;
 use crate::slice::same_words::{have_same_positions, have_same_words};
 use bitvec::index::{BitIdx, Limits};
 use bitvec::mem::BitRegister;
-use bitvec::order::{BitOrder, Lsb0, Msb0};
+use bitvec::order::{BitOrder, Direction, Lsb0, Msb0, direction_of};
 use bitvec::ptr::single::BitPtr;
 
 // The number of words in a block, which is gathered and compared at once.
@@ -100,10 +100,10 @@ impl<'a, R: BitRegister, O: BitOrder<R>> BitSlice<'a, R, O> {
         }
         // A block is gathered word by word where its order runs the way of the slice's, else bit by
         // bit.
-        if O::at(BitIdx::MIN).into_inner() == 0 {
-            are_same::<R, O, R2, O2, Lsb0>(self, other)
-        } else {
+        if direction_of::<R, O>() == Direction::Falls {
             are_same::<R, O, R2, O2, Msb0>(self, other)
+        } else {
+            are_same::<R, O, R2, O2, Lsb0>(self, other)
         }
     }
 }

@@ -4,7 +4,7 @@ ghost use Rattle.std.specs.Prelude.{◌≡◌, ⊤, ◌^◌, ◌<◌, ◌-◌, S
 ghost use Rattle.std.specs.Iterator.{YieldsFirst, YieldsLast, item_count, at_most, UpTo};
 ghost use Rattle.std.specs.Iterator.{MakesProgress};
 ghost use Rattle.std.specs.Iterator.SizeHint.{IsWithinCount};
-ghost use Rattle.bitvec_slice.specs.SpanStretch.{stretch_of};
+ghost use Rattle.bitvec.specs.Span.{span_from};
 
 use crate::slice::BitSlice;
 use bitvec::mem::BitRegister;
@@ -71,7 +71,7 @@ impl<'a, R: BitRegister, O: BitOrder<R>> Iterator for Iter<'a, R, O> {
         ensures memory { rest_memory self.new ≡ rest_memory self.old }
         ensures span { let left = rest_span self.old
             in MatchOption result (rest_span self.new ≡ left)
-            (λ _. rest_span self.new ≡ stretch_of R.BITS left 1 left.len) }
+            (λ _. rest_span self.new ≡ span_from R.BITS left 1) }
     {
         let bit = self.rest.first()?;
         let (_, behind) = self.rest.split_at(1);

@@ -4,6 +4,7 @@ use Rattle.bitvec.specs.BitSpan.{span_of}
 use Rattle.bitvec.specs.Digit.{digit}
 use Rattle.bitvec.specs.Place.{words_met}
 use Rattle.bitvec.specs.Span.{Fits, element, list_of}
+use Rattle.bitvec.proofs.BecomesLemmas.{becomes, numbers-many}
 use Rattle.bitvec.proofs.MemoryLemmas.{length-tabulate}
 use Rattle.bitvec.proofs.PartLemmas.{length-list_of}
 use Rattle.bitvec.proofs.WordLemmas.{becomes-edited}
@@ -51,8 +52,8 @@ pub word_digits-word-requires-clause-small : goal.word_digits-word-requires-clau
 word_digits-word-requires-clause-small g c =
     omega (arith, c.requires.small, length-list_of g.R.BitRegister.BITS g.O.BitAt.at_of (span_of c.args.span) (map g.R.BitRegister.number c.args.memory.now))
 
-pub returns-clause-list : goal.returns-clause-list
-returns-clause-list g c =
+pub returns-clause-stored : goal.returns-clause-stored
+returns-clause-stored g c =
     let width = g.R.BitRegister.BITS in
     let at = g.O.BitAt.at_of in
     let span = c.args.span in
@@ -60,10 +61,12 @@ returns-clause-list g c =
     let first = list_of width at (span_of span) (map g.R.BitRegister.number c.args.memory.now) in
     let xs = λ (n : ℕ). field_list c.args.big width g.O.Sequential.RISES span.head (lowest_digits n value) in
     let all : c.loop-k.k ≡ words_met width span.head span.len = omega (arith, c.loop-k-test.false, c.loop-k.auto.k-end, c.elements-k-end.ensures.value) in
-    c.loop-k.invariant.list
+    becomes width at (span_of span) (map g.R.BitRegister.number c.args.memory.now) (map g.R.BitRegister.number c.loop-k.memory) _
+    (c.loop-k.invariant.list
     ∙ ap (λ (k : ℕ). stored_before width span.head span.len k (xs span.len) first) all
     ∙ stored_all width span.head span.len (xs span.len) first (omega (arith, g.met.R.BitRegister.width_at_least_8)) (length-field_list c.args.big width g.O.Sequential.RISES span.head (lowest_digits span.len value) ∙ length-tabulate span.len (digit value))
-    ∙ ap xs (sym (length-list_of width at (span_of span) (map g.R.BitRegister.number c.args.memory.now)))
+    ∙ ap xs (sym (length-list_of width at (span_of span) (map g.R.BitRegister.number c.args.memory.now))))
+    c.loop-k.invariant.others (numbers-many g.R.BitRegister.number c.args.memory.now c.loop-k.memory c.loop-k.invariant.words)
 
 pub returns-clause-loaded : goal.returns-clause-loaded
 returns-clause-loaded g c =
@@ -72,7 +75,7 @@ returns-clause-loaded g c =
     let span = c.args.span in
     let eight = g.met.R.BitRegister.width_at_least_8 in
     let first = list_of width g.O.BitAt.at_of (span_of span) (map g.R.BitRegister.number c.args.memory.now) in
-    ap (λ (ys : List Bool). number_with (field_bits c.args.big width rises span.head ys)) (returns-clause-list g c)
+    ap (λ (ys : List Bool). number_with (field_bits c.args.big width rises span.head ys)) (returns-clause-stored g c).list
     ∙ stored_loads c.args.big rises width span.head (length first) (g.N.BitRegister.number c.args.value) (omega (arith, eight)) (omega (arith, span.in_word, eight))
 
 pub returns-clause-parts : goal.returns-clause-parts

@@ -5,7 +5,7 @@ use Rattle.bitvec.specs.Memory.{memory_bits}
 use Rattle.bitvec.specs.Span.{Fits}
 use Rattle.bitvec.proofs.PartLemmas.{length-list_of}
 use Rattle.bitvec_slice.specs.BitSlice.{slice_memory, slice_span}
-use Rattle.bitvec_slice.proofs.CopiedLemmas.{range_in}
+use Rattle.bitvec.proofs.PointerLemmas.{range-in}
 use Rattle.bitvec_slice.proofs.EqualLemmas.{copied_block}
 use Rattle.bitvec_slice.proofs.slice.equal.block_of.Goals as goal
 
@@ -14,7 +14,7 @@ copy_to-requires-clause-from_in g c =
     let width = g.R.BitRegister.BITS in
     let slice = c.args.slice.now in
     let many = length-list_of width g.O.BitAt.at_of (slice_span slice) (map g.R.BitRegister.number (slice_memory slice)) in
-    range_in width (length (slice_memory slice)) c.len.result (slice_span slice) (ptr_of c.to_bitptr-source.result) c.to_bitptr-source.ensures.pointer (omega (arith, c.len.ensures.list, many)) slice.fits
+    range-in width (length (slice_memory slice)) c.len.result (slice_span slice) (ptr_of c.to_bitptr-source.result) c.to_bitptr-source.ensures.pointer (omega (arith, c.len.ensures.list, many)) slice.fits
 
 pub returns : goal.returns
 returns g c =

@@ -1,9 +1,10 @@
-use Rattle.std.proofs.Common.{Bool, List, ◌-◌, map, refl}
-use Rattle.std.proofs.lemmas.List.{length-map}
+use Rattle.std.proofs.Common.{Bool, List, map, refl}
 use Rattle.bitvec.specs.BitSpan.{span_of}
+use Rattle.bitvec.specs.Span.{Span, list_of}
+use Rattle.std.proofs.Common.{◌-◌}
 use Rattle.bitvec.specs.Memory.{list_with_copy}
 use Rattle.bitvec_slice.specs.BitSliceMut.{lent_span, lent_words}
-use Rattle.bitvec_slice.proofs.EditLemmas.{list_at, others_at}
+use Rattle.bitvec_slice.proofs.SpanEdits.{edit-named}
 use Rattle.bitvec_slice.proofs.slice.bit_slice_mut.BitSliceMut.copy_within.Goals as goal
 
 pub returns : goal.returns
@@ -11,9 +12,10 @@ returns g c =
     let width = g.R.BitRegister.BITS in
     let at = g.O.BitAt.at_of in
     let number = g.R.BitRegister.number in
-    let part = span_of c.span-span.result in
     let span = lent_span c.args.self.now in
     let old = lent_words c.args.self.now in
-    let new = map number c.copy_stretch.new.memory in
-    let edit = λ (xs : List Bool). list_with_copy xs c.args.src.start xs c.args.dest (c.args.src.end - c.args.src.start) in
-    (list_at width at part span old new edit c.span-span.ensures c.copy_stretch.ensures.list, refl, refl, others_at width at part span old new c.span-span.ensures c.copy_stretch.ensures.others, simp length-map c.copy_stretch.ensures.words)
+    let new = map number c.copy_within.new.memory in
+    let copied = λ (xs : List Bool). list_with_copy xs c.args.src.start xs c.args.dest (c.args.src.end - c.args.src.start) in
+    let bits = λ (s : Span). copied (list_of width at s old) in
+    let edit = edit-named width at (span_of c.span-span.result) span old new bits c.span-span.ensures c.copy_within.ensures in
+    (edit.list, refl, refl, edit)

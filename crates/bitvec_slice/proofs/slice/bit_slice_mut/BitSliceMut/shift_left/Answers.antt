@@ -1,8 +1,9 @@
-use Rattle.std.proofs.Common.{Bool, false, List, ◌++◌, drop, replicate, map, refl}
-use Rattle.std.proofs.lemmas.List.{length-map}
+use Rattle.std.proofs.Common.{map, refl}
 use Rattle.bitvec.specs.BitSpan.{span_of}
+use Rattle.bitvec.specs.Span.{Span, list_of}
+use Rattle.std.proofs.Common.{◌++◌, false, drop, replicate}
 use Rattle.bitvec_slice.specs.BitSliceMut.{lent_span, lent_words}
-use Rattle.bitvec_slice.proofs.EditLemmas.{list_at, others_at}
+use Rattle.bitvec_slice.proofs.SpanEdits.{edit-named}
 use Rattle.bitvec_slice.proofs.slice.bit_slice_mut.BitSliceMut.shift_left.Goals as goal
 
 pub returns : goal.returns
@@ -10,9 +11,9 @@ returns g c =
     let width = g.R.BitRegister.BITS in
     let at = g.O.BitAt.at_of in
     let number = g.R.BitRegister.number in
-    let part = span_of c.span-span.result in
     let span = lent_span c.args.self.now in
     let old = lent_words c.args.self.now in
     let new = map number c.shift_bits_left.new.memory in
-    let edit = λ (xs : List Bool). drop c.args.by xs ++ replicate c.args.by false in
-    (list_at width at part span old new edit c.span-span.ensures c.shift_bits_left.ensures.list, refl, refl, others_at width at part span old new c.span-span.ensures c.shift_bits_left.ensures.others, simp length-map c.shift_bits_left.ensures.words)
+    let bits = λ (s : Span). drop c.args.by (list_of width at s old) ++ replicate c.args.by false in
+    let edit = edit-named width at (span_of c.span-span.result) span old new bits c.span-span.ensures c.shift_bits_left.ensures in
+    (edit.list, refl, refl, edit)

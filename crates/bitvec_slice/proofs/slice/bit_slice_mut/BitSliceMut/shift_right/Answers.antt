@@ -1,8 +1,9 @@
-use Rattle.std.proofs.Common.{Bool, false, List, ◌-◌, ◌++◌, length, take, replicate, map, refl}
-use Rattle.std.proofs.lemmas.List.{length-map}
+use Rattle.std.proofs.Common.{map, refl}
 use Rattle.bitvec.specs.BitSpan.{span_of}
+use Rattle.bitvec.specs.Span.{Span, list_of}
+use Rattle.std.proofs.Common.{◌++◌, ◌-◌, false, length, take, replicate}
 use Rattle.bitvec_slice.specs.BitSliceMut.{lent_span, lent_words}
-use Rattle.bitvec_slice.proofs.EditLemmas.{list_at, others_at}
+use Rattle.bitvec_slice.proofs.SpanEdits.{edit-named}
 use Rattle.bitvec_slice.proofs.slice.bit_slice_mut.BitSliceMut.shift_right.Goals as goal
 
 pub returns : goal.returns
@@ -10,9 +11,9 @@ returns g c =
     let width = g.R.BitRegister.BITS in
     let at = g.O.BitAt.at_of in
     let number = g.R.BitRegister.number in
-    let part = span_of c.span-span.result in
     let span = lent_span c.args.self.now in
     let old = lent_words c.args.self.now in
     let new = map number c.shift_bits_right.new.memory in
-    let edit = λ (xs : List Bool). replicate c.args.by false ++ take (length xs - c.args.by) xs in
-    (list_at width at part span old new edit c.span-span.ensures c.shift_bits_right.ensures.list, refl, refl, others_at width at part span old new c.span-span.ensures c.shift_bits_right.ensures.others, simp length-map c.shift_bits_right.ensures.words)
+    let bits = λ (s : Span). replicate c.args.by false ++ take (length (list_of width at s old) - c.args.by) (list_of width at s old) in
+    let edit = edit-named width at (span_of c.span-span.result) span old new bits c.span-span.ensures c.shift_bits_right.ensures in
+    (edit.list, refl, refl, edit)

@@ -1,0 +1,83 @@
+use Rattle.std.proofs.Common.{◌≡◌, ℕ, ◌+◌, ◌*◌, ◌-◌, ◌/◌, ◌<◌, ◌≤◌, not, map, sym, ap, ◌∙◌, arith}
+use Rattle.std.proofs.lemmas.Nat.{div-add-mod', le-div, pow_pos}
+use Rattle.std.proofs.Math.Nat.{mul-le-mul_right}
+use Rattle.bitvec.specs.Digit.{digit}
+use Rattle.bitvec_slice.specs.BitSlice.{slice_memory, slice_span}
+use Rattle.bitvec_slice.proofs.SkipLemmas.{all_zero, all_one, words_before, passed_bounds, skipped_elements}
+use Rattle.bitvec_slice.proofs.slice.bit_slice.BitSlice.pass_words.Goals as goal
+use Rattle.bitvec_slice.proofs.slice.bit_slice.BitSlice.pass_words.Goals.{then-bit, else-bit}
+
+pub first_other-requires-clause-met : goal.first_other-requires-clause-met
+first_other-requires-clause-met g c =
+    let slice = c.args.self.now in
+    words_before g.R.BitRegister.BITS c.bits_of-width.result slice.span.head c.head-head.result slice.span.len c.args.upto c.bits_of-width.ensures.value c.head-head.ensures (omega (arith, slice.span.in_word, g.met.R.BitRegister.width_at_least_8)) c.requires.inside
+
+pub returns-clause-lacking : goal.returns-clause-lacking
+returns-clause-lacking g c =
+    let slice = c.args.self.now in
+    let bits = g.R.BitRegister.BITS in
+    let number = g.R.BitRegister.number in
+    let width = c.bits_of-width.result in
+    let index = c.head-head.result in
+    let r = c.first_other.result in
+    let whole : (index + c.args.from) / width * width ≡ index + c.args.from = omega (arith, c.if-k-width.false) in
+    let within = passed_bounds bits width slice.span.head index slice.span.len c.args.from c.args.upto r c.bits_of-width.ensures.value c.head-head.ensures whole c.first_other.ensures.start c.first_other.ensures.end c.requires.inside in
+    let digits : (p : ℕ) → p < bits → digit (number c.if-bit.lacking) p ≡ not c.args.bit =
+    elim c.if-bit.branch [
+      | then-bit w ↦ λ p small. all_zero _ p (ap number (w.lacking-is ∙ w.ZERO-lacking.ensures) ∙ g.met.R.BitRegister.zero_is_0) ∙ sym (ap not w.if-bit.true)
+      | else-bit w ↦ λ p small. all_one bits _ p (ap number (w.lacking-is ∙ w.ALL-lacking.ensures) ∙ g.met.R.BitRegister.all_is_greatest) small ∙ sym (ap not w.if-bit.false)
+    ] in
+    skipped_elements bits g.O.BitAt.at_of (slice_span slice) (map number (slice_memory slice)) (number c.if-bit.lacking) ((index + c.args.from) / width) r c.args.from (r * width - index) (not c.args.bit) g.met.O.BitOrder.one_to_one
+    (omega (arith, g.met.R.BitRegister.width_at_least_8)) c.first_other.ensures.words digits within.0 within.1 within.2
+
+pub first_other-requires-clause-ordered : goal.first_other-requires-clause-ordered
+first_other-requires-clause-ordered g c =
+    let width = c.bits_of-width.result in
+    let index = c.head-head.result in
+    let k = (index + c.args.from) / width in
+    let low : k * width ≤ index + c.args.upto = omega (arith, c.if-k-width.false, c.requires.ordered) in
+    le-div k (index + c.args.upto) width (omega (arith, c.bits_of-width.ensures.least)) low
+
+pub first_other-requires-clause-below : goal.first_other-requires-clause-below
+first_other-requires-clause-below g c =
+    let bits = g.R.BitRegister.BITS in
+    let number = g.R.BitRegister.number in
+    let some = pow_pos bits in
+    elim c.if-bit.branch [
+      | then-bit w ↦ (let zero = ap number (w.lacking-is ∙ w.ZERO-lacking.ensures) ∙ g.met.R.BitRegister.zero_is_0 in omega (arith, zero, some))
+      | else-bit w ↦ (let all = ap number (w.lacking-is ∙ w.ALL-lacking.ensures) ∙ g.met.R.BitRegister.all_is_greatest in omega (arith, all, some))
+    ]
+
+pub overflow_sub-result : goal.overflow_sub-result
+overflow_sub-result g c =
+    let width = c.bits_of-width.result in
+    let below = mul-le-mul_right width c.first_other.ensures.start in
+    omega (arith, below, c.if-k-width.false)
+
+pub returns-clause-start : goal.returns-clause-start
+returns-clause-start g c =
+    let below = mul-le-mul_right c.bits_of-width.result c.first_other.ensures.start in
+    omega (arith, below, c.if-k-width.false)
+
+pub returns-clause-end : goal.returns-clause-end
+returns-clause-end g c =
+    let width = c.bits_of-width.result in
+    let above = mul-le-mul_right width c.first_other.ensures.end in
+    omega (arith, above, div-add-mod' (c.head-head.result + c.args.upto) width)
+
+pub overflow_mul-k : goal.overflow_mul-k
+overflow_mul-k g c =
+    let slice = c.args.self.now in
+    let parts = div-add-mod' (c.head-head.result + c.args.from) c.bits_of-width.result in
+    omega (arith, parts, c.head-head.ensures, c.requires.ordered, c.requires.inside, slice.span.short, slice.span.in_word, g.met.R.BitRegister.width_at_most_128)
+
+pub overflow_mul-result : goal.overflow_mul-result
+overflow_mul-result g c =
+    let slice = c.args.self.now in
+    let width = c.bits_of-width.result in
+    let above = mul-le-mul_right width c.first_other.ensures.end in
+    let parts = div-add-mod' (c.head-head.result + c.args.upto) width in
+    omega (arith, above, parts, c.head-head.ensures, c.requires.inside, slice.span.short, slice.span.in_word, g.met.R.BitRegister.width_at_most_128)
+
+pub returns-then-k-width-clause-lacking : goal.returns-then-k-width-clause-lacking
+returns-then-k-width-clause-lacking g c = λ j h k. absurd (omega (arith, h, k))

@@ -1,0 +1,91 @@
+//! Slices of a whole memory.
+
+ghost use Rattle.std.specs.Prelude.{◌≡◌, pos, ◌*◌, ◌-◌, ◌^◌, ◌<◌, ◌≤◌, ◌↔◌, IsOk, IfOk, IfErr};
+ghost use Rattle.std.specs.Prelude.{Err, min, length, map};
+ghost use Rattle.bitvec.specs.BitSpan.{span_of};
+ghost use Rattle.bitvec.specs.Memory.{memory_bits};
+ghost use Rattle.bitvec.specs.Place.{region_max_bits};
+ghost use Rattle.bitvec.specs.Span.{Fits};
+ghost use Rattle.bitvec_slice.specs.Whole.{whole_span};
+
+use crate::slice::{BitSlice, BitSliceMut};
+use bitvec::index::{BitIdx, Limits};
+use bitvec::mem::BitRegister;
+use bitvec::order::BitOrder;
+use bitvec::ptr::span::{BitSpan, BitSpanError};
+
+// The span of all bits of a memory of so many words.
+fn span_of_all<R: BitRegister, O>(words: usize) -> Result<BitSpan<R, O>, BitSpanError<R>>
+    ensures accepted { IsOk result ↔ (words * R.BITS ≤ region_max_bits) }
+    ensures refused { (result ≡ Err (BitSpanError.TooLong (min (words * R.BITS) usize.MAX)))
+        ↔ (region_max_bits < words * R.BITS) }
+    ensures span { IfOk result (λ span. span_of span ≡ whole_span R.BITS words) }
+    ensures fits { IfOk result (λ span. Fits R.BITS (span_of span) words) }
+{
+    BitSpan::new(0, BitIdx::MIN, words.saturating_mul(usize::from(R::BITS)))
+}
+
+impl<'a, R: BitRegister, O: BitOrder<R>> BitSlice<'a, R, O> {
+    ghost use Rattle.bitvec_slice.specs.BitSlice.{slice_memory, slice_span, bits_of};
+
+    /// Every bit of a memory.
+    ///
+    /// It refuses with `TooLong` of the number of bits, or of `usize::MAX` where that is passed, a
+    /// memory of more than 2305843009213693951 bits.
+    pub fn all(memory: &'a [R]) -> Result<Self, BitSpanError<R>>
+        ensures accepted { IsOk result ↔ (length memory.now * R.BITS ≤ region_max_bits) }
+        ensures refused { let bits = length memory.now * R.BITS
+            in (result ≡ Err (BitSpanError.TooLong (min bits usize.MAX)))
+            ↔ (region_max_bits < bits) }
+        ensures memory { IfOk result (λ slice. slice_memory slice ≡ memory.now) }
+        ensures span { IfOk result (λ slice. slice_span slice
+            ≡ whole_span R.BITS (length memory.now)) }
+        ensures bits { IfOk result (λ slice. bits_of slice
+            ≡ memory_bits R.BITS O.at_of (map R.number memory.now)) }
+    {
+        let span = span_of_all(memory.len())?;
+        Ok(BitSlice { memory, span })
+    }
+}
+
+impl<'a, R: BitRegister, O: BitOrder<R>> BitSliceMut<'a, R, O> {
+    ghost use Rattle.bitvec_slice.specs.BitSliceMut.{lent_memory, lent_span, lent_bits};
+
+    /// Every bit of a memory. Requires that there are at most 2305843009213693951. Our own.
+    pub fn all_unchecked(memory: &'a mut [R]) -> Self
+        requires { length memory.old * R.BITS ≤ region_max_bits }
+        ensures reference { (lent_memory result).ghost_name ≡ memory.entry.ghost_name }
+        ensures memory { (lent_memory result).now ≡ memory.old }
+        ensures span { lent_span result ≡ whole_span R.BITS (length memory.old) }
+        ensures bits { lent_bits result ≡ memory_bits R.BITS O.at_of (map R.number memory.old) }
+    {
+        let span = span_of_all(memory.len()).unwrap();
+        Self::new_unchecked(span, memory)
+    }
+
+    /// Every bit of a memory.
+    ///
+    /// It refuses as [`all`](BitSlice::all) of a [`BitSlice`] does, and then gives the memory back
+    /// as it was.
+    pub fn all(memory: &'a mut [R]) -> Result<Self, (BitSpanError<R>, &'a mut [R])>
+        ensures accepted { IsOk result ↔ (length memory.old * R.BITS ≤ region_max_bits) }
+        ensures refused { let bits = length memory.old * R.BITS
+            in IfErr result (λ it. it.0 ≡ BitSpanError.TooLong (min bits usize.MAX)) }
+
+        // What is given back is the loan itself, and its words stay.
+        ensures back { IfErr result (λ it. it.1.ghost_name ≡ memory.entry.ghost_name) }
+        ensures kept { IfErr result (λ it. it.1.now ≡ memory.old) }
+        ensures reference { IfOk result (λ slice. (lent_memory slice).ghost_name
+            ≡ memory.entry.ghost_name) }
+        ensures memory { IfOk result (λ slice. (lent_memory slice).now ≡ memory.old) }
+        ensures span { IfOk result (λ slice. lent_span slice
+            ≡ whole_span R.BITS (length memory.old)) }
+        ensures bits { IfOk result (λ slice. lent_bits slice
+            ≡ memory_bits R.BITS O.at_of (map R.number memory.old)) }
+    {
+        match span_of_all(memory.len()) {
+            Ok(span) => Ok(Self::new_unchecked(span, memory)),
+            Err(error) => Err((error, memory)),
+        }
+    }
+}
