@@ -206,9 +206,11 @@ fn fill<R: BitRegister, O: BitOrder<R>>(
 /// ```
 /// let span: BitSpan<u8, Lsb0> = BitSpan::at(4, 8).unwrap();
 /// let mut memory = [0x12u8, 0x34];
-/// assert_eq!(rt; step(span, &mut memory, Command::Replace(7, true)), Reply::Bit(false));
+/// let reply = step(span, &mut memory, Command::Replace(7, true));
+/// assert_eq!(rt; reply, Reply::Bit(false));
 /// assert_eq!(rt; memory, [0x12, 0x3C]);
-/// assert_eq!(rt; step(span, &mut memory, Command::Replace(8, true)), Reply::PastEnd);
+/// let reply = step(span, &mut memory, Command::Replace(8, true));
+/// assert_eq!(rt; reply, Reply::PastEnd);
 /// assert_eq!(rt; memory, [0x12, 0x3C]);
 /// ```
 pub fn step<R: BitRegister, O: BitOrder<R>>(
