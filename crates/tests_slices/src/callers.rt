@@ -1,22 +1,22 @@
 //! Callers.
 
-ghost use Rattle.std.specs.Prelude.{◌≡◌, ◌≤◌, ◌↔◌, IsTrue, IsFalse, true, false, length, map};
+ghost use Rattle.std.specs.Prelude.{◌≡◌, ◌≢◌, ◌≤◌, ◌↔◌, IsTrue, IsFalse, true, false, length, map};
 ghost use Rattle.std.specs.Prelude.{slice_set};
-ghost use Rattle.bitvec.specs.BitSpan.{span_of};
-ghost use Rattle.bitvec.specs.Span.{Fits, KeepsOthers, list_of};
+ghost use Rattle.bitvec.specs.BitSpan.{span_of, list_by};
+ghost use Rattle.bitvec.specs.Span.{Fits, KeepsOthers, span_from};
+ghost use Rattle.bitvec_slice.specs.BitSlice.{slice_memory, slice_span, slice_len};
 
 use bitvec::mem::BitRegister;
 use bitvec::order::BitOrder;
 use bitvec::ptr::span::BitSpan;
-use bitvec_slice::slice::BitSliceMut;
+use bitvec_slice::slice::{BitSlice, BitSliceMut};
 
 /// Two bits.
 fn set_two<R: BitRegister, O: BitOrder<R>>(span: BitSpan<R, O>, memory: &mut [R]) -> bool
     requires { 2 ≤ (span_of span).len }
     ensures fits { IsTrue result ↔ Fits R.BITS (span_of span) (length memory.old) }
-    ensures list { IsTrue result → list_of R.BITS O.at_of (span_of span) (map R.number memory.new)
-        ≡ slice_set (slice_set (list_of R.BITS O.at_of (span_of span) (map R.number memory.old)) 0
-        true) 1 false }
+    ensures list { IsTrue result → list_by span O.at_of memory.new
+        ≡ slice_set (slice_set (list_by span O.at_of memory.old) 0 true) 1 false }
     ensures others { KeepsOthers R.BITS O.at_of (span_of span) (map R.number memory.old)
         (map R.number memory.new) }
     ensures words { length memory.new ≡ length memory.old }
@@ -29,4 +29,17 @@ fn set_two<R: BitRegister, O: BitOrder<R>>(span: BitSpan<R, O>, memory: &mut [R]
     slice.set(0, true);
     slice.set(1, false);
     true
+}
+
+/// What an iterator has left after one bit.
+fn behind_the_first<'a, R: BitRegister, O: BitOrder<R>>(
+    slice: BitSlice<'a, R, O>,
+) -> BitSlice<'a, R, O>
+    requires { slice_len slice ≢ 0 }
+    ensures memory { slice_memory result ≡ slice_memory slice.entry }
+    ensures span { slice_span result ≡ span_from R.BITS (slice_span slice.entry) 1 }
+{
+    let mut bits = slice.iter();
+    bits.next();
+    bits.as_bitslice()
 }

@@ -17,8 +17,8 @@ span-own-requires g c =
     let none : PlainSpan = record { start = 0; count = 0 } in
     c.requires.short c.args.request.now.span none (omega arith)
 
-pub step-requires-clause-fits : goal.step-requires-clause-fits
-step-requires-clause-fits g c =
+pub step-requires : goal.step-requires
+step-requires g c =
     let none : PlainSpan = record { start = 0; count = 0 } in
     subst (λ (s : Span). Fits g.R.BitRegister.BITS s (length c.args.memory.now)) (sym c.span-own.ensures.span) (c.requires.can_run.0 c.args.request.now.span none (omega arith))
 

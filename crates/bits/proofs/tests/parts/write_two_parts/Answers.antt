@@ -1,8 +1,29 @@
-use Rattle.std.proofs.Common.{rules, ℤ, ℕ, List, sym, subst, ◌∙◌}
-use Rattle.std.specs.Prelude.{All}
+use Rattle.std.proofs.Common.{◌≡◌, rules, ℤ, ℕ, ◌-◌, Bool, true, List, ◌++◌, length, map, take, drop, replicate, sym, ap, subst, ◌∙◌, arith}
+use Rattle.std.specs.Prelude.{All, slice_index_or}
+use Rattle.std.proofs.lemmas.List.{append-nil, length-drop, nil_from_length}
 use Rattle.bitvec.specs.Run.{IsOutside}
 use Rattle.bitvec.specs.Span.{Span, AreDisjoint}
+use Rattle.bitvec.proofs.PartLemmas.{length-list_of}
+use Rattle.bits.specs.Interval.{no_span}
+use Rattle.bits.specs.View.{lent_memory, part_list, part_span}
 use Rattle.bits.proofs.tests.parts.write_two_parts.Goals as goal
+
+-- a list that is filled from end to end
+all_filled : (n : ℕ) (xs ys : List Bool) (b : Bool) → ys ≡ take 0 xs ++ replicate (n - 0) b ++ drop n xs → length xs ≡ n → ys ≡ replicate n b
+all_filled n xs ys b is long =
+    let all : n - 0 ≡ n = omega arith in
+    is ∙ ap (λ m. replicate m b ++ drop n xs) all ∙ ap (λ zs. replicate n b ++ zs) (nil_from_length (drop n xs) (omega (arith, long, length-drop n xs))) ∙ append-nil (replicate n b)
+
+pub returns-clause-second : goal.returns-clause-second
+returns-clause-second g c =
+    let made = c.new_unchecked-parts.ensures.spans in
+    let same = c.set.ensures.spans in
+    let old = part_list c.set.new.self 1 in
+    let long : length old ≡ c.len-len.result =
+    length-list_of g.R.BitRegister.BITS g.O.BitAt.at_of (part_span c.set.new.self 1) (map g.R.BitRegister.number (lent_memory c.set.new.self).now) ∙ sym c.len-len.ensures in
+    let len : c.len-len.result ≡ c.args.b.len = c.len-len.ensures ∙ ap (λ (spans : List Span). (slice_index_or spans 1 no_span).len) (same ∙ made) in
+    let filled : part_list c.fill.new.self 1 ≡ replicate c.args.b.len true = all_filled c.len-len.result old (part_list c.fill.new.self 1) true c.fill.ensures.edited long ∙ ap (λ n. replicate n true) len in
+    search (rules, filled)
 
 pub returns-clause-others : goal.returns-clause-others
 returns-clause-others g c =
