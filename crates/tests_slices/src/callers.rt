@@ -1,10 +1,10 @@
 //! Callers.
 
-ghost use Rattle.std.specs.Prelude.{◌≡◌, ◌≢◌, ◌≤◌, ◌↔◌, IsTrue, IsFalse, true, false, length, map};
+ghost use Rattle.std.specs.Prelude.{◌≡◌, ◌≤◌, ◌↔◌, IfSome, IsTrue, IsFalse, true, false, length, map};
 ghost use Rattle.std.specs.Prelude.{slice_set};
 ghost use Rattle.bitvec.specs.BitSpan.{span_of, list_by};
 ghost use Rattle.bitvec.specs.Span.{Fits, KeepsOthers, span_from};
-ghost use Rattle.bitvec_slice.specs.BitSlice.{slice_memory, slice_span, slice_len};
+ghost use Rattle.bitvec_slice.specs.BitSlice.{slice_memory, slice_span};
 
 use bitvec::mem::BitRegister;
 use bitvec::order::BitOrder;
@@ -31,15 +31,15 @@ fn set_two<R: BitRegister, O: BitOrder<R>>(span: BitSpan<R, O>, memory: &mut [R]
     true
 }
 
-/// What an iterator has left after one bit.
+/// What an iterator has left after one bit, and `None` where it has none.
 fn behind_the_first<'a, R: BitRegister, O: BitOrder<R>>(
     slice: BitSlice<'a, R, O>,
-) -> BitSlice<'a, R, O>
-    requires { slice_len slice ≢ 0 }
-    ensures memory { slice_memory result ≡ slice_memory slice.entry }
-    ensures span { slice_span result ≡ span_from R.BITS (slice_span slice.entry) 1 }
+) -> Option<BitSlice<'a, R, O>>
+    ensures memory { IfSome result (λ rest. slice_memory rest ≡ slice_memory slice.entry) }
+    ensures span { IfSome result (λ rest. slice_span rest
+        ≡ span_from R.BITS (slice_span slice.entry) 1) }
 {
     let mut bits = slice.iter();
-    bits.next();
-    bits.as_bitslice()
+    bits.next()?;
+    Some(bits.as_bitslice())
 }
