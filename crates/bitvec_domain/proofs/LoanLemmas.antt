@@ -9,8 +9,10 @@ use Rattle.bitvec_ptr.proofs.PlaceLemmas.{words_met-none, words_met-some}
 use Rattle.bitvec_domain.specs.Span.{Span}
 use Rattle.bitvec_domain.proofs.PartLemmas.{part_same}
 use Rattle.bitvec_domain.proofs.SliceLemmas.{map-slice}
-use Rattle.bitvec_domain.specs.Parts.{enclave, region, part_of, parts_of}
+use Rattle.bitvec_domain.specs.Parts.{Parts, enclave, region, part_of, parts_of}
 use Rattle.bitvec_domain.specs.Slot.{Slot, slot_part, slot_at}
+use Rattle.bitvec_domain.specs.declared.domain.shape.Shape.{Shape}
+use Rattle.bitvec_domain.specs.Shape.{shape_of}
 use Rattle.bitvec_domain.specs.Loans.{loan_parts, loan_at, is_inside, has_head, has_tail, words_before, body_words, span_loans}
 
 -- what holds of each row of the table of a span's parts, holds
@@ -109,6 +111,16 @@ module _ (bits : ℕ) (span : Span) where
     body-is : (i n from upto : ℕ) → i ≡ from → n ≡ upto - from → map number (take n (drop i memory)) ≡ slice_range (map number memory) from upto
     body-is i n from upto e h = ap (λ k. map number (take k (drop i memory))) h ∙ ap (λ k. map number (take (upto - from) (drop k memory))) e ∙ map-slice number memory from upto
 
+    -- the rows of the table of a span's parts
+    abbrev table : Bool → Bool → Bool → Bool → Parts
+    table e b f o =
+        if e then region None [] None
+        else if b && f then region None (slice_range (map number memory) first (first + met)) None
+        else if f then region (Some (part_of bits span (map number memory) 0)) (slice_range (map number memory) (first + 1) (first + met)) None
+        else if b then region None (slice_range (map number memory) first (first + met - 1)) (Some (part_of bits span (map number memory) (met - 1)))
+        else if o then enclave (part_of bits span (map number memory) 0)
+        else region (Some (part_of bits span (map number memory) 0)) (slice_range (map number memory) (first + 1) (first + met - 1)) (Some (part_of bits span (map number memory) (met - 1)))
+
     -- the parts in the loans are the span's
     pub parts-from-loans : loan_parts number (span_loans bits span memory) ≡ parts_of bits span (map number memory)
     parts-from-loans =
@@ -118,12 +130,7 @@ module _ (bits : ℕ) (span : Span) where
           (if inside e b f o then None else Some (take n (drop i memory))),
           loan_at (drop n (drop i memory)) (if tails e b f o then Some (slot_at bits span (met - 1) 0) else None),
         )
-        ≡ (if e then region None [] None
-        else if b && f then region None (slice_range (map number memory) first (first + met)) None
-        else if f then region (Some (part_of bits span (map number memory) 0)) (slice_range (map number memory) (first + 1) (first + met)) None
-        else if b then region None (slice_range (map number memory) first (first + met - 1)) (Some (part_of bits span (map number memory) (met - 1)))
-        else if o then enclave (part_of bits span (map number memory) 0)
-        else region (Some (part_of bits span (map number memory) 0)) (slice_range (map number memory) (first + 1) (first + met - 1)) (Some (part_of bits span (map number memory) (met - 1)))))
+        ≡ table e b f o)
         (λ e. let none = words_met-none bits span.head span.len (eqb-true span.len 0 e) in
         ap (λ k. region None (map number (take k (drop (first + 0) memory))) None) (let same : met - 0 - 0 ≡ 0 = omega arith in same))
         (λ e. ap (λ l. region None l None) (body-is (first + 0) (met - 0 - 0) first (first + met) (omega arith) (omega arith)))
@@ -132,6 +139,37 @@ module _ (bits : ℕ) (span : Span) where
         (λ e o. ap enclave head-is)
         (λ e o. let more = some_met e in let differ = eqb-false met 1 o in
         λ k. region (Some (head-is k)) (body-is (first + 1) (met - 1 - 1) (first + 1) (first + met - 1) (omega arith) (omega arith) k) (Some (tail-is (first + 1) (met - 1 - 1) (omega arith) k)))
+
+    -- a region by whether there is a part before and behind its body
+    abbrev around : Bool → List ℕ → Bool → ℕ → Parts
+    around front body back last =
+        let part = part_of bits span (map number memory) in
+        region (if front then Some (part 0) else None) body (if back then Some (part last) else None)
+
+    -- the numbers of `n` words from an index on, as a slice up to `i + n` has them
+    abbrev words_at : ℕ → ℕ → List ℕ
+    words_at i n = map number (take (i + n - i) (drop i memory))
+
+    -- the parts that a shape with a body tells of are the span's
+    pub parts-from-shape : (shape : Shape) → shape ≡ shape_of bits span → not shape.has_body ≡ false
+        → around shape.has_head (words_at shape.words_before shape.body_words) shape.has_tail (shape.elements - 1)
+        ≡ parts_of bits span (map number memory)
+    parts-from-shape shape is =
+        subst (λ (s : Shape). not s.has_body ≡ false
+        → around s.has_head (words_at s.words_before s.body_words) s.has_tail (s.elements - 1)
+        ≡ parts_of bits span (map number memory)) (sym is)
+        (by_rows (λ e b f o. let i = first + (if heads e b then 1 else 0) in let n = met - (if heads e b then 1 else 0) - (if tails e b f o then 1 else 0) in
+        not (not (inside e b f o)) ≡ false → around (heads e b) (words_at i n) (tails e b f o) (met - 1) ≡ table e b f o)
+        (λ e t. let none = words_met-none bits span.head span.len (eqb-true span.len 0 e) in
+        let same : first + 0 + (met - 0 - 0) - (first + 0) ≡ 0 = omega arith in ap (λ k. region None (map number (take k (drop (first + 0) memory))) None) same)
+        (λ e t. ap (λ l. region None l None) (body-is (first + 0) (first + 0 + (met - 0 - 0) - (first + 0)) first (first + met) (omega arith) (omega arith)))
+        (λ e t. let more = some_met e in ap (λ l. around true l false (met - 1))
+        (body-is (first + 1) (first + 1 + (met - 1 - 0) - (first + 1)) (first + 1) (first + met) (omega arith) (omega arith)))
+        (λ e t. let more = some_met e in ap (λ l. around false l true (met - 1))
+        (body-is (first + 0) (first + 0 + (met - 0 - 1) - (first + 0)) first (first + met - 1) (omega arith) (omega arith)))
+        (λ e o t. absurd (true_false t))
+        (λ e o t. let more = some_met e in let differ = eqb-false met 1 o in ap (λ l. around true l true (met - 1))
+        (body-is (first + 1) (first + 1 + (met - 1 - 1) - (first + 1)) (first + 1) (first + met - 1) (omega arith) (omega arith))))
 
 -- what is asked of the list behind a loan, if there is one, where there is to be one
 pub loan_has : {X : Type 0} (F : Option (MutBor (List X))) (b : Bool) (v : List X) (Q : List X → Type 0) → is_some F ≡ b → IfSome F (λ (r : MutBor (List X)). r.now ≡ v) → (b ≡ true → Q v) → IfSome F (λ (r : MutBor (List X)). Q r.now)

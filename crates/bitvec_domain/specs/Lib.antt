@@ -13,6 +13,7 @@ pub mod PartialElementMut
 pub mod Parts
 pub mod Pieces
 pub mod Refusals
+pub mod Shape
 pub mod Slot
 pub mod Span
 pub mod SpanLemmas

@@ -1,8 +1,6 @@
 //! The words and parts of words that a span meets.
 
-ghost use Rattle.std.specs.Prelude.{◌≡◌, ⊤, ◌+◌, ◌-◌, ◌<◌, ◌≤◌, ◌⊎◌, ◌==◌, if◌then◌else◌};
-ghost use Rattle.std.specs.Prelude.{true, false, Some, None, MatchOption, nat_abs, length, map};
-ghost use Rattle.std.specs.Prelude.{slice_range};
+ghost use Rattle.std.specs.Prelude.{◌≡◌, ⊤, ◌<◌, true, false, None, MatchOption, length, map};
 ghost use Rattle.bitvec_ptr.specs.Place.{words_met, tail_of};
 ghost use Rattle.bitvec_domain.specs.Span.{Fits, word_of, words_of};
 ghost use Rattle.bitvec_domain.specs.Parts.{part_of, parts_of, value_of, items};
@@ -10,6 +8,7 @@ ghost use Rattle.bitvec_domain.specs.Parts.{is_enclave, HasShortBody};
 
 use crate::ptr::span::BitSpan;
 use bitvec_mem::mem::BitRegister;
+use bitvec_order::index::BitEnd;
 use bitvec_order::order::{BitOrder, Lsb0};
 use std::alloc::AllocError;
 use std::iter::FusedIterator;
@@ -21,6 +20,7 @@ mod bit_words_mut;
 mod domain_mut;
 mod partial_element;
 mod partial_element_mut;
+mod shape;
 mod text;
 mod written;
 
@@ -144,7 +144,7 @@ impl<'a, R: BitRegister, O> Default for Domain<'a, R, O> {
 
 impl<R: BitRegister, O: BitOrder<R>> BitSpan<R, O> {
     ghost use Rattle.bitvec_domain.specs.BitSpan.{span_of, list_by};
-    ghost use Rattle.bitvec_domain.specs.Domain.{element_part, optional_part, domain_parts};
+    ghost use Rattle.bitvec_domain.specs.Domain.{element_part, domain_parts};
 
     /// The part of the `k`-th word that the span meets, counted from 0.
     ///
@@ -158,66 +158,29 @@ impl<R: BitRegister, O: BitOrder<R>> BitSpan<R, O> {
         ensures word { value_of R.BITS O.at_of (element_part R.number result)
             ≡ word_of R.BITS O.at_of (span_of self).head (list_by self O.at_of memory.now) k }
     {
-        let at = self.address() as usize + k;
         let (elements, tail) = self.extent();
+        self.part_among(memory, k, elements, tail)
+    }
+
+    // The same, where the span meets `elements` words and ends before the index `tail` of the last.
+    #[inline(always)]
+    fn part_among<'a>(
+        self,
+        memory: &'a [R],
+        k: usize,
+        elements: usize,
+        tail: BitEnd<R>,
+    ) -> PartialElement<'a, R, O>
+        requires fits { Fits R.BITS (span_of self) (length memory.now) }
+        requires met { k < elements }
+        requires elements { elements ≡ words_met R.BITS (span_of self).head (span_of self).len }
+        requires tail { tail ≡ tail_of R.BITS (span_of self).head (span_of self).len }
+        ensures { element_part R.number result
+            ≡ part_of R.BITS (span_of self) (map R.number memory.now) k }
+    {
+        let at = self.address() as usize + k;
         let (head, tail) = self.bounds_among(k, elements, tail);
         PartialElement::new(memory, at, head, tail)
-    }
-
-    // The part of the first word, where the span does not begin with the word's first bit.
-    fn head_part<'a>(self, memory: &'a [R]) -> Option<PartialElement<'a, R, O>>
-        requires fits { Fits R.BITS (span_of self) (length memory.now) }
-        requires met { 0 < words_met R.BITS (span_of self).head (span_of self).len }
-        ensures { optional_part R.number result
-            ≡ (if (span_of self).head == 0 then None
-            else Some (part_of R.BITS (span_of self) (map R.number memory.now) 0)) }
-    {
-        if self.head().into_inner() == 0 {
-            return None;
-        }
-        Some(self.part(memory, 0))
-    }
-
-    // The part of the last word, where the span does not end with the word's last bit.
-    fn tail_part<'a>(self, memory: &'a [R]) -> Option<PartialElement<'a, R, O>>
-        requires fits { Fits R.BITS (span_of self) (length memory.now) }
-        requires met { 0 < words_met R.BITS (span_of self).head (span_of self).len }
-        ensures { let span = span_of self in optional_part R.number result
-            ≡ (if tail_of R.BITS span.head span.len == R.BITS then None
-            else Some (part_of R.BITS span (map R.number memory.now)
-            (words_met R.BITS span.head span.len - 1))) }
-    {
-        if self.tail().into_inner() == R::BITS {
-            return None;
-        }
-        Some(self.part(memory, self.elements() - 1))
-    }
-
-    // The whole words, where the span is not within one word with neither its first nor its last
-    // bit.
-    fn body<'a>(self, memory: &'a [R]) -> &'a [R]
-        requires fits { Fits R.BITS (span_of self) (length memory.now) }
-        requires met { 0 < words_met R.BITS (span_of self).head (span_of self).len }
-        requires region { let span = span_of self in words_met R.BITS span.head span.len ≡ 1
-            → (span.head ≡ 0) ⊎ (tail_of R.BITS span.head span.len ≡ R.BITS) }
-        ensures { let span = span_of self in let first = nat_abs span.word
-            in let end = first + words_met R.BITS span.head span.len in map R.number result.now
-            ≡ slice_range (map R.number memory.now) (if span.head == 0 then first else first + 1)
-            (if tail_of R.BITS span.head span.len == R.BITS then end else end - 1) }
-    {
-        let first = self.address() as usize;
-        let end = first + self.elements();
-        let from = if self.head().into_inner() == 0 {
-            first
-        } else {
-            first + 1
-        };
-        let upto = if self.tail().into_inner() == R::BITS {
-            end
-        } else {
-            end - 1
-        };
-        &memory[from..upto]
     }
 
     /// The words and parts of words of a memory that the span meets.
@@ -243,16 +206,24 @@ impl<R: BitRegister, O: BitOrder<R>> BitSpan<R, O> {
             ≡ words_of R.BITS O.at_of (span_of self).head (list_by self O.at_of memory.now) }
         ensures short { HasShortBody R.BITS (domain_parts R.number result) }
     {
-        let elements = self.elements();
-        if elements == 0 {
-            return Domain::default();
+        let shape = self.shape();
+        let end = BitEnd::new_unchecked(shape.tail);
+        if !shape.has_body {
+            let part = self.part_among(memory, 0, shape.elements, end);
+            return Domain::Enclave(part);
         }
-        let head = self.head_part(memory);
-        let tail = self.tail_part(memory);
-        if elements == 1 && head.is_some() && tail.is_some() {
-            return Domain::Enclave(self.part(memory, 0));
-        }
-        let body = self.body(memory);
+        let head = if shape.has_head {
+            Some(self.part_among(memory, 0, shape.elements, end))
+        } else {
+            None
+        };
+        let tail = if shape.has_tail {
+            Some(self.part_among(memory, shape.elements - 1, shape.elements, end))
+        } else {
+            None
+        };
+        let first = shape.words_before;
+        let body = &memory[first..first + shape.body_words];
         Domain::Region { head, body, tail }
     }
 }

@@ -1,14 +1,14 @@
 //! The words and parts of words that a span meets, for writing.
 
 ghost use Rattle.std.specs.Prelude.{◌≡◌, pos, ◌+◌, ◌-◌, ◌<◌, ◌≤◌, ◌≤ℤ◌, nat_abs};
-ghost use Rattle.std.specs.Prelude.{not, true, false, length, map, IfSome, MatchOption, is_some};
+ghost use Rattle.std.specs.Prelude.{true, false, length, map, IfSome, MatchOption, is_some};
 ghost use Rattle.std.specs.Prelude.{Some, None, IsNone, [], replicate, option_map};
 ghost use Rattle.std.specs.Borrow.{sem};
 ghost use Rattle.bitvec_ptr.specs.Place.{words_met};
 ghost use Rattle.bitvec_domain.specs.Span.{Fits};
 ghost use Rattle.bitvec_domain.specs.Parts.{parts_of, is_enclave, HasShortBody};
-ghost use Rattle.bitvec_domain.specs.Loans.{is_inside, has_head, has_tail, words_before};
-ghost use Rattle.bitvec_domain.specs.Loans.{body_words, span_loans, word_of_bit, filled_loan};
+ghost use Rattle.bitvec_domain.specs.Loans.{is_inside, has_head, has_tail};
+ghost use Rattle.bitvec_domain.specs.Loans.{span_loans, word_of_bit, filled_loan};
 ghost use Rattle.bitvec_domain.specs.Loans.{filled_loans, filled_memory, loan_words};
 ghost use Rattle.bitvec_domain.specs.Loans.{words_of_loans};
 ghost use Rattle.bitvec_domain.specs.Lending.{name_of};
@@ -17,11 +17,14 @@ ghost use Rattle.bitvec_domain.specs.Pieces.{names_of, numbers_of, piece_words, 
 ghost use Rattle.bitvec_domain.specs.DomainMut.{part_name, loan_names, part_loan, loans_of};
 ghost use Rattle.bitvec_domain.specs.DomainMut.{Enclave, Region, lent_parts, LendsDomain};
 ghost use Rattle.bitvec_domain.specs.DomainMut.{DomainRestsIfNone};
+ghost use Rattle.bitvec_domain.specs.Shape.{shape_of};
 
 use super::partial_element_mut::PartialElementMut;
+use super::shape::Shape;
 use crate::lend::{Pieces, pieces_mut};
 use crate::ptr::span::BitSpan;
 use bitvec_mem::mem::BitRegister;
+use bitvec_order::index::BitEnd;
 use bitvec_order::order::{BitOrder, Lsb0};
 
 /// The words that a span meets, borrowed for writing: one part of a word, or whole words with
@@ -224,13 +227,6 @@ impl<R: BitRegister, O> BitSpan<R, O> {
             && self.elements() == 1
     }
 
-    // Whether there are whole words or may be.
-    fn has_body(self) -> bool
-        ensures { result ≡ not (is_inside R.BITS (span_of self)) }
-    {
-        !self.is_inside()
-    }
-
     // Whether there is a part behind the whole words.
     pub(crate) fn has_tail(self) -> bool
         ensures { result ≡ has_tail R.BITS (span_of self) }
@@ -238,26 +234,11 @@ impl<R: BitRegister, O> BitSpan<R, O> {
         self.len() != 0 && self.tail().into_inner() != R::BITS && !self.is_inside()
     }
 
-    // How many words there are before the whole words.
-    fn words_before(self) -> usize
-        requires { pos 0 ≤ℤ (span_of self).word }
-        ensures { result ≡ words_before (span_of self) }
-    {
-        self.address() as usize + if self.has_head() { 1 } else { 0 }
-    }
-
-    // How many whole words there are.
-    fn body_words(self) -> usize
-        ensures { result ≡ body_words R.BITS (span_of self) }
-    {
-        let head = if self.has_head() { 1 } else { 0 };
-        let tail = if self.has_tail() { 1 } else { 0 };
-        self.elements() - head - tail
-    }
-
     // The domain whose parts lie in these pieces; without a body it is an enclave.
-    fn assemble<'a>(self, pieces: Pieces<'a, R>) -> DomainMut<'a, R, O>
+    fn assemble<'a>(self, shape: Shape, pieces: Pieces<'a, R>) -> DomainMut<'a, R, O>
         requires word { pos 0 ≤ℤ (span_of self).word }
+        requires shape { shape ≡ shape_of R.BITS (span_of self) }
+        requires tail { shape.tail ≤ R.BITS }
         requires front { IfSome pieces.front
             (λ s. (nat_abs (span_of self).word < length s.now)
             × (0 < words_met R.BITS (span_of self).head (span_of self).len)) }
@@ -270,12 +251,16 @@ impl<R: BitRegister, O> BitSpan<R, O> {
         ensures loans { loans_of result ≡ piece_loans R.BITS (span_of self) pieces.entry }
     {
         let Pieces { front, body, back } = pieces;
+        let elements = shape.elements;
+        let end = BitEnd::new_unchecked(shape.tail);
         let head = match front {
-            Some(memory) => Some(self.part_at(memory, self.address() as usize, 0)),
+            Some(memory) => {
+                Some(self.part_at(memory, self.address() as usize, 0, elements, end))
+            }
             None => None,
         };
         let tail = match back {
-            Some(memory) => Some(self.part_at(memory, 0, self.elements() - 1)),
+            Some(memory) => Some(self.part_at(memory, 0, elements - 1, elements, end)),
             None => None,
         };
         match body {
@@ -302,13 +287,16 @@ impl<R: BitRegister, O> BitSpan<R, O> {
         ensures loans { loans_of result ≡ span_loans R.BITS (span_of self) memory.old }
         ensures short { HasShortBody R.BITS (lent_parts R.number result) }
     {
-        let before = self.words_before();
-        let count = self.body_words();
-        let head = self.has_head();
-        let body = self.has_body();
-        let tail = self.has_tail();
-        let pieces = pieces_mut(memory, before, count, head, body, tail);
-        self.assemble(pieces)
+        let shape = self.shape();
+        let pieces = pieces_mut(
+            memory,
+            shape.words_before,
+            shape.body_words,
+            shape.has_head,
+            shape.has_body,
+            shape.has_tail,
+        );
+        self.assemble(shape, pieces)
     }
 }
 

@@ -4,7 +4,7 @@ ghost use Rattle.std.specs.Prelude.{◌≡◌, ℕ, ◌<◌, ◌≤◌, ◌^◌,
 ghost use Rattle.std.specs.Prelude.{length, map, slice_index, slice_set};
 ghost use Rattle.bitvec_mem.specs.Digit.{digit};
 ghost use Rattle.bitvec_order.specs.Order.{IsMaskOf};
-ghost use Rattle.bitvec_ptr.specs.Place.{words_met};
+ghost use Rattle.bitvec_ptr.specs.Place.{words_met, tail_of};
 ghost use Rattle.bitvec_domain.specs.Span.{Fits};
 ghost use Rattle.bitvec_domain.specs.Parts.{value_of};
 ghost use Rattle.bitvec_domain.specs.Slot.{slot_at, slot_of};
@@ -264,23 +264,29 @@ impl<R: BitRegister, O> BitSpan<R, O> {
         ensures slot { slot_in result ≡ slot_of R.BITS (span_of self) k }
     {
         let word = self.address() as usize + k;
-        self.part_at(memory, word, k)
+        let (elements, tail) = self.extent();
+        self.part_at(memory, word, k, elements, tail)
     }
 
-    // The part of the `k`-th word that the span meets, as that of the word `word` of a memory.
-    pub(crate) fn part_at<'a>(
+    // The part of the `k`-th word that the span meets, as that of the word `word` of a memory. The
+    // span meets `elements` words and ends before the index `tail` of the last.
+    #[inline(always)]
+    pub(super) fn part_at<'a>(
         self,
         memory: &'a mut [R],
         word: usize,
         k: usize,
+        elements: usize,
+        tail: BitEnd<R>,
     ) -> PartialElementMut<'a, R, O>
         requires word { word < length memory.old }
-        requires met { k < words_met R.BITS (span_of self).head (span_of self).len }
+        requires met { k < elements }
+        requires elements { elements ≡ words_met R.BITS (span_of self).head (span_of self).len }
+        requires tail { tail ≡ tail_of R.BITS (span_of self).head (span_of self).len }
         ensures reference { (memory_of result).ghost_name ≡ memory.entry.ghost_name }
         ensures memory { (memory_of result).now ≡ memory.old }
         ensures slot { slot_in result ≡ slot_at R.BITS (span_of self) k word }
     {
-        let (elements, tail) = self.extent();
         let (head, tail) = self.bounds_among(k, elements, tail);
         PartialElementMut::new(memory, word, head, tail)
     }
