@@ -2,18 +2,15 @@
 
 ghost use Rattle.std.specs.Prelude.{◌≡◌, pos, ◌+◌, ◌-◌, ◌<◌, ◌≤◌, ◌≤ℤ◌, nat_abs};
 ghost use Rattle.std.specs.Prelude.{not, true, false, length, map, IfSome, MatchOption, is_some};
-ghost use Rattle.std.specs.Prelude.{Some, None, IsNone, [], replicate, option_map};
+ghost use Rattle.std.specs.Prelude.{IsNone, option_map};
 ghost use Rattle.std.specs.Borrow.{sem};
 ghost use Rattle.bitvec_ptr.specs.Place.{words_met};
 ghost use Rattle.bitvec_domain.specs.Span.{Fits};
 ghost use Rattle.bitvec_domain.specs.Parts.{parts_of, is_enclave, HasShortBody};
 ghost use Rattle.bitvec_domain.specs.Loans.{is_inside, has_head, has_tail, words_before};
-ghost use Rattle.bitvec_domain.specs.Loans.{body_words, span_loans, word_of_bit, filled_loan};
-ghost use Rattle.bitvec_domain.specs.Loans.{filled_loans, filled_memory, loan_words};
-ghost use Rattle.bitvec_domain.specs.Loans.{words_of_loans};
+ghost use Rattle.bitvec_domain.specs.Loans.{body_words, span_loans, loan_words, words_of_loans};
 ghost use Rattle.bitvec_domain.specs.Lending.{name_of};
-ghost use Rattle.bitvec_domain.specs.PartialElementMut.{memory_of};
-ghost use Rattle.bitvec_domain.specs.Pieces.{names_of, numbers_of, piece_words, piece_loans};
+ghost use Rattle.bitvec_domain.specs.Pieces.{names_of, piece_words, piece_loans};
 ghost use Rattle.bitvec_domain.specs.DomainMut.{part_name, loan_names, part_loan, loans_of};
 ghost use Rattle.bitvec_domain.specs.DomainMut.{Enclave, Region, lent_parts, LendsDomain};
 ghost use Rattle.bitvec_domain.specs.DomainMut.{DomainRestsIfNone};
@@ -309,96 +306,5 @@ impl<R: BitRegister, O> BitSpan<R, O> {
         let tail = self.has_tail();
         let pieces = pieces_mut(memory, before, count, head, body, tail);
         self.assemble(pieces)
-    }
-}
-
-// Makes each bit of some words the same.
-fn fill_words<R: BitRegister>(words: &mut [R], bit: bool)
-    ensures { map R.number words.new ≡ replicate (length words.old) (word_of_bit R.BITS bit) }
-{
-    let word = if bit { R::ALL } else { R::ZERO };
-    let mut k = 0;
-    while k < words.len() {
-        words[k] = word;
-        k += 1;
-    }
-}
-
-// Makes each bit of a part the same, and gives the words that it borrows.
-fn fill_part<'a, R: BitRegister, O: BitOrder<R>>(
-    part: PartialElementMut<'a, R, O>,
-    bit: bool,
-) -> &'a mut [R]
-    ensures reference { result.ghost_name ≡ (memory_of part.entry).ghost_name }
-    ensures words { map R.number result.now
-        ≡ filled_loan R.number R.BITS O.at_of bit (part_loan part.entry) }
-{
-    let mut part = part;
-    if bit {
-        part.set();
-    } else {
-        part.clear();
-    }
-    part.into_memory()
-}
-
-// The same of a part that may not be there.
-fn fill_part_if<'a, R: BitRegister, O: BitOrder<R>>(
-    part: Option<PartialElementMut<'a, R, O>>,
-    bit: bool,
-) -> Option<&'a mut [R]>
-    ensures reference { name_of result ≡ part_name part.entry }
-    ensures words { option_map (λ r. map R.number r.now) result
-        ≡ option_map (filled_loan R.number R.BITS O.at_of bit) (option_map part_loan part.entry) }
-{
-    match part {
-        Some(part) => Some(fill_part(part, bit)),
-        None => None,
-    }
-}
-
-// Makes each bit of a domain the same, and gives the words that it borrows.
-fn fill_domain<'a, R: BitRegister, O: BitOrder<R>>(
-    domain: DomainMut<'a, R, O>,
-    bit: bool,
-) -> Pieces<'a, R>
-    ensures names { names_of result ≡ loan_names domain.entry }
-    ensures words { numbers_of R.number result
-        ≡ filled_loans R.number R.BITS O.at_of bit (loans_of domain.entry) }
-{
-    match domain {
-        DomainMut::Enclave(part) => Pieces {
-            front: Some(fill_part(part, bit)),
-            body: None,
-            back: None,
-        },
-        DomainMut::Region { head, body, tail } => {
-            fill_words(body, bit);
-            let front = fill_part_if(head, bit);
-            let back = fill_part_if(tail, bit);
-            Pieces {
-                front,
-                body: Some(body),
-                back,
-            }
-        }
-    }
-}
-
-impl<R: BitRegister, O: BitOrder<R>> BitSpan<R, O> {
-    ghost use Rattle.bitvec_domain.specs.BitSpan.{span_of};
-
-    // Makes each bit of the span in a memory the same, by the parts that the memory is lent as.
-    pub(crate) fn fill_pieces(self, memory: &mut [R], bit: bool)
-        requires { Fits R.BITS (span_of self) (length memory.old) }
-        ensures { map R.number memory.new
-            ≡ filled_memory R.BITS O.at_of bit (span_of self) (map R.number memory.old) }
-    {
-        let domain = self.domain_mut(memory);
-        let Pieces {
-            front: _,
-            body: _,
-            back: _,
-        } = fill_domain(domain, bit);
     }
 }
