@@ -10,6 +10,7 @@ use Rattle.bitvec_ptr.specs.Place.{words_met}
 use Rattle.bitvec_domain.specs.Span.{Span, Fits, BecomesList, list_of, element, word_of}
 use Rattle.bitvec_domain.specs.Slot.{slot_of, EditsPart}
 use Rattle.bitvec_domain.proofs.BecomesLemmas.{becomes, becomes-same}
+use Rattle.bitvec_domain.proofs.PartEditLemmas.{becomes-edited, word_of-answered}
 use Rattle.bitvec_domain.proofs.PartLemmas.{bit_of-span, element-list_of, length-list_of}
 use Rattle.bitvec.specs.declared.run.command.Command.{Command}
 use Rattle.bitvec.specs.declared.run.command.Command.TheVariants.{Load, Store, Set, Clear, Invert, Read, Replace, Swap, Copy, Fill}
@@ -17,7 +18,6 @@ use Rattle.bitvec.specs.declared.run.command.Reply.{Reply}
 use Rattle.bitvec.specs.declared.run.command.Reply.TheVariants.{Word, Bit, Done, PastEnd}
 use Rattle.bitvec.specs.Commands.{is_past_end, answer_of, edited_list}
 use Rattle.bitvec.specs.Run.{IsStep}
-use Rattle.bitvec.proofs.WordLemmas.{becomes-edited, word_of-answered}
 
 -- with no edit the span keeps its list
 becomes-own : (bits : ℕ) (at : ℕ → ℕ) (span : Span) (memory : List ℕ)

@@ -6,7 +6,6 @@ pub mod LawLemmas
 pub mod RequestLemmas
 pub mod RisingLemmas
 pub mod TurnLemmas
-pub mod WordLemmas
 pub use Rattle.bitvec_mem.proofs.DigitLemmas
 pub use Rattle.bitvec_order.proofs.Block
 pub use Rattle.bitvec_order.proofs.IndexLemmas
@@ -15,6 +14,7 @@ pub use Rattle.bitvec_ptr.proofs.MemoryLemmas
 pub use Rattle.bitvec_ptr.proofs.PlaceLemmas
 pub use Rattle.bitvec_domain.proofs.BecomesLemmas
 pub use Rattle.bitvec_domain.proofs.CoverLemmas
+pub use Rattle.bitvec_domain.proofs.PartEditLemmas
 pub use Rattle.bitvec_domain.proofs.PartLemmas
 pub use Rattle.bitvec_domain.proofs.PointerLemmas
 pub use Rattle.bitvec_domain.proofs.SplitLemmas

@@ -1,19 +1,16 @@
 -- Commands on one list of bits that starts at the bit `head` of a word. `bits` is the width of a word, and `at` takes an
 -- index in a word to its position in the number; a word is given as its number.
-use Rattle.std.specs.Prelude.{ℕ, ◌+◌, ◌-◌, ◌/◌, ◌%◌, Bool, true, false, not, ◌&&◌, List, [], ◌∷◌, ◌++◌, length, take, drop, replicate, swap, slice_set, if◌then◌else◌, ◌==◌, nat_lt, nat_le}
+use Rattle.std.specs.Prelude.{ℕ, ◌+◌, ◌-◌, ◌%◌, Bool, true, false, not, ◌&&◌, List, [], ◌∷◌, ◌++◌, length, take, drop, replicate, swap, slice_set, if◌then◌else◌, ◌==◌, nat_lt, nat_le}
 use Rattle.bitvec_mem.specs.Digit.{digit}
-use Rattle.bitvec_ptr.specs.Memory.{tabulate, list_with_copy}
+use Rattle.bitvec_ptr.specs.Memory.{list_with_copy}
 use Rattle.bitvec_ptr.specs.Place.{words_met}
 use Rattle.bitvec_domain.specs.Span.{element, word_of}
+pub use Rattle.bitvec_domain.specs.Span.{with_word}
 use Rattle.bitvec.specs.declared.run.command.Command.{Command}
 use Rattle.bitvec.specs.declared.run.command.Command.TheVariants.{Load, Store, Set, Clear, Invert, Read, Replace, Swap, Copy, Fill}
 use Rattle.bitvec.specs.declared.run.command.Request.{Request}
 use Rattle.bitvec.specs.declared.run.command.Reply.{Reply}
 use Rattle.bitvec.specs.declared.run.command.Reply.TheVariants.{Word, Bit, Done, PastEnd, NoSpan}
-
--- the list with f j in place of each bit j that lies in its word k
-abbrev pub with_word : ℕ → ℕ → List Bool → ℕ → (ℕ → Bool) → List Bool
-with_word bits head xs k f = tabulate (length xs) (λ j. if (head + j) / bits == k then f j else element xs j)
 
 -- the command names a word or a bit past the end of the list
 abbrev pub is_past_end : ℕ → ℕ → Command ℕ → List Bool → Bool

@@ -1,9 +1,9 @@
 -- What an edit of some bits of a memory makes of the list of a span, and of all else.
-use Rattle.std.proofs.Common.{◌≡◌, ℕ, ◌+◌, ◌-◌, ◌*◌, ◌/◌, ◌%◌, ◌<◌, ◌≤◌, Bool, false, ◌&&◌, nat_le, nat_lt, if◌then◌else◌, List, ◌++◌, length, map, get_or, take, drop, Some, sym, ap, subst, ◌∙◌, inl, inr, arith, append_assoc}
+use Rattle.std.proofs.Common.{◌≡◌, ℕ, suc, ◌+◌, ◌-◌, ◌*◌, ◌/◌, ◌%◌, ◌<◌, ◌≤◌, Bool, false, List, [], ◌∷◌, ◌++◌, length, map, get_or, take, drop, Some, sym, ap, subst, ◌∙◌, inl, inr, arith, append_assoc, length-append, length-drop, length-take-le}
 use Rattle.std.specs.Prelude.{ℤ, pos, nat_abs, ◌≤ℤ◌, swap, slice_get, slice_set}
 use Rattle.std.proofs.Math.ListN.{length-set}
 use Rattle.std.proofs.lemmas.Bool.{cases_eq, cases_lt}
-use Rattle.std.proofs.lemmas.List.{length-map, get_or_past, get_or-set_same, get_or-set_other, take_at, drop_at}
+use Rattle.std.proofs.lemmas.List.{length-map, get_or_past, get_or-set_same, get_or-set_other, take_at, drop_at, take_all, drop_all, take_more, drop-drop, set_split, append-nil}
 use Rattle.std.proofs.lemmas.Nat.{le-div}
 use Rattle.std.proofs.lemmas.List.Edits.{swap_is}
 use Rattle.bitvec_mem.specs.Digit.{digit}
@@ -11,12 +11,10 @@ use Rattle.bitvec_ptr.specs.Memory.{bit_of, memory_bits, list_with_copy}
 use Rattle.bitvec_ptr.proofs.BitLemmas.{length-memory_bits, get_or-memory_bits}
 use Rattle.bitvec_ptr.proofs.CopyLemmas.{met_covers, element_is, copied_none, get_or-copied_below, get_or-copied_inside, get_or-copied_above}
 use Rattle.bitvec_ptr.proofs.MemoryLemmas.{tabulate_same, tabulate-from_elements}
-use Rattle.bitvec_domain.specs.Span.{Span, Covers, Fits, AreDisjoint, KeepsOthers, BecomesList, list_of, element, span_upto, span_from, span_range}
-use Rattle.bitvec_domain.specs.Written.{IsWritten}
+use Rattle.bitvec_domain.specs.Span.{Span, Covers, Fits, AreDisjoint, KeepsOthers, KeepsLists, BecomesList, list_of, element, span_upto, span_from, span_range}
 use Rattle.bitvec_domain.proofs.CoverLemmas.{covers-own, covers_from}
 use Rattle.bitvec_domain.proofs.PartLemmas.{element-list_of, length-list_of}
 use Rattle.bitvec_domain.proofs.SplitLemmas.{parts-disjoint, covers-before, covers-behind, parts-fit, parts-lists}
-use Rattle.bitvec_domain.proofs.WrittenLemmas.{inside_is, outside_is}
 
 -- a span that fits a memory fits the list of its words' numbers
 pub fits-numbers : {W : Type 0} (bits : ℕ) (span : Span) (number : W → ℕ) (memory : List W) → Fits bits span (length memory) → Fits bits span (length (map number memory))
@@ -32,13 +30,18 @@ pub list-kept : (bits : ℕ) (at : ℕ → ℕ) (word : ℤ) (head len : ℕ) (o
     → list_of bits at (record { word = word; head = head; len = len }) new ≡ list_of bits at (record { word = word; head = head; len = len }) old
 list-kept bits at word head len old new from same = tabulate_same len _ _ false (λ j h. same (nat_abs word * bits + head + j) (covers_from word bits head len j from h))
 
+-- the lists of the spans that are disjoint from a span are as before where the bits outside it are
+pub lists-kept : (bits : ℕ) (at : ℕ → ℕ) (span : Span) (old new : List ℕ) → KeepsOthers bits at span old new → KeepsLists bits at span old new
+lists-kept bits at span old new others word head len from apart = list-kept bits at word head len old new from
+    (λ place here. others place (λ there. apart (pos place) there here))
+
 -- an edit, by its list and by the bits outside: those keep the lists of the spans beside it
 pub becomes : (bits : ℕ) (at : ℕ → ℕ) (span : Span) (old new : List ℕ) (xs : List Bool) → list_of bits at span new ≡ xs → KeepsOthers bits at span old new → length new ≡ length old
     → BecomesList bits at span old new xs
 becomes bits at span old new xs is others words = record {
   list = is;
   others = others;
-  apart = λ word head len from apart. list-kept bits at word head len old new from (λ place here. others place (λ there. apart (pos place) there here));
+  apart = lists-kept bits at span old new others;
   words = words;
 }
 
@@ -81,38 +84,24 @@ module _ (bits : ℕ) (at : ℕ → ℕ) (span : Span) (old new : List ℕ) (in_
       ∙ ap (λ n. get_or (memory_bits bits at old) n false) e ∙ get_or-memory_bits bits at old (start + i) false (omega (arith, h, r)) ∙ sym (element-list_of bits at span old i h)
 
   -- an edit by the bits at all places
-  pub written-becomes : (xs : List Bool) → length xs ≡ span.len → IsWritten bits at xs 0 start span.len old new → BecomesList bits at span old new xs
-  written-becomes xs long done =
+  written-becomes : (xs : List Bool) → length xs ≡ span.len → length new ≡ length old
+      → ((j : ℕ) → j < span.len → bit_of bits at new (start + j) ≡ element xs j)
+      → ((place : ℕ) → place < length old * bits → (start ≤ place → place < start + span.len → ⊥)
+      → bit_of bits at new place ≡ bit_of bits at old place) → BecomesList bits at span old new xs
+  written-becomes xs long many inside outside =
       becomes bits at span old new xs
-      (sym (tabulate-from_elements xs span.len _ false long (λ j h.
-      let inside = room (omega (arith, h)) in
-      sym (done.each (start + j) (omega (arith, h, inside))
-      ∙ ap (λ b. if b then element xs (0 + (start + j - start)) else bit_of bits at old (start + j)) (inside_is start span.len (start + j) (omega arith) (omega (arith, h)))
-      ∙ ap (element xs) (let same : 0 + (start + j - start) ≡ j = omega arith in same)))))
+      (sym (tabulate-from_elements xs span.len _ false long (λ j h. sym (inside j h))))
       (λ place out. elim (cases_lt place (length old * bits)) [
-        | inl within ↦ (
-            done.each place within
-            ∙ ap (λ b. if b then element xs (0 + (place - start)) else bit_of bits at old place) (outside_is start span.len place (λ from upto. out (place-own place from upto))))
-        | inr past ↦ bit-past bits at old new place some_bits done.words past
+        | inl within ↦ outside place within (λ from upto. out (place-own place from upto))
+        | inr past ↦ bit-past bits at old new place some_bits many past
       ])
-      done.words
+      many
 
   -- the bit at a place, by the list of all bits
   bit_new : (ys : List Bool) → length new ≡ length old → memory_bits bits at new ≡ ys → (place : ℕ) → place < length old * bits → bit_of bits at new place ≡ get_or ys place false
   bit_new ys many is place h =
       let same : length new * bits ≡ length old * bits = ap (λ n. n * bits) many in
       sym (get_or-memory_bits bits at new place false (omega (arith, same, h))) ∙ ap (λ (zs : List Bool). get_or zs place false) is
-
-  -- what a place of the span has, as an element of a list of as many
-  inside-element : (xs : List Bool) (place : ℕ) (b : Bool) → start ≤ place → place < start + span.len → b ≡ element xs (place - start)
-      → b ≡ (if (nat_le start place && nat_lt place (start + span.len)) then element xs (0 + (place - start)) else bit_of bits at old place)
-  inside-element xs place b from upto is =
-      is ∙ ap (element xs) (let same : place - start ≡ 0 + (place - start) = omega arith in same)
-      ∙ sym (ap (λ t. if t then element xs (0 + (place - start)) else bit_of bits at old place) (inside_is start span.len place from upto))
-
-  outside-element : (xs : List Bool) (place : ℕ) (b : Bool) → (start ≤ place → place < start + span.len → ⊥) → b ≡ bit_of bits at old place
-      → b ≡ (if (nat_le start place && nat_lt place (start + span.len)) then element xs (0 + (place - start)) else bit_of bits at old place)
-  outside-element xs place b out is = is ∙ sym (ap (λ t. if t then element xs (0 + (place - start)) else bit_of bits at old place) (outside_is start span.len place out))
 
   -- one bit of the span is written
   pub bit-becomes : (i place : ℕ) (b : Bool) → i < span.len → place ≡ start + i → length new ≡ length old → memory_bits bits at new ≡ slice_set (memory_bits bits at old) place b
@@ -122,29 +111,24 @@ module _ (bits : ℕ) (at : ℕ → ℕ) (span : Span) (old new : List ℕ) (in_
       let all : List Bool = memory_bits bits at old in
       let long : length xs ≡ span.len = length-list_of bits at span old in
       let within = room (omega (arith, h)) in
-      written-becomes (slice_set xs i b) (length-set xs i b ∙ long) (record {
-        words = many;
-        each = λ p below.
-            let now = bit_new (slice_set all place b) many is p below in
-            elim (cases_eq p place) [
-              | inl same ↦ (
-                  inside-element (slice_set xs i b) p _ (omega (arith, same, e)) (omega (arith, same, e, h))
-                  (now ∙ ap (λ n. get_or (slice_set all place b) n false) same ∙ get_or-set_same all place b false (omega (arith, e, h, within, length-memory_bits bits at old))
-                  ∙ sym (ap (element (slice_set xs i b)) (let index : p - start ≡ i = omega (arith, same, e) in index) ∙ get_or-set_same xs i b false (omega (arith, long, h)))))
-              | inr differ ↦ (
-                  let was = now ∙ get_or-set_other all place p b false differ ∙ get_or-memory_bits bits at old p false below in
-                  elim (cases_lt p start) [
-                    | inl before ↦ outside-element (slice_set xs i b) p _ (λ from upto. omega (arith, before, from)) was
-                    | inr from ↦ elim (cases_lt p (start + span.len)) [
-                      | inl upto ↦ (
-                          inside-element (slice_set xs i b) p _ from upto
-                          (was ∙ ap (bit_of bits at old) (let same : p ≡ nat_abs span.word * bits + span.head + (p - start) = omega (arith, from) in same)
-                          ∙ sym (get_or-set_other xs i (p - start) b false (λ f. differ (omega (arith, f, e, from))) ∙ element-list_of bits at span old (p - start) (omega (arith, from, upto)))))
-                      | inr past ↦ outside-element (slice_set xs i b) p _ (λ a upto. omega (arith, past, upto)) was
-                    ]
-                  ])
-            ];
-      })
+      written-becomes (slice_set xs i b) (length-set xs i b ∙ long) many
+      (λ j l.
+      let below : start + j < length old * bits = omega (arith, l, within) in
+      bit_new (slice_set all place b) many is (start + j) below
+      ∙ elim (cases_eq j i) [
+        | inl same ↦ (
+            ap (λ n. get_or (slice_set all place b) n false) (let here : start + j ≡ place = omega (arith, same, e) in here)
+            ∙ get_or-set_same all place b false (omega (arith, e, h, within, length-memory_bits bits at old))
+            ∙ sym (ap (element (slice_set xs i b)) same ∙ get_or-set_same xs i b false (omega (arith, long, h))))
+        | inr differ ↦ (
+            get_or-set_other all place (start + j) b false (λ f. differ (omega (arith, f, e)))
+            ∙ get_or-memory_bits bits at old (start + j) false below
+            ∙ sym (get_or-set_other xs i j b false differ ∙ element-list_of bits at span old j l))
+      ])
+      (λ p below out.
+      bit_new (slice_set all place b) many is p below
+      ∙ get_or-set_other all place p b false (λ f. out (omega (arith, f, e)) (omega (arith, f, e, h)))
+      ∙ get_or-memory_bits bits at old p false below)
 
   -- the span's bits are copied from a list of bits
   pub copy-becomes : (xs ys : List Bool) (s to : ℕ) → length xs ≡ span.len → (0 < span.len → s + span.len ≤ length ys) → ((j : ℕ) → j < span.len → element xs j ≡ get_or ys (s + j) false)
@@ -153,29 +137,25 @@ module _ (bits : ℕ) (at : ℕ → ℕ) (span : Span) (old new : List ℕ) (in_
       let all : List Bool = memory_bits bits at old in
       let copied : List Bool = list_with_copy ys s all to span.len in
       let all_long = length-memory_bits bits at old in
-      written-becomes xs long (record {
-        words = many;
-        each = λ p below.
-            let now = bit_new copied many is p below in
-            let kept : get_or copied p false ≡ get_or all p false → bit_of bits at new p ≡ bit_of bits at old p = λ f. now ∙ f ∙ get_or-memory_bits bits at old p false below in
+      written-becomes xs long many
+      (λ j h.
+      let r = room (omega (arith, h)) in
+      bit_new copied many is (start + j) (omega (arith, r, h))
+      ∙ get_or-copied_inside ys s all to span.len (omega (arith, e, r, all_long)) (from_in (omega (arith, h))) (start + j) j false
+      (omega (arith, e)) h
+      ∙ sym (same j h))
+      (λ p below out. bit_new copied many is p below ∙ elim (cases_eq span.len 0) [
+        | inl none ↦ rw none (ap (λ (zs : List Bool). get_or zs p false) (sym (copied_none ys s all to)))
+        | inr more ↦ (
+            let r = room (omega arith) in
             elim (cases_lt p to) [
-              | inl before ↦ outside-element xs p _ (λ from upto. omega (arith, before, from, e)) (kept (elim (cases_eq span.len 0) [
-                | inl none ↦ rw none (ap (λ (zs : List Bool). get_or zs p false) (sym (copied_none ys s all to)))
-                | inr more ↦ get_or-copied_below ys s all to span.len (let r = room (omega arith) in omega (arith, e, r, all_long)) (from_in (omega arith)) p false before
-              ]))
+              | inl before ↦ get_or-copied_below ys s all to span.len (omega (arith, e, r, all_long)) (from_in (omega arith)) p false before
               | inr from ↦ elim (cases_lt p (to + span.len)) [
-                | inl upto ↦ (
-                    let r = room (omega (arith, from, upto)) in
-                    inside-element xs p _ (omega (arith, from, e)) (omega (arith, upto, e))
-                    (now ∙ get_or-copied_inside ys s all to span.len (omega (arith, e, r, all_long)) (from_in (omega (arith, from, upto))) p (p - to) false (omega (arith, from)) (omega (arith, from, upto))
-                    ∙ sym (ap (element xs) (let index : p - start ≡ p - to = omega (arith, e) in index) ∙ same (p - to) (omega (arith, from, upto)))))
-                | inr past ↦ outside-element xs p _ (λ a upto. omega (arith, past, upto, e)) (kept (elim (cases_eq span.len 0) [
-                  | inl none ↦ rw none (ap (λ (zs : List Bool). get_or zs p false) (sym (copied_none ys s all to)))
-                  | inr more ↦ get_or-copied_above ys s all to span.len (let r = room (omega arith) in omega (arith, e, r, all_long)) (from_in (omega arith)) p false past
-                ]))
+                | inl upto ↦ absurd (out (omega (arith, from, e)) (omega (arith, upto, e)))
+                | inr past ↦ get_or-copied_above ys s all to span.len (omega (arith, e, r, all_long)) (from_in (omega arith)) p false past
               ]
-            ];
-      })
+            ])
+      ] ∙ get_or-memory_bits bits at old p false below)
 
 -- two bits of the span are read, and each is written in the other's place
 pub swap-becomes : (bits : ℕ) (at : ℕ → ℕ) (span : Span) (old mid new : List ℕ) (i j : ℕ) (x y : Bool) → i < span.len → j < span.len → x ≡ element (list_of bits at span old) i → y ≡ element (list_of bits at span old) j
@@ -187,6 +167,43 @@ swap-becomes bits at span old mid new i j x y h k is_x is_y first second =
     becomes-same bits at span old new (slice_set (list_of bits at span mid) j x) (swap xs i j)
     (ap (λ (ys : List Bool). slice_set ys j x) first.list ∙ (λ m. slice_set (slice_set xs i (is_y m)) j (is_x m)) ∙ swap_is xs i j false (omega (arith, long, h)) (omega (arith, long, k)))
     (becomes-then bits at span old mid new _ _ first second)
+
+-- a list whose first elements are another's, and one more
+one_more : (xs ys : List Bool) (i : ℕ) → length ys ≡ length xs → i < length xs
+    → slice_set (take i ys ++ drop i xs) i (element ys i) ≡ take (i + 1) ys ++ drop (i + 1) xs
+one_more xs ys i same h =
+    let zs : List Bool = take i ys ++ drop i xs in
+    let long = length-take-le i ys (omega (arith, same, h)) in
+    let rest = length-drop i xs in
+    let all = length-append (take i ys) (drop i xs) in
+    let next : suc i ≡ i + 1 = omega arith in
+    let behind : drop (suc i) zs ≡ drop (i + 1) xs =
+    ap (λ n. drop n zs) next ∙ sym (drop-drop 1 i zs) ∙ ap (drop 1) (drop_at (take i ys) (drop i xs) i long) ∙ drop-drop 1 i xs in
+    set_split zs i (element ys i) (omega (arith, all, long, rest, h))
+    ∙ (λ m. take_at (take i ys) (drop i xs) i long m ++ (element ys i ∷ behind m))
+    ∙ sym (append_assoc (take i ys) (element ys i ∷ []) (drop (i + 1) xs))
+    ∙ ap (λ ws. ws ++ drop (i + 1) xs) (sym (take_more ys i false (omega (arith, same, h))))
+
+-- one more of the span's bits is a list's
+pub more-becomes : (bits : ℕ) (at : ℕ → ℕ) (span : Span) (old mid new : List ℕ) (ys : List Bool) (i : ℕ) (b : Bool) → length ys ≡ span.len
+    → i < span.len → b ≡ element ys i
+    → BecomesList bits at span old mid (take i ys ++ drop i (list_of bits at span old))
+    → BecomesList bits at span mid new (slice_set (list_of bits at span mid) i b)
+    → BecomesList bits at span old new (take (i + 1) ys ++ drop (i + 1) (list_of bits at span old))
+more-becomes bits at span old mid new ys i b same h is first second =
+    let long = length-list_of bits at span old in
+    becomes-same bits at span old new _ _
+    ((λ m. slice_set (first.list m) i (is m)) ∙ one_more (list_of bits at span old) ys i (omega (arith, same, long)) (omega (arith, long, h)))
+    (becomes-then bits at span old mid new _ _ first second)
+
+-- all of them are
+pub all-becomes : (bits : ℕ) (at : ℕ → ℕ) (span : Span) (old new : List ℕ) (ys : List Bool) (n : ℕ) → length ys ≡ span.len → span.len ≤ n
+    → BecomesList bits at span old new (take n ys ++ drop n (list_of bits at span old)) → BecomesList bits at span old new ys
+all-becomes bits at span old new ys n same h edit =
+    let xs : List Bool = list_of bits at span old in
+    let long = length-list_of bits at span old in
+    becomes-same bits at span old new _ _ ((λ m. take_all n ys (omega (arith, same, h)) m ++ drop_all n xs (omega (arith, long, h)) m)
+    ∙ append-nil ys) edit
 
 -- the span's bits are copied from those of another, of any width and order
 pub span-becomes : (wide : ℕ) (place_in : ℕ → ℕ) (source : Span) (from : List ℕ) (bits : ℕ) (at : ℕ → ℕ) (span : Span) (old new : List ℕ) (s to count : ℕ) → source.head < wide → Fits wide source (length from)

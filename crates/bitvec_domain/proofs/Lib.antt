@@ -3,16 +3,15 @@ pub mod BecomesLemmas
 pub mod CoverLemmas
 pub mod DisjointLemmas
 pub mod EditLemmas
-pub mod FillLemmas
-pub mod FilledLemmas
+pub mod FillWordLemmas
 pub mod ItemLemmas
 pub mod JoinLemmas
 pub mod LeftLemmas
 pub mod LentSlices
 pub mod LoanEnds
 pub mod LoanLemmas
+pub mod PartEditLemmas
 pub mod PartLemmas
-pub mod PlacedLemmas
 pub mod PointerLemmas
 pub mod RestLemmas
 pub mod SameSpans
@@ -21,4 +20,3 @@ pub mod SplitLemmas
 pub mod StretchLemmas
 pub mod TextLemmas
 pub mod WordsLemmas
-pub mod WrittenLemmas

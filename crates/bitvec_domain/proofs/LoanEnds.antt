@@ -62,14 +62,6 @@ module _ {M : Type 1} {𝓤 : Ura M} (𝓛 : Logic 𝓤) (R : RattleType) where
   abbrev pub AllEnd : Option GName × Option GName × Option GName → Three → Three → Fml
   AllEnd m v w = fsep (EndsAs R m.0 v.0 w.0) (fsep (EndsAs R m.1 v.1 w.1) (EndsAs R m.2 v.2 w.2))
 
-  -- the three ends give the whole
-  pub whole_end : (s : MutBor (List R.Denot)) (i n : ℕ) (m : Option GName × Option GName × Option GName) (w : Three)
-      → ent 𝓤 (sep 𝓤 (sem 𝓛 (LendsNamed R s i n m)) (sem 𝓛 (AllEnd m (take i s.now, take n (drop_l i s.now), drop_l n (drop_l i s.now)) w))) (sem 𝓛 (finally R s.ghost_name (w.0 ++ (w.1 ++ w.2))))
-  whole_end s i n m w =
-      let v : Three = (take i s.now, take n (drop_l i s.now), drop_l n (drop_l i s.now)) in let Out : Three → SProp 𝓤 = λ u. sem 𝓛 (finally R s.ghost_name (u.0 ++ (u.1 ++ u.2))) in
-      let Way : Three → SProp 𝓤 = λ u. wand 𝓤 (sem 𝓛 (AllEnd m v u)) (Out u) in
-      qed 𝓛 (‵ (LendsNamed R s i n m) ∷ ‵ (AllEnd m v w) ∷ []) ∵ use1 𝓛 (raw (Way w)) (all_e 𝓤 Way w) $ move ! (1 ∷ 0 ∷ []) $ by ! (apply∗ 𝓤 (sem 𝓛 (AllEnd m v w)) (Out w))
-
   module _ (lft : NamedLft) where
     abbrev Slice : RattleType
     Slice = MutSlice lft.mir lft.lft R

@@ -1,6 +1,6 @@
 -- The loans of a span's parts, and the parts in them.
-use Rattle.std.proofs.Common.{◌≡◌, ℕ, zero, suc, ◌+◌, ◌-◌, ◌<◌, ◌≤◌, ◌==◌, Bool, true, false, not, ◌&&◌, if◌then◌else◌, List, [], ◌∷◌, ◌++◌, replicate, set, length, map, take, drop, refl, sym, ap, subst, ◌∙◌, arith}
-use Rattle.std.proofs.lemmas.List.{take-map, drop-map, get_or-take, get_or-drop, length-take-le, length-drop, take_more_set, replicate_more}
+use Rattle.std.proofs.Common.{◌≡◌, ℕ, zero, suc, ◌+◌, ◌-◌, ◌<◌, ◌≤◌, ◌==◌, Bool, true, false, not, ◌&&◌, if◌then◌else◌, List, [], ◌∷◌, replicate, length, map, take, drop, refl, sym, ap, subst, ◌∙◌, arith}
+use Rattle.std.proofs.lemmas.List.{take-map, drop-map, get_or-take, get_or-drop, length-take-le, length-drop}
 use Rattle.std.proofs.lemmas.Bool.{eqb-true, eqb-false}
 use Rattle.std.specs.Prelude.{nat_abs, slice_index, slice_range, T, Option, Some, None, is_some, IfSome, option_map}
 use Rattle.std.specs.Borrow.{MutBor}
@@ -86,12 +86,6 @@ module _ (bits : ℕ) (span : Span) where
   inside-alone =
       by_rows (λ e b f o. not (inside e b f o) ≡ false → (heads e b ≡ true) × (tails e b f o ≡ false))
       (λ e t. absurd (true_false t)) (λ e t. absurd (true_false t)) (λ e t. absurd (true_false t)) (λ e t. absurd (true_false t)) (λ e o t. (refl, refl)) (λ e o t. absurd (true_false t))
-
-  -- and no body
-  pub inside-none : is_inside bits span ≡ true → body_words bits span ≡ 0
-  inside-none =
-      by_rows (λ e b f o. inside e b f o ≡ true → met - (if heads e b then 1 else 0) - (if tails e b f o then 1 else 0) ≡ 0)
-      (λ e t. absurd (false_true t)) (λ e t. absurd (false_true t)) (λ e t. absurd (false_true t)) (λ e t. absurd (false_true t)) (λ e o t. let one = eqb-true met 1 o in omega arith) (λ e o t. absurd (false_true t))
 
   module _ {R : Type 0} (number : R → ℕ) (memory : List R) where
     head-is : slot_part (slot_at bits span 0 (nat_abs span.word)) (map number (take (nat_abs span.word + 1) memory)) ≡ part_of bits span (map number memory) 0
@@ -192,7 +186,3 @@ lent_unless None false v is e = absurd (false_true is)
 pub map-replicate : {X Y : Type 0} (f : X → Y) (n : ℕ) (x : X) → map f (replicate n x) ≡ replicate n (f x)
 map-replicate f zero x = refl
 map-replicate f (suc n) x = ap (λ l. f x ∷ l) (map-replicate f n x)
-
--- one more word of a list is set
-pub set-next : {X : Type 0} (xs : List X) (k : ℕ) (x : X) → k < length xs → take k xs ≡ replicate k x → take (k + 1) (set xs k x) ≡ replicate (k + 1) x
-set-next xs k x below e = take_more_set xs k x below ∙ ap (λ l. l ++ (x ∷ [])) e ∙ replicate_more k x

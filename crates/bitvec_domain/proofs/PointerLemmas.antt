@@ -35,10 +35,6 @@ word_from (pos w) q from = omega arith
 word_from (negsuc w) q from = absurd (omega (arith, ints))
 
 module _ (bits : ℕ) (span : Span) (words : ℕ) (in_head : span.head < bits) (fits : Fits bits span words) where
-  -- its place in the memory
-  pub index-pointer_at : (i : ℕ) → index_of bits (pointer_at bits span i) ≡ nat_abs span.word * bits + span.head + i
-  index-pointer_at i = index_from span.word bits span.head i fits.0
-
   met-pointer_at : (i : ℕ) → i < span.len → (span.head + i) / bits < words_met bits span.head span.len
   met-pointer_at i h = let up = quotient_up (span.head + i) (span.head + span.len - 1) bits (omega arith) (omega arith) in omega (arith, up, words_met-some bits span.head span.len (omega arith))
 

@@ -37,10 +37,6 @@ named-loans (Region (Some head) body None) = (refl, refl)
 named-loans (Region None body (Some tail)) = (refl, refl)
 named-loans (Region None body None) = (refl, refl)
 
-pub is_some-if : {X : Type 0} (b : Bool) (x : X) → is_some (if b then Some x else None) ≡ b
-is_some-if true x = refl
-is_some-if false x = refl
-
 is_some-loan : {X : Type 0} (words : List X) (b : Bool) (slot : Slot) → is_some (loan_at words (if b then Some slot else None)) ≡ b
 is_some-loan words true slot = refl
 is_some-loan words false slot = refl

@@ -1,5 +1,5 @@
 -- The loans of stretches of bits: their names, and where the bits lie in them.
-use Rattle.std.specs.Prelude.{ℕ, ◌+◌, Bool, if◌then◌else◌, List, [], length, Option, Some, None, option_map}
+use Rattle.std.specs.Prelude.{ℕ, Bool, if◌then◌else◌, List, [], length, Option, Some, None, option_map}
 use Rattle.std.specs.Borrow.{GName}
 use Rattle.bitvec_domain.specs.Slot.{Slot}
 use Rattle.bitvec_domain.specs.Stretch.{Stretch, no_stretch, slot_stretch, whole_stretch}
@@ -18,11 +18,6 @@ BitLoans R = Loan R Stretch × Option (Loan R Stretch × Loan R Stretch)
 abbrev pub words_of_bit_loans : {R : Type 0} → BitLoans R → Option (List R) × Option (List R) × Option (List R)
 words_of_bit_loans (first, None) = (Some (loan_words first), None, None)
 words_of_bit_loans (first, Some (body, last)) = (Some (loan_words first), Some (loan_words body), Some (loan_words last))
-
--- how many bits the stretches have
-abbrev pub loans_len : {R : Type 0} → BitLoans R → ℕ
-loans_len (first, None) = first.place.len
-loans_len (first, Some (body, last)) = first.place.len + (body.place.len + last.place.len)
 
 -- the loan of a part's bits: that of the part; no bits of no words where there is no part
 abbrev pub stretch_loan : {R : Type 0} → Option (Loan R Slot) → Loan R Stretch

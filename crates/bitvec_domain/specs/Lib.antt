@@ -19,7 +19,6 @@ pub mod Span
 pub mod SpanLemmas
 pub mod SpanText
 pub mod Stretch
-pub mod Written
 pub use Rattle.bitvec_mem.specs.Digit
 pub use Rattle.bitvec_mem.specs.Numeral
 pub use Rattle.bitvec_order.specs.Order

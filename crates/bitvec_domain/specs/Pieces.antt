@@ -1,5 +1,5 @@
 -- What `Pieces` shows.
-use Rattle.std.specs.Prelude.{ℕ, nat_abs, ◌-◌, List, map, Option, option_map}
+use Rattle.std.specs.Prelude.{ℕ, nat_abs, ◌-◌, List, Option, option_map}
 use Rattle.std.specs.Borrow.{GName}
 use Rattle.bitvec_ptr.specs.Place.{words_met}
 use Rattle.bitvec_domain.specs.declared.lend.Pieces.{Pieces}
@@ -15,14 +15,6 @@ names_of pieces = (name_of pieces.front, name_of pieces.body, name_of pieces.bac
 -- the lists behind the loans
 abbrev pub piece_words : {X : Type 0} → Pieces X → Option (List X) × Option (List X) × Option (List X)
 piece_words pieces = (option_map (λ r. r.now) pieces.front, option_map (λ r. r.now) pieces.body, option_map (λ r. r.now) pieces.back)
-
--- the lists behind the loans, by the numbers of their words
-abbrev pub numbers_of : {X : Type 0} → (X → ℕ) → Pieces X → Option (List ℕ) × Option (List ℕ) × Option (List ℕ)
-numbers_of number pieces = (
-  option_map (λ r. map number r.now) pieces.front,
-  option_map (λ r. map number r.now) pieces.body,
-  option_map (λ r. map number r.now) pieces.back,
-)
 
 -- the loans of a span's parts, where these are lent
 abbrev pub piece_loans : {X : Type 0} → ℕ → Span → Pieces X → Loans X

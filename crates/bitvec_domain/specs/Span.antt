@@ -1,6 +1,6 @@
 -- Spans as intervals of places, and their lists in a memory. `bits` is the width of a word, and a memory is the list of
 -- its words' numbers.
-use Rattle.std.specs.Prelude.{◌≡◌, ℕ, ℤ, pos, nat_abs, ◌+◌, ◌-◌, ◌*◌, ◌/◌, ◌%◌, ◌≤◌, ◌+ℤ◌, ◌≤ℤ◌, ◌<ℤ◌, ◌&&◌, Bool, false, List, length, slice_index_or, nat_le}
+use Rattle.std.specs.Prelude.{◌≡◌, ℕ, ℤ, pos, nat_abs, ◌+◌, ◌-◌, ◌*◌, ◌/◌, ◌%◌, ◌≤◌, ◌+ℤ◌, ◌≤ℤ◌, ◌<ℤ◌, ◌==◌, ◌&&◌, if◌then◌else◌, Bool, false, List, ◌++◌, length, take, drop, replicate, slice_index_or, nat_le, nat_lt}
 use Rattle.bitvec_order.specs.Order.{number_of}
 use Rattle.bitvec_ptr.specs.Memory.{bit_of, tabulate}
 use Rattle.bitvec_ptr.specs.Place.{place_at, words_met}
@@ -78,3 +78,15 @@ word_of bits at head xs k = number_of at (λ i. nat_le head (k * bits + i) && el
 -- the words of a list under a head, one for each word that it meets
 abbrev pub words_of : ℕ → (ℕ → ℕ) → ℕ → List Bool → List ℕ
 words_of bits at head xs = tabulate (words_met bits head (length xs)) (word_of bits at head xs)
+
+-- the list with f j in place of each bit j that lies in its word k
+abbrev pub with_word : ℕ → ℕ → List Bool → ℕ → (ℕ → Bool) → List Bool
+with_word bits head xs k f = tabulate (length xs) (λ j. if (head + j) / bits == k then f j else element xs j)
+
+-- the list with one bit in place of each that lies in its words from word `from` to before word `upto`
+abbrev pub with_words : ℕ → ℕ → List Bool → ℕ → ℕ → Bool → List Bool
+with_words bits head xs from upto bit = tabulate (length xs) (λ j. if nat_le from ((head + j) / bits) && nat_lt ((head + j) / bits) upto then bit else element xs j)
+
+-- the list with each bit from bit `from` to before bit `to` made the same
+abbrev pub with_filled : List Bool → ℕ → ℕ → Bool → List Bool
+with_filled xs from to bit = take from xs ++ replicate (to - from) bit ++ drop to xs

@@ -22,7 +22,6 @@ mod partial_element;
 mod partial_element_mut;
 mod shape;
 mod text;
-mod written;
 
 pub use self::bit_domain::BitDomain;
 pub use self::bit_domain_mut::BitDomainMut;

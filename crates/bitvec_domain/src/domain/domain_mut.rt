@@ -2,18 +2,14 @@
 
 ghost use Rattle.std.specs.Prelude.{◌≡◌, pos, ◌+◌, ◌-◌, ◌<◌, ◌≤◌, ◌≤ℤ◌, nat_abs};
 ghost use Rattle.std.specs.Prelude.{true, false, length, map, IfSome, MatchOption, is_some};
-ghost use Rattle.std.specs.Prelude.{Some, None, IsNone, [], replicate, option_map};
+ghost use Rattle.std.specs.Prelude.{IsNone, option_map};
 ghost use Rattle.std.specs.Borrow.{sem};
 ghost use Rattle.bitvec_ptr.specs.Place.{words_met};
 ghost use Rattle.bitvec_domain.specs.Span.{Fits};
 ghost use Rattle.bitvec_domain.specs.Parts.{parts_of, is_enclave, HasShortBody};
-ghost use Rattle.bitvec_domain.specs.Loans.{is_inside, has_head, has_tail};
-ghost use Rattle.bitvec_domain.specs.Loans.{span_loans, word_of_bit, filled_loan};
-ghost use Rattle.bitvec_domain.specs.Loans.{filled_loans, filled_memory, loan_words};
-ghost use Rattle.bitvec_domain.specs.Loans.{words_of_loans};
+ghost use Rattle.bitvec_domain.specs.Loans.{span_loans, loan_words, words_of_loans};
 ghost use Rattle.bitvec_domain.specs.Lending.{name_of};
-ghost use Rattle.bitvec_domain.specs.PartialElementMut.{memory_of};
-ghost use Rattle.bitvec_domain.specs.Pieces.{names_of, numbers_of, piece_words, piece_loans};
+ghost use Rattle.bitvec_domain.specs.Pieces.{names_of, piece_words, piece_loans};
 ghost use Rattle.bitvec_domain.specs.DomainMut.{part_name, loan_names, part_loan, loans_of};
 ghost use Rattle.bitvec_domain.specs.DomainMut.{Enclave, Region, lent_parts, LendsDomain};
 ghost use Rattle.bitvec_domain.specs.DomainMut.{DomainRestsIfNone};
@@ -210,30 +206,6 @@ impl<'a, R: BitRegister, O> DomainMut<'a, R, O> {
 impl<R: BitRegister, O> BitSpan<R, O> {
     ghost use Rattle.bitvec_domain.specs.BitSpan.{span_of};
 
-    // Whether the span does not begin with its first word's first bit.
-    pub(crate) fn has_head(self) -> bool
-        ensures { result ≡ has_head (span_of self) }
-    {
-        self.len() != 0 && self.head().into_inner() != 0
-    }
-
-    // Whether the span has bits of one word alone, with neither its first nor its last.
-    fn is_inside(self) -> bool
-        ensures { result ≡ is_inside R.BITS (span_of self) }
-    {
-        self.len() != 0
-            && self.head().into_inner() != 0
-            && self.tail().into_inner() != R::BITS
-            && self.elements() == 1
-    }
-
-    // Whether there is a part behind the whole words.
-    pub(crate) fn has_tail(self) -> bool
-        ensures { result ≡ has_tail R.BITS (span_of self) }
-    {
-        self.len() != 0 && self.tail().into_inner() != R::BITS && !self.is_inside()
-    }
-
     // The domain whose parts lie in these pieces; without a body it is an enclave.
     fn assemble<'a>(self, shape: Shape, pieces: Pieces<'a, R>) -> DomainMut<'a, R, O>
         requires word { pos 0 ≤ℤ (span_of self).word }
@@ -297,96 +269,5 @@ impl<R: BitRegister, O> BitSpan<R, O> {
             shape.has_tail,
         );
         self.assemble(shape, pieces)
-    }
-}
-
-// Makes each bit of some words the same.
-fn fill_words<R: BitRegister>(words: &mut [R], bit: bool)
-    ensures { map R.number words.new ≡ replicate (length words.old) (word_of_bit R.BITS bit) }
-{
-    let word = if bit { R::ALL } else { R::ZERO };
-    let mut k = 0;
-    while k < words.len() {
-        words[k] = word;
-        k += 1;
-    }
-}
-
-// Makes each bit of a part the same, and gives the words that it borrows.
-fn fill_part<'a, R: BitRegister, O: BitOrder<R>>(
-    part: PartialElementMut<'a, R, O>,
-    bit: bool,
-) -> &'a mut [R]
-    ensures reference { result.ghost_name ≡ (memory_of part.entry).ghost_name }
-    ensures words { map R.number result.now
-        ≡ filled_loan R.number R.BITS O.at_of bit (part_loan part.entry) }
-{
-    let mut part = part;
-    if bit {
-        part.set();
-    } else {
-        part.clear();
-    }
-    part.into_memory()
-}
-
-// The same of a part that may not be there.
-fn fill_part_if<'a, R: BitRegister, O: BitOrder<R>>(
-    part: Option<PartialElementMut<'a, R, O>>,
-    bit: bool,
-) -> Option<&'a mut [R]>
-    ensures reference { name_of result ≡ part_name part.entry }
-    ensures words { option_map (λ r. map R.number r.now) result
-        ≡ option_map (filled_loan R.number R.BITS O.at_of bit) (option_map part_loan part.entry) }
-{
-    match part {
-        Some(part) => Some(fill_part(part, bit)),
-        None => None,
-    }
-}
-
-// Makes each bit of a domain the same, and gives the words that it borrows.
-fn fill_domain<'a, R: BitRegister, O: BitOrder<R>>(
-    domain: DomainMut<'a, R, O>,
-    bit: bool,
-) -> Pieces<'a, R>
-    ensures names { names_of result ≡ loan_names domain.entry }
-    ensures words { numbers_of R.number result
-        ≡ filled_loans R.number R.BITS O.at_of bit (loans_of domain.entry) }
-{
-    match domain {
-        DomainMut::Enclave(part) => Pieces {
-            front: Some(fill_part(part, bit)),
-            body: None,
-            back: None,
-        },
-        DomainMut::Region { head, body, tail } => {
-            fill_words(body, bit);
-            let front = fill_part_if(head, bit);
-            let back = fill_part_if(tail, bit);
-            Pieces {
-                front,
-                body: Some(body),
-                back,
-            }
-        }
-    }
-}
-
-impl<R: BitRegister, O: BitOrder<R>> BitSpan<R, O> {
-    ghost use Rattle.bitvec_domain.specs.BitSpan.{span_of};
-
-    // Makes each bit of the span in a memory the same, by the parts that the memory is lent as.
-    pub(crate) fn fill_pieces(self, memory: &mut [R], bit: bool)
-        requires { Fits R.BITS (span_of self) (length memory.old) }
-        ensures { map R.number memory.new
-            ≡ filled_memory R.BITS O.at_of bit (span_of self) (map R.number memory.old) }
-    {
-        let domain = self.domain_mut(memory);
-        let Pieces {
-            front: _,
-            body: _,
-            back: _,
-        } = fill_domain(domain, bit);
     }
 }

@@ -172,7 +172,8 @@ impl<'a, R: BitRegister, O: BitOrder<R>> PartialElementMut<'a, R, O> {
     /// Puts the digits of `value` at the positions of the bits, without a shift, and returns the
     /// previous ones as [`load_value`](PartialElementMut::load_value) does.
     ///
-    /// Every other digit stays, and every other word.
+    /// Every other digit stays, and every other word, and so the list of each span that is disjoint
+    /// from the part.
     pub fn store_value(&mut self, value: R) -> R
         ensures reference { (memory_of self.new).ghost_name ≡ (memory_of self.old).ghost_name }
         ensures slot { slot_in self.new ≡ slot_in self.old }

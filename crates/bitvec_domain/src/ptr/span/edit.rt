@@ -1,15 +1,24 @@
 //! Edits of a span's bits in a memory that it fits: each says what the span's list becomes, and
 //! leaves every other bit of the memory as it is.
 
-ghost use Rattle.std.specs.Prelude.{◌≡◌, ◌+◌, ◌<◌, ◌≤◌, length, replicate, slice_set};
+ghost use Rattle.std.specs.Prelude.{◌≡◌, ℕ, ◌+◌, ◌<◌, ◌≤◌, length, replicate, slice_set};
 ghost use Rattle.std.specs.List.{swap};
+ghost use Rattle.bitvec_mem.specs.Digit.{digit};
 ghost use Rattle.bitvec_ptr.specs.Memory.{list_with_copy};
-ghost use Rattle.bitvec_domain.specs.Span.{Fits, element};
+ghost use Rattle.bitvec_ptr.specs.Place.{words_met};
+ghost use Rattle.bitvec_domain.specs.Span.{Fits, element, with_words};
 ghost use Rattle.bitvec_domain.specs.BitSpan.{span_of, list_by, Becomes};
 
 use crate::ptr::span::BitSpan;
 use bitvec_mem::mem::BitRegister;
 use bitvec_order::order::BitOrder;
+
+// The word whose bits are all the same.
+fn same_bits<R: BitRegister>(bit: bool) -> R
+    ensures { (p : ℕ) → p < R.BITS → digit (R.number result) p ≡ bit }
+{
+    if bit { R::ALL } else { R::ZERO }
+}
 
 impl<R: BitRegister, O: BitOrder<R>> BitSpan<R, O> {
     /// The bit `i` places after the span's first, in a memory that the span
@@ -159,7 +168,46 @@ impl<R: BitRegister, O: BitOrder<R>> BitSpan<R, O> {
         requires { Fits R.BITS (span_of self) (length memory.old) }
         ensures { Becomes self O.at_of memory.old memory.new (replicate (span_of self).len bit) }
     {
-        self.fill_pieces(memory, bit);
+        let elements = self.elements();
+        if elements == 0 {
+            return;
+        }
+        self.fill_part(memory, 0, bit);
+        if elements == 1 {
+            return;
+        }
+        self.fill_between(memory, elements - 1, bit);
+        self.fill_part(memory, elements - 1, bit);
+    }
+
+    // Makes each bit of the span in the `k`-th word that it meets the same.
+    fn fill_part(self, memory: &mut [R], k: usize, bit: bool)
+        requires fits { Fits R.BITS (span_of self) (length memory.old) }
+        requires met { k < words_met R.BITS (span_of self).head (span_of self).len }
+        ensures { Becomes self O.at_of memory.old memory.new (with_words R.BITS (span_of self).head
+            (list_by self O.at_of memory.old) k (k + 1) bit) }
+    {
+        let mut part = self.part_mut(memory, k);
+        if bit {
+            part.set();
+        } else {
+            part.clear();
+        }
+    }
+
+    // Makes each bit of the words behind the first and before the last, the word `last`, the same.
+    fn fill_between(self, memory: &mut [R], last: usize, bit: bool)
+        requires fits { Fits R.BITS (span_of self) (length memory.old) }
+        requires last { last + 1 ≡ words_met R.BITS (span_of self).head (span_of self).len }
+        requires more { 1 ≤ last }
+        ensures { Becomes self O.at_of memory.old memory.new (with_words R.BITS (span_of self).head
+            (list_by self O.at_of memory.old) 1 last bit) }
+    {
+        let word = same_bits(bit);
+        let first = self.address() as usize;
+        for k in 1..last {
+            memory[first + k] = word;
+        }
     }
 
     /// Makes the bits of the span in a memory those of a list of as many, and leaves every other
@@ -172,8 +220,8 @@ impl<R: BitRegister, O: BitOrder<R>> BitSpan<R, O> {
         requires len { length bits.now ≡ (span_of self).len }
         ensures { Becomes self O.at_of memory.old memory.new bits.now }
     {
-        let head = self.has_head();
-        let tail = self.has_tail();
-        self.write_pieces(memory, bits, head, tail);
+        for i in 0..self.len() {
+            self.write(memory, i, bits[i]);
+        }
     }
 }

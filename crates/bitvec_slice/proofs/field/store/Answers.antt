@@ -6,8 +6,8 @@ use Rattle.bitvec.specs.Place.{words_met}
 use Rattle.bitvec.specs.Span.{Fits, element, list_of}
 use Rattle.bitvec.proofs.BecomesLemmas.{becomes, numbers-many}
 use Rattle.bitvec.proofs.MemoryLemmas.{length-tabulate}
+use Rattle.bitvec.proofs.PartEditLemmas.{becomes-edited}
 use Rattle.bitvec.proofs.PartLemmas.{length-list_of}
-use Rattle.bitvec.proofs.WordLemmas.{becomes-edited}
 use Rattle.bitvec_slice.specs.Field.{field_bits, field_list, number_with, lowest_digits}
 use Rattle.bitvec_slice.proofs.FieldPartLemmas.{has_parts, has_parts_below}
 use Rattle.bitvec_slice.proofs.FieldStoreLemmas.{stored_before, stored_none, stored_more, stored_all, stored_loads, length-field_list}

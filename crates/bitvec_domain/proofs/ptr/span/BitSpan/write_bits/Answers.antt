@@ -1,12 +1,18 @@
-use Rattle.bitvec_ptr.proofs.PlaceOrder.{bit_below}
+use Rattle.std.proofs.Common.{◌<◌, ◌≤◌, map, refl, arith}
 use Rattle.bitvec_domain.specs.BitSpan.{span_of}
-use Rattle.bitvec_domain.proofs.BecomesLemmas.{fits-numbers, written-becomes}
+use Rattle.bitvec_domain.proofs.BecomesLemmas.{more-becomes, all-becomes}
 use Rattle.bitvec_domain.proofs.ptr.span.BitSpan.write_bits.Goals as goal
+
+pub loop-i-preserved : goal.loop-i-preserved
+loop-i-preserved g c =
+    let number = g.R.BitRegister.number in
+    let below : c.loop-i.i < c.args.self.len = omega (arith, c.loop-i-test.true, c.len-i-end.ensures) in
+    more-becomes g.R.BitRegister.BITS g.O.BitAt.at_of (span_of c.args.self) (map number c.args.memory.now)
+    (map number c.loop-i.memory) _ c.args.bits.now c.loop-i.i _ c.requires.len below refl c.loop-i.invariant c.write.ensures
 
 pub returns : goal.returns
 returns g c =
-    let width = g.R.BitRegister.BITS in
-    let span = c.args.self in
-    let in_head = bit_below width span.head g.met.R.BitRegister.width_at_least_8 span.in_word in
-    let fits = fits-numbers width (span_of span) g.R.BitRegister.number c.args.memory.now c.requires.fits in
-    written-becomes width g.O.BitAt.at_of (span_of span) _ _ in_head fits c.args.bits.now c.requires.len c.write_pieces.ensures
+    let number = g.R.BitRegister.number in
+    let all : c.args.self.len ≤ c.loop-i.i = omega (arith, c.loop-i-test.false, c.len-i-end.ensures) in
+    all-becomes g.R.BitRegister.BITS g.O.BitAt.at_of (span_of c.args.self) (map number c.args.memory.now)
+    (map number c.loop-i.memory) c.args.bits.now c.loop-i.i c.requires.len all c.loop-i.invariant
