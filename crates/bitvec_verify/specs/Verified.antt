@@ -1,5 +1,7 @@
 -- What the verifier returns, in the terms of the scan.
-use Rattle.std.specs.Prelude.{◌≡◌, ◌↔◌, Option, Some, None, Result, Ok, Err, IsOk, IfErr}
+use Rattle.std.specs.Prelude.{◌≡◌, ◌↔◌, ℕ, ◌+◌, Option, Some, None, Result, Ok, Err, IsOk, IfErr, List, [], ◌∷◌, take, All}
+use Rattle.std.specs.Option.{option_map, option_or}
+use Rattle.std.specs.Result.{result_err}
 use Rattle.bitvec_verify.specs.Scan.{Candidate, Fault, wrong_selector, repeated, wrong_mask, IsLawful, first_fault, tests}
 use Rattle.bitvec_verify.specs.declared.verify.OrderFault.{OrderFault}
 use Rattle.bitvec_verify.specs.declared.verify.OrderFault.TheVariants.{Select, Repeated, Mask}
@@ -17,34 +19,23 @@ abbrev pub fault_in : {R T : Type 0} → Result T (OrderFault R) → Option Faul
 fault_in (Ok _) = None
 fault_in (Err fault) = Some (numbers_of fault)
 
--- what a candidate gives at each register that is scanned
-pub record Candidates : Type 0 where
-  pub at_u8 : Candidate
-  pub at_u16 : Candidate
-  pub at_u32 : Candidate
-  pub at_usize : Candidate
-  pub at_u64 : Candidate
-  pub at_u128 : Candidate
+-- the number of an error's register in the order of the scan, from 0, and its fault
+abbrev pub fault_at : VerifyFault → ℕ × Fault
+fault_at (U8 fault) = (0, numbers_of fault)
+fault_at (U16 fault) = (1, numbers_of fault)
+fault_at (U32 fault) = (2, numbers_of fault)
+fault_at (Usize fault) = (3, numbers_of fault)
+fault_at (U64 fault) = (4, numbers_of fault)
+fault_at (U128 fault) = (5, numbers_of fault)
 
--- the candidate is lawful at each register
-abbrev pub IsLawfulEach : Candidates → Type 0
-IsLawfulEach cs = IsLawful cs.at_u8 × IsLawful cs.at_u16 × IsLawful cs.at_u32 × IsLawful cs.at_usize × IsLawful cs.at_u64 × IsLawful cs.at_u128
+-- the index and the fault of the first candidate of a list that has one
+unfoldable pub first_faulty : List Candidate → Option (ℕ × Fault)
+first_faulty [] = None
+first_faulty (c ∷ cs) =
+    option_or (option_map (λ fault. (0, fault)) (first_fault c (tests c.width))) (option_map (λ later. (later.0 + 1, later.1)) (first_faulty cs))
 
--- the fault is the first of the candidate's scan
-abbrev pub IsFirstFaultOf : {R : Type 0} → Candidate → OrderFault R → Type 0
-IsFirstFaultOf c fault = first_fault c (tests c.width) ≡ Some (numbers_of fault)
-
--- the fault is the first at its register, and the candidate is lawful at the registers before
-abbrev pub IsFirstFault : Candidates → VerifyFault → Type 0
-IsFirstFault cs (U8 fault) = IsFirstFaultOf cs.at_u8 fault
-IsFirstFault cs (U16 fault) = IsLawful cs.at_u8 × IsFirstFaultOf cs.at_u16 fault
-IsFirstFault cs (U32 fault) = IsLawful cs.at_u8 × IsLawful cs.at_u16 × IsFirstFaultOf cs.at_u32 fault
-IsFirstFault cs (Usize fault) = IsLawful cs.at_u8 × IsLawful cs.at_u16 × IsLawful cs.at_u32 × IsFirstFaultOf cs.at_usize fault
-IsFirstFault cs (U64 fault) = IsLawful cs.at_u8 × IsLawful cs.at_u16 × IsLawful cs.at_u32 × IsLawful cs.at_usize × IsFirstFaultOf cs.at_u64 fault
-IsFirstFault cs (U128 fault) =
-    IsLawful cs.at_u8 × IsLawful cs.at_u16 × IsLawful cs.at_u32 × IsLawful cs.at_usize × IsLawful cs.at_u64 × IsFirstFaultOf cs.at_u128 fault
-
--- the answer is `Ok` exactly where the candidate is lawful at each register, and an error is the first fault
-pub record Verifies {T : Type 0} (cs : Candidates) (answer : Result T VerifyFault) : Type 0 where
-  pub lawful : IsOk answer ↔ IsLawfulEach cs
-  pub first : IfErr answer (IsFirstFault cs)
+-- the answer is `Ok` exactly where each candidate is lawful, an error is the first fault, and the candidates before it are lawful
+pub record Verifies {T : Type 0} (cs : List Candidate) (answer : Result T VerifyFault) : Type 0 where
+  pub lawful : IsOk answer ↔ All IsLawful cs
+  pub first : option_map fault_at (result_err answer) ≡ first_faulty cs
+  pub before : IfErr answer (λ fault. All IsLawful (take (fault_at fault).0 cs))
