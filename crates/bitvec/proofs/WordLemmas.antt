@@ -16,7 +16,7 @@ use Rattle.bitvec_domain.specs.Slot.{slot_of, edited_word, EditsPart}
 use Rattle.bitvec_domain.proofs.PartLemmas.{inside-from_part, part-from_inside, bit_of-span, element-list_of, length-list_of, value_of-part_of}
 use Rattle.bitvec_domain.proofs.BecomesLemmas.{becomes}
 use Rattle.bitvec_domain.proofs.CoverLemmas.{covers-own}
-use Rattle.bitvec.specs.Commands.{with_word}
+use Rattle.bitvec.specs.ListEdits.{with_word}
 
 both : (a b : Bool) → a ≡ true → b ≡ true → (a && b) ≡ true
 both true true e f = refl

@@ -1,5 +1,6 @@
 pub mod Commands
 pub mod Laws
+pub mod ListEdits
 pub mod Run
 pub mod Words
 pub use Rattle.bitvec_mem.specs.Digit

@@ -4,7 +4,7 @@ use Rattle.std.proofs.lemmas.Bool.{cases_order, lt-ltb, le-ltb, eq-eqb, ne_eqb}
 use Rattle.std.proofs.lemmas.List.{get_or-reverse, length-reverse, reverse-reverse}
 use Rattle.std.proofs.lemmas.Nat.{div-add-mod', mod_below, pow_pos, and_le_r}
 use Rattle.std.proofs.Math.Nat.{mod-lt}
-use Rattle.bitvec.specs.Commands.{with_word}
+use Rattle.bitvec.specs.ListEdits.{with_word}
 use Rattle.bitvec.specs.Digit.{digit}
 use Rattle.bitvec.specs.Memory.{tabulate}
 use Rattle.bitvec.specs.Place.{words_met}
