@@ -1,6 +1,6 @@
 -- From what spans' commands do alone to what two runs do.
 use Rattle.std.proofs.Common.{◌≡◌, ℕ, zero, suc, ◌<◌, List, [], ◌∷◌, length, map, Some, ap, ◌∙◌, sym, refl, subst, inl, inr, arith}
-use Rattle.std.specs.Prelude.{slice_get, All}
+use Rattle.std.specs.Prelude.{slice_get, take, Option, None, All}
 use Rattle.std.specs.List.{AllZip, AllByRecursion}
 use Rattle.std.specs.Option.{option_map}
 use Rattle.std.proofs.lemmas.List.Elements.{All-from_recursion, recursion_from_All}
@@ -9,8 +9,9 @@ use Rattle.std.proofs.lemmas.Option.{none-some, same_Some, slice_get-map, slice_
 use Rattle.bitvec_domain.specs.Span.{Span, Fits, list_of}
 use Rattle.bitvec.specs.declared.run.command.Request.{Request}
 use Rattle.bitvec.specs.declared.run.command.Reply.{Reply}
-use Rattle.bitvec.specs.Commands.{own_commands, own_replies}
-use Rattle.bitvec.specs.Run.{CanRun, IsRun, AnswersNoSpan, alone_replies, alone_list}
+use Rattle.bitvec.specs.Laws.{own_replies}
+use Rattle.bitvec.specs.Run.{CanRun, IsRun, alone_from, reply_behind}
+use Rattle.bitvec.proofs.ReplyLemmas.{own_replies-alone}
 
 -- a list of spans as a list of their numbers
 pub at_view : {S T : Type 0} (view : S → T) (xs : List S) (s : ℕ) (x : S) → slice_get xs s ≡ Some x → slice_get (map view xs) s ≡ Some (view x)
@@ -52,32 +53,35 @@ fits_of_views bits view number spans memory can =
     all_views view (λ span. Fits bits span (length (map number memory))) spans (subst (λ (n : ℕ). All (λ x. Fits bits (view x) n) spans) (sym (length-map memory number)) can.0)
 
 -- a run through spans is a run through their numbers
-pub run_of_views : {S : Type 0} (bits : ℕ) (at : ℕ → ℕ) (view : S → Span) (spans : List S) (old new : List ℕ) (requests : List (Request ℕ)) (replies : List (Reply ℕ))
-    → IsRun bits at view spans old requests replies new → IsRun bits at (λ (x : Span). x) (map view spans) old requests replies new
-run_of_views {S} bits at view spans old new requests replies run = record {
-  own = λ s span is. let found = from_view view spans s span is in
-      subst (λ (p : Span). own_replies s requests replies ≡ alone_replies bits at p old (own_commands s requests)) found.2 (run.own s found.0 found.1);
-  no_span = subst (λ (n : ℕ). AnswersNoSpan n requests replies) (sym (length-map spans view)) run.no_span;
-  placed = record {
-    lists = λ s span is. let found = from_view view spans s span is in
-        subst (λ (p : Span). list_of bits at p new ≡ alone_list bits at p old (own_commands s requests)) found.2 (run.placed.lists s found.0 found.1);
-    others = λ place out. run.placed.others place (λ s x is. out s (view x) (at_view view spans s x is));
-    apart = λ word head len from beside. run.placed.apart word head len from (λ s x is. beside s (view x) (at_view view spans s x is));
-    as_many_words = run.placed.as_many_words;
-  };
-}
+pub run_of_views : {S W : Type 0} (number : W → ℕ) (bits : ℕ) (at : ℕ → ℕ) (view : S → Span) (spans : List S) (old new : List ℕ) (requests : List (Request W)) (replies : List (Reply ℕ))
+    → IsRun number bits at view spans old requests replies new → IsRun number bits at (λ (x : Span). x) (map view spans) old requests replies new
+run_of_views {S} {W} number bits at view spans old new requests replies run =
+    let same : (o : Option S) (n : ℕ) (q : Request W) → reply_behind number bits at view old (take n requests) q o ≡ reply_behind number bits at (λ (x : Span). x) old (take n requests) q (option_map view o) =
+    λ o n q. elim o as (λ (p : Option S). reply_behind number bits at view old (take n requests) q p ≡ reply_behind number bits at (λ (x : Span). x) old (take n requests) q (option_map view p)) [ None ↦ refl | Some x ↦ refl ] in
+    record {
+      as_many = run.as_many;
+      each = λ n q is. run.each n q is ∙ ap (λ r. Some r) (same (slice_get spans q.span) n q ∙ ap (reply_behind number bits at (λ (x : Span). x) old (take n requests) q) (sym (slice_get-map view spans q.span)));
+      placed = record {
+        lists = λ s span is. let found = from_view view spans s span is in
+            subst (λ (p : Span). list_of bits at p new ≡ (alone_from number bits at p old s requests).1) found.2 (run.placed.lists s found.0 found.1);
+        others = λ place out. run.placed.others place (λ s x is. out s (view x) (at_view view spans s x is));
+        apart = λ word head len from beside. run.placed.apart word head len from (λ s x is. beside s (view x) (at_view view spans s x is));
+        as_many_words = run.placed.as_many_words;
+      };
+    }
 
-module _ {S T : Type 0} (P : Reply ℕ → Reply ℕ → Type 0) (bits other_bits : ℕ) (at other_at : ℕ → ℕ) (view : S → Span) (other_view : T → Span) (spans : List S) (other_spans : List T)
-    (old here other_old there : List ℕ) (requests other_requests : List (Request ℕ)) (replies other_replies : List (Reply ℕ))
-    (run : IsRun bits at view spans old requests replies here) (other_run : IsRun other_bits other_at other_view other_spans other_old other_requests other_replies there)
+module _ {S T V W : Type 0} (P : Reply ℕ → Reply ℕ → Type 0) (number : V → ℕ) (other_number : W → ℕ) (bits other_bits : ℕ) (at other_at : ℕ → ℕ) (view : S → Span) (other_view : T → Span) (spans : List S) (other_spans : List T)
+    (old here other_old there : List ℕ) (requests : List (Request V)) (other_requests : List (Request W)) (replies other_replies : List (Reply ℕ))
+    (run : IsRun number bits at view spans old requests replies here) (other_run : IsRun other_number other_bits other_at other_view other_spans other_old other_requests other_replies there)
     (long : length spans ≡ length other_spans)
-    (alone : (s : ℕ) (x : S) (y : T) → slice_get spans s ≡ Some x → slice_get other_spans s ≡ Some y
-    → AllZip P (alone_replies bits at (view x) old (own_commands s requests)) (alone_replies other_bits other_at (other_view y) other_old (own_commands s other_requests))
-    × (alone_list bits at (view x) old (own_commands s requests) ≡ alone_list other_bits other_at (other_view y) other_old (own_commands s other_requests))) where
+    (agree : (s : ℕ) (x : S) (y : T) → slice_get spans s ≡ Some x → slice_get other_spans s ≡ Some y
+    → let one = alone_from number bits at (view x) old s requests in let other = alone_from other_number other_bits other_at (other_view y) other_old s other_requests in
+    AllZip P one.0 other.0 × (one.1 ≡ other.1)) where
   replies_at : (s : ℕ) (x : S) (y : T) → slice_get spans s ≡ Some x → slice_get other_spans s ≡ Some y → AllZip P (own_replies s requests replies) (own_replies s other_requests other_replies)
   replies_at s x y is it =
-      subst (λ (rs : List (Reply ℕ)). AllZip P rs (own_replies s other_requests other_replies)) (sym (run.own s x is))
-      (subst (λ (rs : List (Reply ℕ)). AllZip P (alone_replies bits at (view x) old (own_commands s requests)) rs) (sym (other_run.own s y it)) (alone s x y is it).0)
+      let mine = own_replies-alone number bits at view spans old here requests replies run s x is in
+      let theirs = own_replies-alone other_number other_bits other_at other_view other_spans other_old there other_requests other_replies other_run s y it in
+      rw (mine, theirs) (agree s x y is it).0
 
   -- what holds of each span's replies alone holds of its replies in the two runs
   pub carried_replies : (s : ℕ) → s < length spans → AllZip P (own_replies s requests replies) (own_replies s other_requests other_replies)
@@ -91,27 +95,10 @@ module _ {S T : Type 0} (P : Reply ℕ → Reply ℕ → Type 0) (bits other_bit
   pub carried_lists : AllZip (λ x y. list_of bits at (view x) here ≡ list_of other_bits other_at (other_view y) there) spans other_spans
   carried_lists =
       zip_pointwise (λ x y. list_of bits at (view x) here ≡ list_of other_bits other_at (other_view y) there) spans other_spans long
-      (λ s x y is it. run.placed.lists s x is ∙ (alone s x y is it).1 ∙ sym (other_run.placed.lists s y it))
-
--- what holds of each span's number holds of two spans with one number
-pub alone_of_equal_views : {S T : Type 0} (P : Reply ℕ → Reply ℕ → Type 0) (bits : ℕ) (at other_at : ℕ → ℕ) (view : S → Span) (other_view : T → Span) (spans : List S) (other_spans : List T)
-    (old other_old : List ℕ) (requests other_requests : List (Request ℕ)) → map view spans ≡ map other_view other_spans
-    → ((s : ℕ) (span : Span) → slice_get (map view spans) s ≡ Some span
-    → AllZip P (alone_replies bits at span old (own_commands s requests)) (alone_replies bits other_at span other_old (own_commands s other_requests))
-    × (alone_list bits at span old (own_commands s requests) ≡ alone_list bits other_at span other_old (own_commands s other_requests)))
-    → (s : ℕ) (x : S) (y : T) → slice_get spans s ≡ Some x → slice_get other_spans s ≡ Some y
-    → AllZip P (alone_replies bits at (view x) old (own_commands s requests)) (alone_replies bits other_at (other_view y) other_old (own_commands s other_requests))
-    × (alone_list bits at (view x) old (own_commands s requests) ≡ alone_list bits other_at (other_view y) other_old (own_commands s other_requests))
-alone_of_equal_views P bits at other_at view other_view spans other_spans old other_old requests other_requests same alone s x y is it =
-    let here = at_view view spans s x is in
-    let same_view : view x ≡ other_view y = same_Some (view x) (other_view y) (sym here ∙ ap (λ ps. slice_get ps s) same ∙ at_view other_view other_spans s y it) in
-    subst
-    (λ (p : Span). AllZip P (alone_replies bits at (view x) old (own_commands s requests)) (alone_replies bits other_at p other_old (own_commands s other_requests))
-    × (alone_list bits at (view x) old (own_commands s requests) ≡ alone_list bits other_at p other_old (own_commands s other_requests)))
-    same_view (alone s (view x) here)
+      (λ s x y is it. run.placed.lists s x is ∙ (agree s x y is it).1 ∙ sym (other_run.placed.lists s y it))
 
 -- what holds of two spans' numbers holds of the spans
-pub alone_of_views : {S T : Type 0} (Q : ℕ → Span → Span → Type 0) (view : S → Span) (other_view : T → Span) (spans : List S) (other_spans : List T)
+pub of_views : {S T : Type 0} (Q : ℕ → Span → Span → Type 0) (view : S → Span) (other_view : T → Span) (spans : List S) (other_spans : List T)
     → ((s : ℕ) (a b : Span) → slice_get (map view spans) s ≡ Some a → slice_get (map other_view other_spans) s ≡ Some b → Q s a b)
     → (s : ℕ) (x : S) (y : T) → slice_get spans s ≡ Some x → slice_get other_spans s ≡ Some y → Q s (view x) (other_view y)
-alone_of_views Q view other_view spans other_spans alone s x y is it = alone s (view x) (other_view y) (at_view view spans s x is) (at_view other_view other_spans s y it)
+of_views Q view other_view spans other_spans all s x y is it = all s (view x) (other_view y) (at_view view spans s x is) (at_view other_view other_spans s y it)

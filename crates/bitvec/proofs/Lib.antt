@@ -1,8 +1,11 @@
 pub mod AppendedRuns
 pub mod BitCommandLemmas
 pub mod CommandLemmas
+pub mod CutLemmas
 pub mod LaterLemmas
 pub mod LawLemmas
+pub mod PutLemmas
+pub mod ReplyLemmas
 pub mod RequestLemmas
 pub mod RisingLemmas
 pub mod TurnLemmas

@@ -15,7 +15,7 @@ use crate::order::BitOrder;
 /// equal lists. Then the same requests of `Read`, `Replace`, `Swap`, `Copy` and `Fill` alone get
 /// each span the same replies, and leave it equal lists.
 pub fn bit_commands<R: BitRegister, O: BitOrder<R>, R2: BitRegister, O2: BitOrder<R2>>()
-    ensures { BitCommandsAgree R.BITS O.at_of R2.BITS O2.at_of }
+    ensures { BitCommandsAgree R.number R.BITS O.at_of R2.number R2.BITS O2.at_of }
 {}
 
 /// An order changes only where a bit lies.
@@ -26,5 +26,5 @@ pub fn bit_commands<R: BitRegister, O: BitOrder<R>, R2: BitRegister, O2: BitOrde
 /// `Store` turned, get each span the same replies, with the numbers of `Word` turned, and leave it
 /// equal lists.
 pub fn turned_orders<R: BitRegister, O: BitOrder<R>, O2: BitOrder<R>>()
-    ensures { TurnedOrdersAgree R.BITS O.at_of O2.at_of }
+    ensures { TurnedOrdersAgree R.number R.BITS O.at_of O2.at_of }
 {}

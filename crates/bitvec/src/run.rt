@@ -8,7 +8,7 @@ ghost use Rattle.std.specs.Prelude.{AllPairs, List, [], ◌∷◌, length, map};
 ghost use Rattle.bitvec_ptr.specs.Place.{place_at};
 ghost use Rattle.bitvec_domain.specs.Span.{AreDisjoint};
 ghost use Rattle.bitvec_domain.specs.BitSpan.{span_of};
-ghost use Rattle.bitvec.specs.Commands.{request_number, reply_number};
+ghost use Rattle.bitvec.specs.Commands.{reply_number};
 ghost use Rattle.bitvec.specs.Run.{CanRun, IsRun};
 
 use crate::mem::BitRegister;
@@ -107,8 +107,8 @@ fn serve<R: BitRegister, O: BitOrder<R>>(
     request: Request<R>,
 ) -> Reply<R>
     requires { CanRun R.BITS span_of spans.now (length memory.old) }
-    ensures { IsRun R.BITS O.at_of span_of spans.now (map R.number memory.old)
-        (request_number R.number request ∷ []) (reply_number R.number result ∷ [])
+    ensures { IsRun R.number R.BITS O.at_of span_of spans.now (map R.number memory.old)
+        (request ∷ []) (reply_number R.number result ∷ [])
         (map R.number memory.new) }
 {
     if request.span < spans.len() {
@@ -149,8 +149,8 @@ pub fn run<R: BitRegister, O: BitOrder<R>>(
 )
     requires can_run { CanRun R.BITS span_of spans.now (length memory.old) }
     requires room { length replies.old ≡ length requests.now }
-    ensures { IsRun R.BITS O.at_of span_of spans.now (map R.number memory.old)
-        (map (request_number R.number) requests.now) (map (reply_number R.number) replies.new)
+    ensures { IsRun R.number R.BITS O.at_of span_of spans.now (map R.number memory.old)
+        requests.now (map (reply_number R.number) replies.new)
         (map R.number memory.new) }
 {
     for n in 0..requests.len() {

@@ -5,6 +5,8 @@ use Rattle.std.specs.Prelude.{slice_set}
 use Rattle.std.proofs.lemmas.List.{take_more, take_more_set, map_push}
 use Rattle.std.proofs.lemmas.List.Elements.{All-append}
 use Rattle.bitvec.proofs.AppendedRuns.{run-more}
+use Rattle.bitvec.proofs.CommandLemmas.{step-same}
+use Rattle.bitvec.specs.Laws.{AreSameCommands, IsSameNumber}
 use Rattle.bitvec.specs.Run.{CanRun, IsStep, IsRun}
 use Rattle.bitvec.specs.Span.{Span}
 use Rattle.bitvec.specs.declared.run.command.Command.{Command}
@@ -23,13 +25,15 @@ can_run_plain bits spans words some inside apart = (
 )
 
 -- a step by other names of the span, the command and the reply
-pub step_as : (bits : ℕ) (at : ℕ → ℕ) (s t : Span) (old new : List ℕ) (c d : Command ℕ) (r q : Reply ℕ) → s ≡ t → c ≡ d → q ≡ r → IsStep bits at s old c r new → IsStep bits at t old d q new
-step_as bits at s t old new c d r q spans commands replies is =
-    subst (λ (u : Span). IsStep bits at u old d q new) spans (subst (λ (e : Command ℕ). IsStep bits at s old e q new) commands (subst (λ (p : Reply ℕ). IsStep bits at s old c p new) (sym replies) is))
+pub step_as : {W : Type 0} (number : W → ℕ) (bits : ℕ) (at : ℕ → ℕ) (s t : Span) (old new : List ℕ) (c : Command W) (d : Command ℕ) (r q : Reply ℕ)
+    → s ≡ t → AreSameCommands number (λ n. n) IsSameNumber c d → q ≡ r → IsStep number bits at s old c r new → IsStep (λ n. n) bits at t old d q new
+step_as number bits at s t old new c d r q spans commands replies is =
+    let plain = step-same number (λ n. n) bits at s old new c d r commands is in
+    rw (← spans, replies) plain
 
 -- a run of one request, by plain numbers
 pub one_plain : (bits : ℕ) (at : ℕ → ℕ) (spans : List PlainSpan) (old new : List ℕ) (request : PlainRequest) (reply : PlainReply)
-    → IsRun bits at (plain_span bits) spans old (plain_request bits request ∷ []) (reply_of reply ∷ []) new → IsPlainReply reply
+    → IsRun (λ n. n) bits at (plain_span bits) spans old (plain_request bits request ∷ []) (reply_of reply ∷ []) new → IsPlainReply reply
     → IsPlainRun bits at spans old (request ∷ []) (reply ∷ []) new
 one_plain bits at spans old new request reply run plain = record {
   run = run;
@@ -42,7 +46,7 @@ pub plain_more : (bits : ℕ) (at : ℕ → ℕ) (spans : List PlainSpan) (old m
     → IsPlainRun bits at spans mid (get_or requests n none ∷ []) (reply ∷ []) new
     → IsPlainRun bits at spans old (take (n + 1) requests) (take (n + 1) (slice_set replies n reply)) new
 plain_more bits at spans old mid new requests replies n none reply h k so_far last = record {
-  run = rw (take_more requests n none h, take_more_set replies n reply k, map_push, map_push) (run-more bits at (plain_span bits) spans old mid new _ _ _ _ so_far.run last.run);
+  run = rw (take_more requests n none h, take_more_set replies n reply k, map_push, map_push) (run-more (λ n. n) bits at (plain_span bits) spans old mid new _ _ _ _ so_far.run last.run);
   plain = rw (take_more_set replies n reply k) (All-append IsPlainReply (take n replies) (reply ∷ []) so_far.plain last.plain);
 }
 

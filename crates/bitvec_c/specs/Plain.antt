@@ -73,5 +73,5 @@ pub record IsPlainReply (reply : PlainReply) : Type 0 where
 
 -- the requests got the replies, and made the memory `new` of `old`
 pub record IsPlainRun (bits : ℕ) (at : ℕ → ℕ) (spans : List PlainSpan) (old : List ℕ) (requests : List PlainRequest) (replies : List PlainReply) (new : List ℕ) : Type 0 where
-  pub run : IsRun bits at (plain_span bits) spans old (map (plain_request bits) requests) (map reply_of replies) new
+  pub run : IsRun (λ n. n) bits at (plain_span bits) spans old (map (plain_request bits) requests) (map reply_of replies) new
   pub plain : All IsPlainReply replies

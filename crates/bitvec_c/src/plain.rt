@@ -1,7 +1,8 @@
 //! Spans, requests and replies by plain numbers, as C has them.
 
 ghost use Rattle.std.specs.Prelude.{◌≡◌, ℕ, ◌+◌, ◌*◌, ◌≤◌, ◌^◌, ◌%◌, ◌↔◌, IsTrue, All, length};
-ghost use Rattle.bitvec.specs.Commands.{command_number, reply_number};
+ghost use Rattle.bitvec.specs.Commands.{reply_number};
+ghost use Rattle.bitvec.specs.Laws.{AreSameCommands, IsSameNumber};
 ghost use Rattle.bitvec.specs.Span.{AreDisjoint};
 ghost use Rattle.bitvec_c.specs.Plain.{plain_span, AllShort, AllInside, AllApart, lowest};
 ghost use Rattle.bitvec_c.specs.Plain.{plain_command, AreCommands, reply_of, IsPlainReply};
@@ -133,7 +134,8 @@ fn bit_of_number(number: u64) -> bool
 fn bit_command<R: BitRegister>(request: &PlainRequest) -> Command<R>
     requires bits { 5 ≤ request.now.command }
     requires command { request.now.command ≤ 9 }
-    ensures { command_number R.number result ≡ plain_command R.BITS request.now }
+    ensures { AreSameCommands R.number (λ n. n) IsSameNumber result
+        (plain_command R.BITS request.now) }
 {
     let value = bit_of_number(request.number);
     match request.command {
@@ -157,7 +159,8 @@ fn bit_command<R: BitRegister>(request: &PlainRequest) -> Command<R>
 pub(crate) fn command_of<R: BitRegister>(request: &PlainRequest) -> Command<R>
     requires narrow { R.BITS ≤ 64 }
     requires command { request.now.command ≤ 9 }
-    ensures { command_number R.number result ≡ plain_command R.BITS request.now }
+    ensures { AreSameCommands R.number (λ n. n) IsSameNumber result
+        (plain_command R.BITS request.now) }
 {
     match request.command {
         0 => Command::Load(request.a),

@@ -4,11 +4,10 @@ use Rattle.std.proofs.lemmas.Bool.{cases_order, lt-ltb, le-ltb, eq-eqb, ne_eqb}
 use Rattle.std.proofs.lemmas.List.{get_or-reverse, length-reverse, reverse-reverse}
 use Rattle.std.proofs.lemmas.Nat.{div-add-mod', mod_below, pow_pos, and_le_r}
 use Rattle.std.proofs.Math.Nat.{mod-lt}
-use Rattle.bitvec.specs.Commands.{with_word}
 use Rattle.bitvec.specs.Digit.{digit}
 use Rattle.bitvec.specs.Memory.{tabulate}
 use Rattle.bitvec.specs.Place.{words_met}
-use Rattle.bitvec.specs.Span.{element}
+use Rattle.bitvec.specs.Span.{element, with_word}
 use Rattle.bitvec.proofs.DigitLemmas.{digit-and, digit_all, digit-mod}
 use Rattle.bitvec.proofs.MemoryLemmas.{length-tabulate, get_or-tabulate, tabulate-from_elements, tabulate_same}
 use Rattle.bitvec_slice.specs.Field.{IsSequential, stretch_start, stretch_end, mirrored, turned_in_words, field_bits, field_list, position_of, shift_at, place_in, number_with, lowest_digits}

@@ -1,5 +1,5 @@
 -- What a store leaves in a field, and what a field is read as.
-use Rattle.std.proofs.Common.{◌≡◌, ℕ, ◌+◌, ◌-◌, ◌*◌, ◌/◌, ◌%◌, ◌^◌, ◌<◌, ◌≤◌, ◌⊎◌, false, List, length, map, arith, inl, inr, subst, ap, refl, sym, ◌∙◌}
+use Rattle.std.proofs.Common.{◌≡◌, ℕ, ◌+◌, ◌-◌, ◌*◌, ◌/◌, ◌%◌, ◌^◌, ◌<◌, ◌≤◌, ◌⊎◌, false, Bool, List, length, map, arith, inl, inr, subst, ap, refl, sym, ◌∙◌}
 use Rattle.std.proofs.lemmas.List.{map-id}
 use Rattle.std.proofs.lemmas.Int.{ints}
 use Rattle.std.proofs.lemmas.Bool.{ne_eqb, eq-eqb}
@@ -9,7 +9,7 @@ use Rattle.bitvec.specs.Memory.{bit_of}
 use Rattle.bitvec.specs.Span.{Span, Fits, list_of, element, word_of}
 use Rattle.bitvec.specs.Place.{words_met}
 use Rattle.bitvec.specs.Slot.{Slot, slot_of, EditsPart}
-use Rattle.bitvec.specs.Commands.{list_after}
+use Rattle.bitvec.specs.Commands.{outcome, list_in}
 use Rattle.bitvec.specs.Run.{IsStep}
 use Rattle.bitvec.specs.declared.run.command.Command.TheVariants.{Store}
 use Rattle.bitvec.specs.declared.run.command.Reply.TheVariants.{Word}
@@ -24,9 +24,13 @@ one_word start len some in_word =
     let quotient : (start + len - 1) / 32 + 1 ≡ 1 = omega (arith, some, in_word) in
     rw (ne_eqb len 0 (λ e. omega (arith, some, e))) quotient
 
--- bit j of a field's list, after a value was stored in it
+-- a field's list after a value was stored in it
+abbrev pub stored_list : (ℕ → ℕ) → ℕ → ℕ → List Bool → List Bool
+stored_list at start value xs = list_in xs (outcome (λ n. n) 32 at start (Store 0 value) xs)
+
+-- its bit j
 stored-element : (at : ℕ → ℕ) (start len value : ℕ) (old : List ℕ) (j : ℕ) → 1 ≤ len → start + len ≤ 32 → j < len
-    → element (list_after 32 at start (Store 0 value) (list_of 32 at (field_span start len) old)) j ≡ digit value (at (start + j))
+    → element (stored_list at start value (list_of 32 at (field_span start len) old)) j ≡ digit value (at (start + j))
 stored-element at start len value old j some in_word h =
     let row : (start + j) / 32 ≡ 0 = omega (arith, in_word, h) in
     let index : (start + j) % 32 ≡ start + j = omega (arith, in_word, h) in
@@ -35,7 +39,7 @@ stored-element at start len value old j some in_word h =
 
 -- the bit at each place of a field that has the list of a stored value
 pub stored : (at : ℕ → ℕ) (start len value : ℕ) (old new : List ℕ) → 1 ≤ len → start + len ≤ 32
-    → list_of 32 at (field_span start len) new ≡ list_after 32 at start (Store 0 value) (list_of 32 at (field_span start len) old)
+    → list_of 32 at (field_span start len) new ≡ stored_list at start value (list_of 32 at (field_span start len) old)
     → (place : ℕ) → start ≤ place → place < start + len → bit_of 32 at new place ≡ digit value (at place)
 stored at start len value old new some in_word same place from upto =
     let j = place - start in
@@ -56,7 +60,7 @@ module _ (at : ℕ → ℕ) (start len value : ℕ) (span : Span) (slot : Slot) 
     (is_span : span ≡ field_span start len) (is_slot : slot ≡ slot_of 32 span 0) (is_memory : before ≡ old)
     (edits : EditsPart 32 at slot (λ i. digit value (at i)) (map (λ w. w) before) (map (λ w. w) after) answer) (is_new : after ≡ new) where
   -- a store in a field's part is a step through its span
-  step : IsStep 32 at (field_span start len) old (Store 0 value) (Word answer) new
+  step : IsStep (λ n. n) 32 at (field_span start len) old (Store 0 value) (Word answer) new
   step =
       let field = field_span start len in
       let one = one_word start len some in_word in
@@ -67,7 +71,7 @@ module _ (at : ℕ → ℕ) (start len value : ℕ) (span : Span) (slot : Slot) 
       subst (λ s. EditsPart 32 at s (λ i. digit value (at i)) old new answer) slot_same
       (subst (λ ws. EditsPart 32 at slot (λ i. digit value (at i)) ws new answer) (map-id before ∙ is_memory)
       (subst (λ ws. EditsPart 32 at slot (λ i. digit value (at i)) (map (λ w. w) before) ws answer) (map-id after ∙ is_new) edits)) in
-      step-store 32 at field 0 old new answer law (omega (arith, some, in_word)) fits met value edits
+      step-store (λ n. n) 32 at field old new 0 answer law (omega (arith, some, in_word)) fits met value edits
 
   -- every bit before the field and behind it stays
   pub outside_same : (place : ℕ) → (place < start) ⊎ (start + len ≤ place) → bit_of 32 at new place ≡ bit_of 32 at old place

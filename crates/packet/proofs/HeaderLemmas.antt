@@ -9,7 +9,7 @@ use Rattle.std.proofs.lemmas.List.Kept.{AllPairs-cons}
 use Rattle.bitvec.specs.Digit.{digit}
 use Rattle.bitvec.specs.Memory.{bit_of}
 use Rattle.bitvec.specs.Span.{Span, Fits, Covers, AreDisjoint, list_of}
-use Rattle.bitvec.specs.Commands.{request_number, own_commands, list_after, list_after_all}
+use Rattle.bitvec.specs.Commands.{alone, own_commands}
 use Rattle.bitvec.specs.Run.{CanRun, IsOutside, IsRun}
 use Rattle.bitvec.specs.declared.run.command.Command.{Command}
 use Rattle.bitvec.specs.declared.run.command.Command.TheVariants.{Store}
@@ -18,7 +18,7 @@ use Rattle.bitvec.specs.declared.run.command.Reply.{Reply}
 use Rattle.packet.specs.declared.header.Header.{Header}
 use Rattle.packet.specs.Field.{field_span, shifted_number}
 use Rattle.packet.specs.Header.{HasHeader}
-use Rattle.packet.proofs.FieldLemmas.{one_word, stored}
+use Rattle.packet.proofs.FieldLemmas.{one_word, stored_list, stored}
 
 -- a field that ends before another begins has no place in common with it
 apart : (start len next count : ℕ) → start + len ≤ next → AreDisjoint 32 (field_span start len) (field_span next count)
@@ -80,15 +80,15 @@ module _ {S : Type 0} (view : S → Span) (a b c d : S)
       subst (λ x. ¬ Covers 32 (view x) (pos place)) (get_or_from_slice_get spans s span span is) (out s span (slice_get_within spans s span is))
 
 module _ {S : Type 0} (view : S → Span) (spans : List S) (at : ℕ → ℕ) (before after : List ℕ) (requests : List (Request ℕ)) (replies : List (Reply ℕ))
-    (ran : IsRun 32 at view spans (map (λ w. w) before) requests replies (map (λ w. w) after)) where
+    (ran : IsRun (λ n. n) 32 at view spans (map (λ w. w) before) requests replies (map (λ w. w) after)) where
   -- a span that one store goes through has the value's digits
   pub stored-by_run : (s start len value : ℕ) (span : S) → slice_get spans s ≡ Some span → view span ≡ field_span start len → own_commands s requests ≡ Store 0 value ∷ [] → 1 ≤ len → start + len ≤ 32
       → (place : ℕ) → start ≤ place → place < start + len → bit_of 32 at after place ≡ digit value (at place)
   stored-by_run s start len value span is is_field own some in_word =
-      let lists = subst (λ ws. list_of 32 at (view span) ws ≡ list_after_all 32 at (view span).head (own_commands s requests) (list_of 32 at (view span) (map (λ w. w) before))) (map-id after) (ran.placed.lists s span is) in
-      let same : list_of 32 at (field_span start len) after ≡ list_after 32 at start (Store 0 value) (list_of 32 at (field_span start len) (map (λ w. w) before)) =
-      subst (λ f. list_of 32 at f after ≡ list_after_all 32 at f.head (Store 0 value ∷ []) (list_of 32 at f (map (λ w. w) before))) is_field
-      (subst (λ commands. list_of 32 at (view span) after ≡ list_after_all 32 at (view span).head commands (list_of 32 at (view span) (map (λ w. w) before))) own lists) in
+      let lists = subst (λ ws. list_of 32 at (view span) ws ≡ (alone (λ n. n) 32 at (view span).head (own_commands s requests) (list_of 32 at (view span) (map (λ w. w) before))).1) (map-id after) (ran.placed.lists s span is) in
+      let same : list_of 32 at (field_span start len) after ≡ stored_list at start value (list_of 32 at (field_span start len) (map (λ w. w) before)) =
+      subst (λ f. list_of 32 at f after ≡ (alone (λ n. n) 32 at f.head (Store 0 value ∷ []) (list_of 32 at f (map (λ w. w) before))).1) is_field
+      (subst (λ commands. list_of 32 at (view span) after ≡ (alone (λ n. n) 32 at (view span).head commands (list_of 32 at (view span) (map (λ w. w) before))).1) own lists) in
       stored at start len value (map (λ w. w) before) after some in_word same
 
   -- and every bit outside all spans is as before
@@ -101,7 +101,7 @@ pub header-written : {S : Type 0} (view : S → Span) (a b c d : S) → view a �
     → (r0 r1 r2 r3 : Request ℕ) (k0 k1 k2 k3 : Command ℕ) (at : ℕ → ℕ) (header : Header)
     → r0 ≡ record { span = 0; command = k0 } → r1 ≡ record { span = 1; command = k1 } → r2 ≡ record { span = 2; command = k2 } → r3 ≡ record { span = 3; command = k3 }
     → k0 ≡ Store 0 (shifted_number at 0 4 header.version) → k1 ≡ Store 0 (shifted_number at 4 6 header.class) → k2 ≡ Store 0 (shifted_number at 10 6 header.flags) → k3 ≡ Store 0 (shifted_number at 16 16 header.length)
-    → (before after : List ℕ) (replies : List (Reply ℕ)) → IsRun 32 at view (a ∷ b ∷ c ∷ d ∷ []) (map (λ w. w) before) (map (request_number (λ w. w)) (r0 ∷ r1 ∷ r2 ∷ r3 ∷ [])) replies (map (λ w. w) after)
+    → (before after : List ℕ) (replies : List (Reply ℕ)) → IsRun (λ n. n) 32 at view (a ∷ b ∷ c ∷ d ∷ []) (map (λ w. w) before) (r0 ∷ r1 ∷ r2 ∷ r3 ∷ []) replies (map (λ w. w) after)
     → HasHeader at header after
 header-written view a b c d is_version is_class is_flags is_length r0 r1 r2 r3 k0 k1 k2 k3 at header t0 t1 t2 t3 s0 s1 s2 s3 before after replies ran =
     record {

@@ -13,7 +13,11 @@ use Rattle.bitvec.specs.Span.{Span, Covers, Fits, list_of, element}
 use Rattle.bitvec.proofs.PartLemmas.{element-list_of}
 use Rattle.bitvec.specs.declared.run.command.Request.{Request}
 use Rattle.bitvec.specs.declared.run.command.Reply.{Reply}
-use Rattle.bitvec.specs.Run.{IsRun, IsOutside, alone_replies, alone_list, HaveSameOwnCommands, HaveSameOwnReplies}
+use Rattle.bitvec.specs.declared.run.command.Command.{Command}
+use Rattle.bitvec.specs.Commands.{alone}
+use Rattle.bitvec.specs.Laws.{HaveSameOwnCommands, HaveSameOwnReplies}
+use Rattle.bitvec.specs.Run.{IsRun, IsOutside, alone_from}
+use Rattle.bitvec.proofs.ReplyLemmas.{own_replies-alone}
 use Rattle.tests_runs.specs.SameRuns.{OrderBetweenSpansDoesNotMatter}
 
 -- the bounds of a span that begins at a word from 0 on
@@ -46,18 +50,26 @@ same_or_not false false = inl refl
 fits_of : {S : Type 0} (bits : ℕ) (view : S → Span) (spans : List S) (words s : ℕ) (span : S) → All (λ x. Fits bits (view x) words) spans → slice_get spans s ≡ Some span → Fits bits (view span) words
 fits_of bits view spans words s span fits is = subst (λ x. Fits bits (view x) words) (get_or_from_slice_get spans s span span is) (fits s span (slice_get_within spans s span is))
 
-module _ {S : Type 0} (bits : ℕ) (at : ℕ → ℕ) (view : S → Span) (spans : List S) (old here there : List ℕ) (requests other_requests : List (Request ℕ)) (replies other_replies : List (Reply ℕ))
+module _ {S W : Type 0} (number : W → ℕ) (bits : ℕ) (at : ℕ → ℕ) (view : S → Span) (spans : List S) (old here there : List ℕ) (requests other_requests : List (Request W)) (replies other_replies : List (Reply ℕ))
     (same : HaveSameOwnCommands (length spans) requests other_requests)
-    (run : IsRun bits at view spans old requests replies here) (other_run : IsRun bits at view spans old other_requests other_replies there) where
+    (run : IsRun number bits at view spans old requests replies here) (other_run : IsRun number bits at view spans old other_requests other_replies there) where
+  -- what its commands give a span alone is the same in both
+  same_alone : (s : ℕ) (span : S) → slice_get spans s ≡ Some span → alone_from number bits at (view span) old s requests ≡ alone_from number bits at (view span) old s other_requests
+  same_alone s span is =
+      ap (λ (cs : List (Command W)). alone number bits at (view span).head cs (list_of bits at (view span) old)) (same s (slice_get_within spans s span is))
+
   replies_of_numbers : HaveSameOwnReplies (length spans) requests replies other_requests other_replies
   replies_of_numbers s within =
       elim ((slice_get_cases spans s).1) [
-        | inl found ↦ run.own s found.0 found.2 ∙ ap (alone_replies bits at (view found.0) old) (same s within) ∙ sym (other_run.own s found.0 found.2)
+        | inl found ↦ (
+            own_replies-alone number bits at view spans old here requests replies run s found.0 found.2
+            ∙ ap (λ (o : List (Reply ℕ) × List Bool). o.0) (same_alone s found.0 found.2)
+            ∙ sym (own_replies-alone number bits at view spans old there other_requests other_replies other_run s found.0 found.2))
         | inr past ↦ absurd (omega (arith, past.0, within))
       ]
 
   same_list : (s : ℕ) (span : S) → slice_get spans s ≡ Some span → list_of bits at (view span) here ≡ list_of bits at (view span) there
-  same_list s span is = run.placed.lists s span is ∙ ap (alone_list bits at (view span) old) (same s (slice_get_within spans s span is)) ∙ sym (other_run.placed.lists s span is)
+  same_list s span is = run.placed.lists s span is ∙ ap (λ (o : List (Reply ℕ) × List Bool). o.1) (same_alone s span is) ∙ sym (other_run.placed.lists s span is)
 
   -- a bit that differed would lie in no span, and so be as before in both
   same_bit : All (λ span. Fits bits (view span) (length old)) spans → (place : ℕ) → bit_of bits at here place ≡ bit_of bits at there place
@@ -75,14 +87,14 @@ module _ {S : Type 0} (bits : ℕ) (at : ℕ → ℕ) (view : S → Span) (spans
       sym (bit_of-word bits at here k i in_word) ∙ same_bit fits (k * bits + i) ∙ bit_of-word bits at there k i in_word)
 
 -- the law, of lists of numbers
-pub same_runs : (bits : ℕ) (at : ℕ → ℕ) → IsOneToOne bits at → OrderBetweenSpansDoesNotMatter bits at
-same_runs bits at law spans old here there requests other_requests replies other_replies fits below other_below same run other_run =
+pub same_runs : {W : Type 0} (number : W → ℕ) (bits : ℕ) (at : ℕ → ℕ) → IsOneToOne bits at → OrderBetweenSpansDoesNotMatter number bits at
+same_runs number bits at law spans old here there requests other_requests replies other_replies fits below other_below same run other_run =
     let long : length here ≡ length there = run.placed.as_many_words ∙ sym other_run.placed.as_many_words in (
-      replies_of_numbers bits at (λ (x : Span). x) spans old here there requests other_requests replies other_replies same run other_run,
+      replies_of_numbers number bits at (λ (x : Span). x) spans old here there requests other_requests replies other_replies same run other_run,
       same_lists here there long (λ k d h.
           let within : k < length there = omega (arith, h, long) in
           get_or_default here k d 0 h
-          ∙ same_number bits at (λ (x : Span). x) spans old here there requests other_requests replies other_replies same run other_run fits law k (below k 0 h) (other_below k 0 within)
+          ∙ same_number number bits at (λ (x : Span). x) spans old here there requests other_requests replies other_replies same run other_run fits law k (below k 0 h) (other_below k 0 within)
           ∙ sym (get_or_default there k d 0 within)),
     )
 

@@ -5,11 +5,12 @@ ghost use Rattle.std.specs.List.{AllZip};
 ghost use Rattle.bitvec.specs.Memory.{memory_bits};
 ghost use Rattle.bitvec.specs.BitSpan.{span_of};
 ghost use Rattle.bitvec.specs.Span.{list_of};
-ghost use Rattle.bitvec.specs.Commands.{request_number, reply_number, own_replies};
-ghost use Rattle.bitvec.specs.Run.{CanRun, HaveSameOwnCommands, HaveSameOwnReplies};
+ghost use Rattle.bitvec.specs.Commands.{reply_number};
+ghost use Rattle.bitvec.specs.Run.{CanRun};
 ghost use Rattle.tests_runs.specs.SameRuns.{OrderBetweenSpansDoesNotMatter};
 ghost use Rattle.bitvec.specs.Laws.{AreSameRequests, AreSameReplies, IsSameNumber, IsTurned};
-ghost use Rattle.bitvec.specs.Laws.{IsBitCommand};
+ghost use Rattle.bitvec.specs.Laws.{IsBitCommand, own_replies, HaveSameOwnCommands};
+ghost use Rattle.bitvec.specs.Laws.{HaveSameOwnReplies};
 
 use bitvec::index::BitIdx;
 use bitvec::laws::{bit_commands, turned_orders};
@@ -39,15 +40,15 @@ fn run_bit_commands<R: BitRegister, O: BitOrder<R>, R2: BitRegister, O2: BitOrde
         ≡ list_of R2.BITS O2.at_of (span_of other) (map R2.number there.old)) spans.now
         other_spans.now }
     requires bit_commands { All (λ request. IsBitCommand request.command)
-        (map (request_number R.number) requests.now) }
-    requires same_requests { AllZip (AreSameRequests IsSameNumber)
-        (map (request_number R.number) requests.now)
-        (map (request_number R2.number) other_requests.now) }
+        requests.now }
+    requires same_requests { AllZip (AreSameRequests R.number R2.number IsSameNumber)
+        requests.now
+        other_requests.now }
     ensures same_replies { (s : ℕ) → s < length spans.now
         → AllZip (AreSameReplies IsSameNumber)
-        (own_replies s (map (request_number R.number) requests.now)
+        (own_replies s requests.now
         (map (reply_number R.number) replies.new))
-        (own_replies s (map (request_number R2.number) other_requests.now)
+        (own_replies s other_requests.now
         (map (reply_number R2.number) other_replies.new)) }
     ensures same_lists { AllZip (λ span other. list_of R.BITS O.at_of (span_of span)
         (map R.number here.new) ≡ list_of R2.BITS O2.at_of (span_of other)
@@ -78,14 +79,14 @@ fn run_turned<R: BitRegister, O: BitOrder<R>, O2: BitOrder<R>>(
     requires same_spans { map span_of spans.now ≡ map span_of other_spans.now }
     requires same_bits { memory_bits R.BITS O.at_of (map R.number here.old)
         ≡ memory_bits R.BITS O2.at_of (map R.number there.old) }
-    requires same_requests { AllZip (AreSameRequests (IsTurned R.BITS O.at_of O2.at_of))
-        (map (request_number R.number) requests.now)
-        (map (request_number R.number) other_requests.now) }
+    requires same_requests { AllZip (AreSameRequests R.number R.number (IsTurned R.BITS O.at_of O2.at_of))
+        requests.now
+        other_requests.now }
     ensures same_replies { (s : ℕ) → s < length spans.now
         → AllZip (AreSameReplies (IsTurned R.BITS O.at_of O2.at_of))
-        (own_replies s (map (request_number R.number) requests.now)
+        (own_replies s requests.now
         (map (reply_number R.number) replies.new))
-        (own_replies s (map (request_number R.number) other_requests.now)
+        (own_replies s other_requests.now
         (map (reply_number R.number) other_replies.new)) }
     ensures same_lists { AllZip (λ span other. list_of R.BITS O.at_of (span_of span)
         (map R.number here.new) ≡ list_of R.BITS O2.at_of (span_of other) (map R.number there.new))
@@ -99,7 +100,7 @@ fn run_turned<R: BitRegister, O: BitOrder<R>, O2: BitOrder<R>>(
 /// How the commands of different spans stand among each other does not matter, nor which requests
 /// name no span. It takes and returns nothing; its contract is the law.
 fn order_between_spans_does_not_matter<R: BitRegister, O: BitOrder<R>>()
-    ensures { OrderBetweenSpansDoesNotMatter R.BITS O.at_of }
+    ensures { OrderBetweenSpansDoesNotMatter R.number R.BITS O.at_of }
 {}
 
 // The number of each word is one of the register's: `to_u128` says so of the word that it is called
@@ -128,11 +129,11 @@ fn run_in_two_orders<R: BitRegister, O: BitOrder<R>>(
     requires other_room { length other_replies.old ≡ length other_requests.now }
     requires same_memory { here.old ≡ there.old }
     requires same_commands { HaveSameOwnCommands (length spans.now)
-        (map (request_number R.number) requests.now)
-        (map (request_number R.number) other_requests.now) }
+        requests.now
+        other_requests.now }
     ensures same_replies { HaveSameOwnReplies (length spans.now)
-        (map (request_number R.number) requests.now) (map (reply_number R.number) replies.new)
-        (map (request_number R.number) other_requests.now)
+        requests.now (map (reply_number R.number) replies.new)
+        other_requests.now
         (map (reply_number R.number) other_replies.new) }
     ensures same_memory { here.new ≡ there.new }
 {

@@ -3,7 +3,7 @@
 ghost use Rattle.std.specs.Prelude.{◌≡◌, ℕ, ◌+◌, ◌≤◌, ◌↔◌, IsTrue, length, map};
 ghost use Rattle.bitvec_domain.specs.Span.{Fits};
 ghost use Rattle.bitvec_domain.specs.BitSpan.{span_of};
-ghost use Rattle.bitvec.specs.Commands.{command_number, reply_number};
+ghost use Rattle.bitvec.specs.Commands.{reply_number};
 ghost use Rattle.bitvec.specs.Run.{IsStep};
 ghost use Rattle.bitvec.specs.declared.run.command.Command.TheVariants.{Load, Store, Set, Clear};
 ghost use Rattle.bitvec.specs.declared.run.command.Command.TheVariants.{Invert, Read, Replace};
@@ -18,7 +18,7 @@ use crate::run::word;
 // Returns the value of a word of the span.
 fn load<R: BitRegister, O: BitOrder<R>>(span: BitSpan<R, O>, memory: &[R], k: usize) -> Reply<R>
     requires { Fits R.BITS (span_of span) (length memory.now) }
-    ensures { IsStep R.BITS O.at_of (span_of span) (map R.number memory.now) (Load k)
+    ensures { IsStep R.number R.BITS O.at_of (span_of span) (map R.number memory.now) (Load k)
         (reply_number R.number result) (map R.number memory.now) }
 {
     match word::load(span, memory, k) {
@@ -35,8 +35,8 @@ fn store<R: BitRegister, O: BitOrder<R>>(
     value: R,
 ) -> Reply<R>
     requires { Fits R.BITS (span_of span) (length memory.old) }
-    ensures { IsStep R.BITS O.at_of (span_of span) (map R.number memory.old)
-        (Store k (R.number value)) (reply_number R.number result) (map R.number memory.new) }
+    ensures { IsStep R.number R.BITS O.at_of (span_of span) (map R.number memory.old)
+        (Store k value) (reply_number R.number result) (map R.number memory.new) }
 {
     match word::store(span, memory, k, value) {
         Some(word) => Reply::Word(word),
@@ -47,7 +47,7 @@ fn store<R: BitRegister, O: BitOrder<R>>(
 // Makes the span's bits in a word one.
 fn set<R: BitRegister, O: BitOrder<R>>(span: BitSpan<R, O>, memory: &mut [R], k: usize) -> Reply<R>
     requires { Fits R.BITS (span_of span) (length memory.old) }
-    ensures { IsStep R.BITS O.at_of (span_of span) (map R.number memory.old) (Set k)
+    ensures { IsStep R.number R.BITS O.at_of (span_of span) (map R.number memory.old) (Set k)
         (reply_number R.number result) (map R.number memory.new) }
 {
     match word::set(span, memory, k) {
@@ -63,7 +63,7 @@ fn clear<R: BitRegister, O: BitOrder<R>>(
     k: usize,
 ) -> Reply<R>
     requires { Fits R.BITS (span_of span) (length memory.old) }
-    ensures { IsStep R.BITS O.at_of (span_of span) (map R.number memory.old) (Clear k)
+    ensures { IsStep R.number R.BITS O.at_of (span_of span) (map R.number memory.old) (Clear k)
         (reply_number R.number result) (map R.number memory.new) }
 {
     match word::clear(span, memory, k) {
@@ -79,7 +79,7 @@ fn invert<R: BitRegister, O: BitOrder<R>>(
     k: usize,
 ) -> Reply<R>
     requires { Fits R.BITS (span_of span) (length memory.old) }
-    ensures { IsStep R.BITS O.at_of (span_of span) (map R.number memory.old) (Invert k)
+    ensures { IsStep R.number R.BITS O.at_of (span_of span) (map R.number memory.old) (Invert k)
         (reply_number R.number result) (map R.number memory.new) }
 {
     match word::invert(span, memory, k) {
@@ -91,7 +91,7 @@ fn invert<R: BitRegister, O: BitOrder<R>>(
 // Returns a bit of the span.
 fn read<R: BitRegister, O: BitOrder<R>>(span: BitSpan<R, O>, memory: &[R], index: usize) -> Reply<R>
     requires { Fits R.BITS (span_of span) (length memory.now) }
-    ensures { IsStep R.BITS O.at_of (span_of span) (map R.number memory.now) (Read index)
+    ensures { IsStep R.number R.BITS O.at_of (span_of span) (map R.number memory.now) (Read index)
         (reply_number R.number result) (map R.number memory.now) }
 {
     if index < span.len() {
@@ -109,7 +109,7 @@ fn replace<R: BitRegister, O: BitOrder<R>>(
     bit: bool,
 ) -> Reply<R>
     requires { Fits R.BITS (span_of span) (length memory.old) }
-    ensures { IsStep R.BITS O.at_of (span_of span) (map R.number memory.old) (Replace index bit)
+    ensures { IsStep R.number R.BITS O.at_of (span_of span) (map R.number memory.old) (Replace index bit)
         (reply_number R.number result) (map R.number memory.new) }
 {
     if index < span.len() {
@@ -127,7 +127,7 @@ fn swap<R: BitRegister, O: BitOrder<R>>(
     with: usize,
 ) -> Reply<R>
     requires { Fits R.BITS (span_of span) (length memory.old) }
-    ensures { IsStep R.BITS O.at_of (span_of span) (map R.number memory.old) (Swap index with)
+    ensures { IsStep R.number R.BITS O.at_of (span_of span) (map R.number memory.old) (Swap index with)
         (reply_number R.number result) (map R.number memory.new) }
 {
     let len = span.len();
@@ -155,7 +155,7 @@ fn copy<R: BitRegister, O: BitOrder<R>>(
     count: usize,
 ) -> Reply<R>
     requires { Fits R.BITS (span_of span) (length memory.old) }
-    ensures { IsStep R.BITS O.at_of (span_of span) (map R.number memory.old) (Copy from to count)
+    ensures { IsStep R.number R.BITS O.at_of (span_of span) (map R.number memory.old) (Copy from to count)
         (reply_number R.number result) (map R.number memory.new) }
 {
     if can_copy(span.len(), from, to, count) {
@@ -182,7 +182,7 @@ fn fill<R: BitRegister, O: BitOrder<R>>(
     value: bool,
 ) -> Reply<R>
     requires { Fits R.BITS (span_of span) (length memory.old) }
-    ensures { IsStep R.BITS O.at_of (span_of span) (map R.number memory.old) (Fill from to value)
+    ensures { IsStep R.number R.BITS O.at_of (span_of span) (map R.number memory.old) (Fill from to value)
         (reply_number R.number result) (map R.number memory.new) }
 {
     if can_fill(span.len(), from, to) {
@@ -219,8 +219,8 @@ pub fn step<R: BitRegister, O: BitOrder<R>>(
     command: Command<R>,
 ) -> Reply<R>
     requires { Fits R.BITS (span_of span) (length memory.old) }
-    ensures { IsStep R.BITS O.at_of (span_of span) (map R.number memory.old)
-        (command_number R.number command) (reply_number R.number result) (map R.number memory.new) }
+    ensures { IsStep R.number R.BITS O.at_of (span_of span) (map R.number memory.old)
+        command (reply_number R.number result) (map R.number memory.new) }
 {
     match command {
         Command::Load(k) => load(span, memory, k),

@@ -2,7 +2,7 @@ use Rattle.std.proofs.Common.{ℕ, [], ◌∷◌, get_or, length, map, sym, subs
 use Rattle.std.proofs.lemmas.List.{length-map}
 use Rattle.std.proofs.lemmas.Option.{slice_get-get_or}
 use Rattle.bitvec.specs.BitSpan.{span_of}
-use Rattle.bitvec.specs.Commands.{command_number, reply_number}
+use Rattle.bitvec.specs.Commands.{reply_number}
 use Rattle.bitvec.specs.Run.{CanRun, IsRun}
 use Rattle.bitvec.specs.Span.{Span, Fits}
 use Rattle.bitvec.specs.declared.run.command.Reply.{Reply}
@@ -33,10 +33,10 @@ returns-then-request-spans g c =
     let old = map number c.args.memory.now in
     let new = map number c.step.new.memory in
     let can = subst (λ (n : ℕ). CanRun width (plain_span width) spans n) (sym (length-map c.args.memory.now number)) c.requires.can_run in
-    let stepped = step_as width g.O.BitAt.at_of (span_of c.span-own.result) (plain_span width named) old new (command_number number c.command_of-command.result) (plain_command width request)
+    let stepped = step_as number width g.O.BitAt.at_of (span_of c.span-own.result) (plain_span width named) old new c.command_of-command.result (plain_command width request)
     (reply_number number c.step.result) (reply_of c.plain_reply.result) c.span-own.ensures.span c.command_of-command.ensures c.plain_reply.ensures.reply c.step.ensures in
     one_plain width g.O.BitAt.at_of spans old new request c.plain_reply.result
-    (run-one width g.O.BitAt.at_of (plain_span width) spans named old new (plain_request width request) (reply_of c.plain_reply.result) can (slice_get-get_or spans request.span none (omega arith)) stepped)
+    (run-one (λ n. n) width g.O.BitAt.at_of (plain_span width) spans named old new (plain_request width request) (reply_of c.plain_reply.result) can (slice_get-get_or spans request.span none (omega arith)) stepped)
     c.plain_reply.ensures.plain
 
 pub returns-else-request-spans : goal.returns-else-request-spans
@@ -45,6 +45,6 @@ returns-else-request-spans g c =
     let memory = map g.R.BitRegister.number c.args.memory.now in
     let request = plain_request width c.args.request.now in
     one_plain width g.O.BitAt.at_of c.args.spans.now memory memory c.args.request.now c.plain_reply-else-request-spans.result
-    (subst (λ (r : Reply ℕ). IsRun width g.O.BitAt.at_of (plain_span width) c.args.spans.now memory (request ∷ []) (r ∷ []) memory) (sym c.plain_reply-else-request-spans.ensures.reply)
-    (run-no_span width g.O.BitAt.at_of (plain_span width) c.args.spans.now memory request (omega arith)))
+    (subst (λ (r : Reply ℕ). IsRun (λ n. n) width g.O.BitAt.at_of (plain_span width) c.args.spans.now memory (request ∷ []) (r ∷ []) memory) (sym c.plain_reply-else-request-spans.ensures.reply)
+    (run-no_span (λ n. n) width g.O.BitAt.at_of (plain_span width) c.args.spans.now memory request (omega arith)))
     c.plain_reply-else-request-spans.ensures.plain

@@ -1,10 +1,8 @@
-use Rattle.std.proofs.Common.{◌≡◌, ◌-◌, ◌≤◌, ◌++◌, map, take, drop, replicate, ap, arith, rules}
+use Rattle.std.proofs.Common.{◌≡◌, ◌-◌, ◌≤◌, ◌++◌, map, take, drop, replicate, ap, refl, arith, rules}
 use Rattle.bitvec_domain.specs.Span.{Span, list_of}
 use Rattle.bitvec_domain.specs.BitSpan.{span_of}
 use Rattle.bitvec_domain.proofs.BecomesLemmas.{fits-numbers, becomes-same}
-use Rattle.bitvec_domain.proofs.PartLemmas.{length-list_of}
-use Rattle.bitvec.specs.declared.run.command.Command.TheVariants.{Fill}
-use Rattle.bitvec.proofs.CommandLemmas.{step-past, step-fill, fill_past}
+use Rattle.bitvec.proofs.CommandLemmas.{past-fill, step-fill}
 use Rattle.bitvec.proofs.run.steps.fill.Goals as goal
 
 pub returns-then-can_fill : goal.returns-then-can_fill
@@ -19,18 +17,15 @@ returns-then-can_fill g c =
     let fits = fits-numbers width span number c.args.memory.now c.requires in
     let xs = list_of width at span old in
     let many : c.range.result.len ≡ c.args.to - c.args.from = ap (λ (s : Span). s.len) c.range.ensures.span in
-    step-fill width at span old new c.args.from c.args.to c.args.value within.0 (omega (arith, c.len.ensures, within.1))
+    step-fill number width at span old new c.args.from c.args.to c.args.value within.0 (omega (arith, c.len.ensures, within.1))
     (becomes-same width at span old new _ _ (ap (λ n. take c.args.from xs ++ replicate n c.args.value ++ drop c.args.to xs) many)
     (c.range.ensures.edits at old new _ fits c.fill.ensures))
 
 pub returns-else-can_fill : goal.returns-else-can_fill
 returns-else-can_fill g c =
-    let width = g.R.BitRegister.BITS in
-    let at = g.O.BitAt.at_of in
-    let span = span_of c.args.span in
-    let words = map g.R.BitRegister.number c.args.memory.now in
+    let number = g.R.BitRegister.number in
+    let words = map number c.args.memory.now in
     let never : c.args.from ≤ c.args.to → c.args.to ≤ c.args.span.len → ⊥ = λ p q.
     let yes = c.if-can_fill.ensures.1 (p, omega (arith, c.len.ensures, q)) in
     search rules in
-    step-past width at span words (Fill c.args.from c.args.to c.args.value)
-    (rw (length-list_of width at span words) (fill_past c.args.from c.args.to c.args.span.len never))
+    past-fill number g.R.BitRegister.BITS g.O.BitAt.at_of (span_of c.args.span) words words c.args.from c.args.to c.args.value never refl

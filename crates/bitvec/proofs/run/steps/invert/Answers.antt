@@ -1,27 +1,22 @@
-use Rattle.std.proofs.Common.{ℕ, map, sym, subst, ap}
-use Rattle.std.proofs.lemmas.List.{length-map}
+use Rattle.std.proofs.Common.{map, ap, refl}
 use Rattle.bitvec_ptr.proofs.PlaceOrder.{bit_below}
-use Rattle.bitvec_domain.specs.Span.{Fits}
 use Rattle.bitvec_domain.specs.BitSpan.{span_of}
+use Rattle.bitvec_domain.proofs.BecomesLemmas.{fits-numbers}
 use Rattle.bitvec.specs.declared.run.command.Command.TheVariants.{Invert}
-use Rattle.bitvec.proofs.CommandLemmas.{step-kept, step-invert, word_past}
+use Rattle.bitvec.proofs.CommandLemmas.{past-word, step-invert}
 use Rattle.bitvec.proofs.run.steps.invert.Goals as goal
 
 pub returns-in-Some : goal.returns-in-Some
 returns-in-Some g c =
+    let number = g.R.BitRegister.number in
     let width = g.R.BitRegister.BITS in
     let span = c.args.span in
-    let words = map g.R.BitRegister.number c.args.memory.now in
-    step-invert width g.O.BitAt.at_of (span_of span) c.args.k words _ _ g.met.O.BitOrder.one_to_one
-    (bit_below width span.head g.met.R.BitRegister.width_at_least_8 span.in_word)
-    (subst (λ (n : ℕ). Fits width (span_of span) n) (sym (length-map c.args.memory.now g.R.BitRegister.number)) c.requires)
+    step-invert number width g.O.BitAt.at_of (span_of span) (map number c.args.memory.now) _ c.args.k _ g.met.O.BitOrder.one_to_one
+    (bit_below width span.head g.met.R.BitRegister.width_at_least_8 span.in_word) (fits-numbers width (span_of span) number c.args.memory.now c.requires)
     c.in-Some.ensures.0 c.in-Some.ensures.1
 
 pub returns-in-None : goal.returns-in-None
 returns-in-None g c =
-    let width = g.R.BitRegister.BITS in
-    let at = g.O.BitAt.at_of in
-    let words = map g.R.BitRegister.number c.args.memory.now in
-    step-kept width at (span_of c.args.span) words _ (Invert c.args.k)
-    (word_past width at (span_of c.args.span) words c.args.k c.in-None.ensures.0)
-    (ap (map g.R.BitRegister.number) c.in-None.ensures.1)
+    let number = g.R.BitRegister.number in
+    past-word number g.R.BitRegister.BITS g.O.BitAt.at_of (span_of c.args.span) (map number c.args.memory.now) _ (Invert c.args.k) c.args.k _ refl
+    c.in-None.ensures.0 (ap (map number) c.in-None.ensures.1)
