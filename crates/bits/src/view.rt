@@ -3,10 +3,10 @@
 //! Each part is the bits of a span, and is seen as a list of truth values of its own: what is
 //! written through one part changes the list of no other, even where they share a word.
 
-ghost use Rattle.std.specs.Prelude.{◌≡◌, ◌≢◌, ℕ, ◌-◌, ◌<◌, ◌≤◌, ◌↔◌, IsTrue, length, map};
-ghost use Rattle.std.specs.Prelude.{◌++◌, take, drop, replicate, slice_set, IsSome, IfSome, All};
+ghost use Rattle.std.specs.Prelude.{◌≡◌, ◌≢◌, ℕ, ◌<◌, ◌≤◌, ◌↔◌, IsTrue, length, map};
+ghost use Rattle.std.specs.Prelude.{slice_set, IsSome, IfSome, All};
 ghost use Rattle.bitvec.specs.BitSpan.{span_of};
-ghost use Rattle.bitvec.specs.Span.{element};
+ghost use Rattle.bitvec.specs.Span.{element, with_filled};
 ghost use Rattle.bitvec.specs.Run.{CanRun};
 ghost use Rattle.bits.specs.Interval.{interval_span, IsSpan};
 
@@ -188,8 +188,8 @@ impl<'a, R: BitRegister, O: BitOrder<R>, const N: usize> Parts<'a, R, O, N> {
         requires inside { to ≤ (part_span self.old part).len }
         ensures reference { (lent_memory self.new).ghost_name ≡ (lent_memory self.old).ghost_name }
         ensures spans { part_spans self.new ≡ part_spans self.old }
-        ensures edited { let old = part_list self.old part in part_list self.new part
-            ≡ take from old ++ replicate (to - from) bit ++ drop to old }
+        ensures edited { part_list self.new part
+            ≡ with_filled (part_list self.old part) from to bit }
         ensures kept { (s : ℕ) → s ≢ part → part_list self.new s ≡ part_list self.old s }
         ensures others { KeepsOutside self.old self.new }
         ensures apart { KeepsApart self.old self.new }

@@ -1,6 +1,6 @@
-mod NumberLemmas
+mod PlainNumberLemmas
 mod OrderLemmas
 mod PlainLemmas
-mod RangeLemmas
+mod PlainRangeLemmas
 mod ReadLemmas
 mod RunLemmas

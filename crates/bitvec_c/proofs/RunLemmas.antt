@@ -15,7 +15,7 @@ use Rattle.bitvec_c.specs.Plain.{plain_span, AllInside, AllApart, plain_request,
 use Rattle.bitvec_c.specs.declared.plain.PlainSpan.{PlainSpan}
 use Rattle.bitvec_c.specs.declared.plain.PlainRequest.{PlainRequest}
 use Rattle.bitvec_c.specs.declared.plain.PlainReply.{PlainReply}
-use Rattle.bitvec_c.proofs.RangeLemmas.{range_within}
+use Rattle.bitvec_c.proofs.PlainRangeLemmas.{range_within}
 
 -- ranges that end within a memory and have no bit in common can run
 pub can_run_plain : (bits : ℕ) (spans : List PlainSpan) (words : ℕ) → 0 < bits → AllInside bits words spans → AllApart bits spans → CanRun bits (plain_span bits) spans words

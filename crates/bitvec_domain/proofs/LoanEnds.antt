@@ -3,11 +3,11 @@ use Rattle.std.proofs.Common.{◌≡◌, ℕ, List, [], ◌∷◌, ◌++◌, sym
 use Rattle.std.specs.Prelude.{Option, Some, None}
 use mir.Syntax.{named}
 use seplogic.Ra.Ura.{Ura}
-use base.Logic.{SProp, ent, sep, wand, all_e, apply∗, id⊢}
+use base.Logic.{ent, sep, wand, id⊢}
 use mir.Val.{Val}
 use base.Fml.{GName, Fml, fsep, feq, fex}
 use types.Logic.{Logic, sem}
-use types.Kit.{‵, raw, later, ◌$◌, ◌∵◌, !, qed, by, move, drop, each, assume, use1, use2, use3, fsplit, fjoin, fpick, feq_l, feq_i, rewrite, keep, await, updating, now, done}
+use types.Kit.{‵, later, ◌$◌, ◌∵◌, !, qed, move, drop, each, assume, use1, use2, use3, fsplit, fjoin, fpick, feq_l, feq_i, rewrite, keep, await, updating, now, done}
 use denote.RattleType.{RattleType, Valss}
 use denote.Ref.{NamedLft}
 use denote.Struct.Declared.{shape}

@@ -2,12 +2,12 @@
 use Rattle.std.proofs.Common.{◌≡◌, ℕ, ◌+◌, ◌-◌, ◌*◌, ◌<◌, ◌≤◌, ◌↔◌, Bool, true, false, List, ◌++◌, length, map, take, drop, replicate, refl, sym, ap, subst, ◌∙◌, arith}
 use Rattle.std.proofs.lemmas.List.{map-id, length-replicate, length-drop, length-take-le, get_or-take, get_or-drop}
 use Rattle.std.specs.Prelude.{slice_range}
-use Rattle.bitvec.specs.Span.{Span, element, list_of}
+use Rattle.bitvec.specs.Span.{Span, element, list_of, with_filled}
 use Rattle.bitvec.proofs.PartLemmas.{length-list_of}
 use Rattle.bitvec_slice.proofs.SlicePartLemmas.{list_of-zeros}
 use Rattle.bitvec_slice.specs.Bits.{AllAre}
 use Rattle.bitvec_slice.specs.Whole.{whole_span}
-use Rattle.freemap.specs.Blocks.{blocks_of, marked, AreInUse}
+use Rattle.freemap.specs.Blocks.{blocks_of, AreInUse}
 
 -- how many blocks there are
 pub blocks_long : (words : List ℕ) → length (blocks_of words) ≡ length words * 64
@@ -17,15 +17,12 @@ blocks_long words = length-list_of 64 (λ i. i) (whole_span 64 (length words)) w
 pub slice_blocks : (words : List ℕ) (span : Span) → span ≡ whole_span 64 (length words) → list_of 64 (λ i. i) span (map (λ w. w) words) ≡ blocks_of words
 slice_blocks words span e = rw (e, map-id words) refl
 
--- a stretch of the slice that is filled is blocks that are marked
-pub blocks_marked : (span : Span) (old new : List ℕ) (at count : ℕ) (used : Bool) → span ≡ whole_span 64 (length old) → length new ≡ length old
-    → list_of 64 (λ i. i) span (map (λ w. w) new) ≡ take at (list_of 64 (λ i. i) span (map (λ w. w) old)) ++ replicate (at + count - at) used ++ drop (at + count) (list_of 64 (λ i. i) span (map (λ w. w) old))
-    → blocks_of new ≡ marked (blocks_of old) at count used
-blocks_marked span old new at count used e same filled =
-    let many : at + count - at ≡ count = omega arith in
-    sym (slice_blocks new span (e ∙ ap (whole_span 64) (sym same))) ∙ filled
-    ∙ ap (λ (xs : List Bool). take at xs ++ replicate (at + count - at) used ++ drop (at + count) xs) (slice_blocks old span e)
-    ∙ ap (λ n. take at (blocks_of old) ++ replicate n used ++ drop (at + count) (blocks_of old)) many
+-- bits of the slice that are filled are blocks that are
+pub blocks_filled : (span : Span) (old new : List ℕ) (at upto : ℕ) (used : Bool) → span ≡ whole_span 64 (length old) → length new ≡ length old
+    → list_of 64 (λ i. i) span (map (λ w. w) new) ≡ with_filled (list_of 64 (λ i. i) span (map (λ w. w) old)) at upto used
+    → blocks_of new ≡ with_filled (blocks_of old) at upto used
+blocks_filled span old new at upto used e same filled =
+    sym (slice_blocks new span (e ∙ ap (whole_span 64) (sym same))) ∙ filled ∙ ap (λ (xs : List Bool). with_filled xs at upto used) (slice_blocks old span e)
 
 -- the blocks of words that are all zero are free
 pub blocks_free : (n : ℕ) → blocks_of (replicate n 0) ≡ replicate (n * 64) false

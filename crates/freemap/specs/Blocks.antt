@@ -1,5 +1,5 @@
 -- The blocks of a store, one bit each.
-use Rattle.std.specs.Prelude.{◌≡◌, ℕ, ◌+◌, ◌<◌, ◌≤◌, Bool, true, List, ◌++◌, length, take, drop, replicate}
+use Rattle.std.specs.Prelude.{◌≡◌, ℕ, ◌+◌, ◌<◌, ◌≤◌, Bool, true, List, length}
 use Rattle.bitvec.specs.Span.{element, list_of}
 use Rattle.bitvec_slice.specs.Bits.{AreFree}
 use Rattle.bitvec_slice.specs.Whole.{whole_span}
@@ -7,10 +7,6 @@ use Rattle.bitvec_slice.specs.Whole.{whole_span}
 -- whether each block of so many words is in use, in order: bit after bit, from the least digit of a word on
 abbrev pub blocks_of : List ℕ → List Bool
 blocks_of words = list_of 64 (λ i. i) (whole_span 64 (length words)) words
-
--- the blocks with `count` of them, from block `at` on, in use or free, and all others as they are
-abbrev pub marked : List Bool → ℕ → ℕ → Bool → List Bool
-marked blocks at count used = take at blocks ++ replicate count used ++ drop (at + count) blocks
 
 -- there are `count` blocks from block `at` on, and each is in use
 abbrev pub AreInUse : List Bool → ℕ → ℕ → Type 0

@@ -4,9 +4,10 @@ ghost use Rattle.std.specs.Prelude.{◌≡◌, ◌↔◌, ℕ, ◌+◌, ◌*◌,
 ghost use Rattle.std.specs.Prelude.{IsTrue, MatchOption, replicate, length, slice_get};
 ghost use Rattle.bitvec.specs.Place.{region_max_bits};
 ghost use Rattle.bitvec.specs.BitSpan.{span_of};
+ghost use Rattle.bitvec.specs.Span.{with_filled};
 ghost use Rattle.bitvec_slice.specs.Bits.{AreFree};
 ghost use Rattle.bitvec_slice.specs.Whole.{whole_span};
-ghost use Rattle.freemap.specs.Blocks.{blocks_of, marked, AreInUse, IsFirstFree};
+ghost use Rattle.freemap.specs.Blocks.{blocks_of, AreInUse, IsFirstFree};
 
 use bitvec::index::{BitIdx, Limits};
 use bitvec::order::Lsb0;
@@ -55,7 +56,7 @@ fn are_used(words: &[u64], at: usize, count: usize) -> bool
 fn mark(words: &mut [u64], at: usize, count: usize, used: bool)
     requires short { length words.old * 64 ≤ region_max_bits }
     requires inside { at + count ≤ length words.old * 64 }
-    ensures blocks { blocks_of words.new ≡ marked (blocks_of words.old) at count used }
+    ensures blocks { blocks_of words.new ≡ with_filled (blocks_of words.old) at (at + count) used }
     ensures words { length words.new ≡ length words.old }
 {
     let mut blocks = BitSliceMut::new_unchecked(span_of_all(words.len()), words);
@@ -107,7 +108,7 @@ impl<const N: usize> FreeMap<N> {
         ensures answer { MatchOption result ((at : ℕ) → ¬ AreFree (in_use self.old) at count)
             (λ at. IsFirstFree (in_use self.old) count at) }
         ensures taken { MatchOption result (in_use self.new ≡ in_use self.old)
-            (λ at. in_use self.new ≡ marked (in_use self.old) at count true) }
+            (λ at. in_use self.new ≡ with_filled (in_use self.old) at (at + count) true) }
     {
         let at = find(&self.words, count)?;
         mark(&mut self.words, at, count, true);
@@ -119,7 +120,7 @@ impl<const N: usize> FreeMap<N> {
     /// [`are_in_use`](FreeMap::are_in_use) is the test.
     pub fn free(&mut self, at: usize, count: usize)
         requires { AreInUse (in_use self.old) at count }
-        ensures { in_use self.new ≡ marked (in_use self.old) at count false }
+        ensures { in_use self.new ≡ with_filled (in_use self.old) at (at + count) false }
     {
         mark(&mut self.words, at, count, false);
     }

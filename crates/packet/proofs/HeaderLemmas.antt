@@ -18,7 +18,7 @@ use Rattle.bitvec.specs.declared.run.command.Reply.{Reply}
 use Rattle.packet.specs.declared.header.Header.{Header}
 use Rattle.packet.specs.Field.{field_span, shifted_number}
 use Rattle.packet.specs.Header.{HasHeader}
-use Rattle.packet.proofs.FieldLemmas.{one_word, stored_list, stored}
+use Rattle.packet.proofs.HeaderFieldLemmas.{one_word, stored_list, stored}
 
 -- a field that ends before another begins has no place in common with it
 apart : (start len next count : ℕ) → start + len ≤ next → AreDisjoint 32 (field_span start len) (field_span next count)

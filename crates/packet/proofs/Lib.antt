@@ -1,3 +1,3 @@
-pub mod FieldLemmas
+pub mod HeaderFieldLemmas
 pub mod HeaderLemmas
 pub mod SteadyLemmas

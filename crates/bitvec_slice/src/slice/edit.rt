@@ -4,7 +4,7 @@ ghost use Rattle.std.specs.Prelude.{◌≡◌, ◌<◌, ◌≤◌, ◌+◌, ◌-
 ghost use Rattle.std.specs.Prelude.{false, reverse, slice_set};
 ghost use Rattle.std.specs.List.{swap};
 ghost use Rattle.bitvec.specs.Memory.{list_with_copy};
-ghost use Rattle.bitvec.specs.Span.{element};
+ghost use Rattle.bitvec.specs.Span.{element, with_filled};
 
 use crate::slice::moves::{reverse_bits, rotate_bits, shift_bits_left, shift_bits_right};
 use crate::slice::{BitSlice, BitSliceMut};
@@ -43,9 +43,7 @@ impl<'a, R: BitRegister, O: BitOrder<R>> BitSliceMut<'a, R, O> {
     pub fn fill_range(&mut self, from: usize, to: usize, bit: bool)
         requires ordered { from ≤ to }
         requires inside { to ≤ lent_len self.old }
-        ensures { let xs = lent_bits self.old
-            in BecomesBits self.old self.new
-            (take from xs ++ replicate (to - from) bit ++ drop to xs) }
+        ensures { BecomesBits self.old self.new (with_filled (lent_bits self.old) from to bit) }
     {
         let span = self.span();
         let memory = &mut *self.memory;

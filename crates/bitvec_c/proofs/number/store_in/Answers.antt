@@ -1,7 +1,7 @@
 use Rattle.std.proofs.Common.{true, false, map, rules}
 use Rattle.bitvec.proofs.PartLemmas.{length-list_of}
 use Rattle.bitvec_slice.specs.BitSliceMut.{lent_memory, lent_span}
-use Rattle.bitvec_c.proofs.NumberLemmas.{lent_edit, stored_range}
+use Rattle.bitvec_c.proofs.PlainNumberLemmas.{lent_edit, stored_range}
 use Rattle.bitvec_c.proofs.number.store_in.Goals as goal
 
 pub returns-then-big : goal.returns-then-big

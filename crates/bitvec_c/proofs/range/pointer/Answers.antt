@@ -1,6 +1,6 @@
 use Rattle.std.proofs.Common.{arith}
 use Rattle.bitvec.specs.BitPtr.{ptr_of}
-use Rattle.bitvec_c.proofs.RangeLemmas.{pointer_index, pointer_in, range_in}
+use Rattle.bitvec_c.proofs.PlainRangeLemmas.{pointer_index, pointer_in, range_in}
 use Rattle.bitvec_c.proofs.range.pointer.Goals as goal
 
 pub returns-clause-index : goal.returns-clause-index

@@ -1,5 +1,5 @@
 use Rattle.std.proofs.Common.{arith}
-use Rattle.bitvec_c.proofs.RangeLemmas.{range_fits}
+use Rattle.bitvec_c.proofs.PlainRangeLemmas.{range_fits}
 use Rattle.bitvec_c.proofs.range.span.Goals as goal
 
 pub returns-clause-fits : goal.returns-clause-fits

@@ -1,5 +1,5 @@
 use Rattle.std.proofs.Common.{rules, ◌≡◌, ◌/◌, ◌<◌, ap, ◌∙◌, arith}
-use Rattle.bitvec_c.proofs.RangeLemmas.{word_below, place_before}
+use Rattle.bitvec_c.proofs.PlainRangeLemmas.{word_below, place_before}
 use Rattle.bitvec_c.proofs.status.is_place.Goals as goal
 
 pub returns : goal.returns

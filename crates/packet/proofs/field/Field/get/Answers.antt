@@ -1,6 +1,6 @@
 use Rattle.std.proofs.Common.{◌∙◌}
 use Rattle.packet.proofs.field.Field.get.Goals as goal
-use Rattle.packet.proofs.FieldLemmas.{number_in-from}
+use Rattle.packet.proofs.HeaderFieldLemmas.{number_in-from}
 use Rattle.packet.proofs.SteadyLemmas.{number_in-same}
 
 pub returns-clause-field : goal.returns-clause-field

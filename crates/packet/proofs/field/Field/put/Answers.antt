@@ -1,6 +1,6 @@
 use Rattle.std.proofs.Common.{rules}
 use Rattle.packet.proofs.field.Field.put.Goals as goal
-use Rattle.packet.proofs.FieldLemmas.{has_number, inside_stored, outside_same}
+use Rattle.packet.proofs.HeaderFieldLemmas.{has_number, inside_stored, outside_same}
 
 pub returns-clause-written : goal.returns-clause-written
 returns-clause-written g c =
