@@ -1,13 +1,17 @@
 //! Laws of runs: what each says of any two calls of `run`.
 
-ghost use Rattle.std.specs.Prelude.{◌≡◌, ℕ, ◌^◌, ◌<◌, All, length, map};
+ghost use Rattle.std.specs.Prelude.{◌≡◌, ℕ, ◌^◌, ◌<◌, All, length, map, ◌++◌, ◌∷◌, true, Some};
+ghost use Rattle.std.specs.Prelude.{slice_get};
 ghost use Rattle.std.specs.List.{AllZip};
 ghost use Rattle.bitvec.specs.Memory.{memory_bits};
 ghost use Rattle.bitvec.specs.BitSpan.{span_of};
 ghost use Rattle.bitvec.specs.Span.{list_of};
 ghost use Rattle.bitvec.specs.Commands.{reply_number};
-ghost use Rattle.bitvec.specs.Run.{CanRun};
-ghost use Rattle.tests_runs.specs.SameRuns.{OrderBetweenSpansDoesNotMatter};
+ghost use Rattle.bitvec.specs.Run.{CanRun, IsRun};
+ghost use Rattle.bitvec.specs.declared.run.command.Command.TheVariants.{Fill};
+ghost use Rattle.bitvec.specs.declared.run.command.Reply.TheVariants.{Done};
+ghost use Rattle.tests_runs.specs.SameRuns.{OrderBetweenSpansDoesNotMatter, RunsJoin};
+ghost use Rattle.tests_runs.specs.SameRuns.{RunsAreCut};
 ghost use Rattle.bitvec.specs.Laws.{AreSameRequests, AreSameReplies, IsSameNumber, IsTurned};
 ghost use Rattle.bitvec.specs.Laws.{IsBitCommand, own_replies, HaveSameOwnCommands};
 ghost use Rattle.bitvec.specs.Laws.{HaveSameOwnReplies};
@@ -142,6 +146,53 @@ fn run_in_two_orders<R: BitRegister, O: BitOrder<R>>(
     run(spans, there, other_requests, other_replies);
     numbers_are_below(here);
     numbers_are_below(there);
+}
+
+/// A run that goes on by another is the run of both lists of requests, and a run can be cut at any
+/// request. It takes and returns nothing; its contracts are the laws.
+fn runs_join_and_are_cut<R: BitRegister, O: BitOrder<R>>()
+    ensures join { RunsJoin R.number R.BITS O.at_of }
+    ensures cut { RunsAreCut R.number R.BITS O.at_of }
+{}
+
+/// Two runs in turn in one memory: they are the run of the requests of both.
+fn run_on<R: BitRegister, O: BitOrder<R>>(
+    spans: &[BitSpan<R, O>],
+    memory: &mut [R],
+    requests: &[Request<R>],
+    replies: &mut [Reply<R>],
+    more: &[Request<R>],
+    others: &mut [Reply<R>],
+)
+    requires can_run { CanRun R.BITS span_of spans.now (length memory.old) }
+    requires room { length replies.old ≡ length requests.now }
+    requires other_room { length others.old ≡ length more.now }
+    ensures { IsRun R.number R.BITS O.at_of span_of spans.now (map R.number memory.old)
+        (requests.now ++ more.now)
+        (map (reply_number R.number) replies.new ++ map (reply_number R.number) others.new)
+        (map R.number memory.new) }
+{
+    run(spans, memory, requests, replies);
+    run(spans, memory, more, others);
+}
+
+/// An edit of a span, and then a run: they are one run, whose first request is the edit.
+fn fill_and_run<R: BitRegister, O: BitOrder<R>>(
+    spans: &[BitSpan<R, O>],
+    memory: &mut [R],
+    requests: &[Request<R>],
+    replies: &mut [Reply<R>],
+)
+    requires can_run { CanRun R.BITS span_of spans.now (length memory.old) }
+    requires some { 0 < length spans.now }
+    requires room { length replies.old ≡ length requests.now }
+    ensures { (span : _) → slice_get spans.now 0 ≡ Some span
+        → IsRun R.number R.BITS O.at_of span_of spans.now (map R.number memory.old)
+        (record { span = 0; command = Fill 0 (span_of span).len true } ∷ requests.now)
+        (Done ∷ map (reply_number R.number) replies.new) (map R.number memory.new) }
+{
+    spans[0].fill(memory, true);
+    run(spans, memory, requests, replies);
 }
 
 // The replies and the byte that the same commands to its two halves make of 0x5A in two orders.
