@@ -1,2 +1,4 @@
 pub mod DisjointMasks
+pub mod DomainEnds
+pub mod FilledMemoryLemmas
 pub mod ScanCounts
