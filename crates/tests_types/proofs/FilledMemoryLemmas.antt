@@ -1,18 +1,27 @@
 -- What a memory is, once the loans of a span's parts were filled.
-use Rattle.std.proofs.Common.{◌≡◌, ℕ, ◌+◌, ◌-◌, ◌≤◌, Bool, true, false, if◌then◌else◌, List, [], ◌∷◌, ◌++◌, replicate, length, map, take, drop, refl, sym, ap, ◌∙◌, arith}
+use Rattle.std.proofs.Common.{◌≡◌, ℕ, ◌+◌, ◌-◌, ◌≤◌, ◌==◌, Bool, true, false, if◌then◌else◌, List, [], ◌∷◌, ◌++◌, replicate, length, map, take, drop, refl, sym, ap, ◌∙◌, arith}
 use Rattle.std.proofs.lemmas.List.{take-map, drop-map, map-append, length-take-le, length-drop}
 use Rattle.std.specs.Prelude.{nat_abs, Option, Some, None, option_map}
-use Rattle.bitvec_ptr.specs.Place.{words_met}
+use Rattle.std.proofs.lemmas.Bool.{eqb-true}
+use Rattle.bitvec_ptr.specs.Place.{words_met, tail_of}
 use Rattle.bitvec_domain.specs.Span.{Span}
 use Rattle.bitvec_domain.specs.Slot.{Slot, slot_at}
 use Rattle.bitvec_domain.specs.Loans.{Loans, is_inside, has_head, has_tail, words_before, body_words, head_slot, tail_slot, loan_at, span_loans}
-use Rattle.bitvec_domain.proofs.LoanLemmas.{loans-within, inside-none}
+use Rattle.bitvec_domain.proofs.LoanLemmas.{rows, inside, heads, tails, loans-within}
 use Rattle.tests_types.specs.FilledDomain.{word_of_bit, filled_slot_if, filled_loan, filled_loans, filled_memory, numbers_of_words}
 
 -- the list that a loan ends as, or another where nothing was lent
 abbrev pub end_or : {X : Type 0} → Option (List X) → List X → List X
 end_or (Some l) v = l
 end_or None v = v
+
+-- a span inside one word has no whole words
+inside-none : (bits : ℕ) (span : Span) → is_inside bits span ≡ true → body_words bits span ≡ 0
+inside-none bits span =
+    let met : ℕ = words_met bits span.head span.len in
+    rows (span.len == 0) (span.head == 0) (tail_of bits span.head span.len == bits) (met == 1)
+    (λ e b f o. inside e b f o ≡ true → met - (if heads e b then 1 else 0) - (if tails e b f o then 1 else 0) ≡ 0)
+    (λ e t. absurd cc) (λ e t. absurd cc) (λ e t. absurd cc) (λ e t. absurd cc) (λ e o t. let one = eqb-true met 1 o in omega (arith, one)) (λ e o t. absurd cc)
 
 module _ {R : Type 0} (number : R → ℕ) (bits : ℕ) (at : ℕ → ℕ) (bit : Bool) where
   numbers-or : (o : Option (List R)) (v : List R) → map number (end_or o v) ≡ end_or (option_map (map number) o) (map number v)

@@ -1,9 +1,9 @@
-//! A caller of `domain_mut` that edits each part and each whole word of a span, and knows from the
-//! clause on the ends of the loans what the whole memory is then.
+//! A caller of `domain_mut` that edits each part and each whole word of a span, lets them go, and
+//! knows from the clause on the ends of the loans what the whole memory is then.
 
 ghost use Rattle.std.specs.Prelude.{◌≡◌, length, map, replicate, option_map};
 ghost use Rattle.bitvec_domain.specs.Span.{Fits};
-ghost use Rattle.bitvec_domain.specs.BitSpan.{span_of};
+ghost use Rattle.bitvec_domain.specs.BitSpan.{span_of, Becomes};
 ghost use Rattle.bitvec_domain.specs.PartialElementMut.{memory_of};
 ghost use Rattle.bitvec_domain.specs.Loans.{loan_words, words_of_loans};
 ghost use Rattle.bitvec_domain.specs.DomainMut.{part_name, part_loan, loan_names, loans_of};
@@ -82,7 +82,7 @@ fn filled_domain<'a, R: BitRegister, O: BitOrder<R>>(
 }
 
 // Makes each bit of a span in a memory the same, by the parts that the memory is lent as.
-fn fill_by_parts<R: BitRegister, O: BitOrder<R>>(span: BitSpan<R, O>, memory: &mut [R], bit: bool)
+fn fill_lent<R: BitRegister, O: BitOrder<R>>(span: BitSpan<R, O>, memory: &mut [R], bit: bool)
     requires { Fits R.BITS (span_of span) (length memory.old) }
     ensures { map R.number memory.new
         ≡ filled_memory R.BITS O.at_of bit (span_of span) (map R.number memory.old) }
@@ -90,6 +90,14 @@ fn fill_by_parts<R: BitRegister, O: BitOrder<R>>(span: BitSpan<R, O>, memory: &m
     let domain = filled_domain(span.domain_mut(memory), bit);
     // A part alone is dropped here; the loans of any other domain end with the answer `None`.
     if let Some(_part) = domain.enclave() {}
+}
+
+/// Makes each bit of a span in a memory the same, and leaves every other bit as it is.
+fn fill_by_parts<R: BitRegister, O: BitOrder<R>>(span: BitSpan<R, O>, memory: &mut [R], bit: bool)
+    requires { Fits R.BITS (span_of span) (length memory.old) }
+    ensures { Becomes span O.at_of memory.old memory.new (replicate (span_of span).len bit) }
+{
+    fill_lent(span, memory, bit);
 }
 
 #[test]

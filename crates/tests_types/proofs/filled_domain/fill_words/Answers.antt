@@ -1,7 +1,7 @@
 use Rattle.std.proofs.Common.{◌≡◌, ◌∙◌, ap, length, map, replicate, sym, arith}
 use Rattle.std.proofs.lemmas.List.{take_all}
 use Rattle.tests_types.specs.FilledDomain.{word_of_bit}
-use Rattle.bitvec_domain.proofs.LoanLemmas.{map-replicate}
+use Rattle.tests_types.proofs.FilledBitLemmas.{map-replicate}
 use Rattle.tests_types.proofs.filled_domain.fill_words.Goals as goal
 use Rattle.tests_types.proofs.filled_domain.fill_words.Goals.{then-bit, else-bit}
 

@@ -1,4 +1,4 @@
--- `fill_by_parts` lends its memory to `domain_mut` for a lifetime of its own, and has it back at what the loans ended as. Assumes `Logic`.
+-- `fill_lent` lends its memory to `domain_mut` for a lifetime of its own, and has it back at what the loans ended as. Assumes `Logic`.
 use Rattle.std.proofs.Common.{◌≡◌, ℕ, ◌^◌, ◌<◌, List, [], ◌∷◌, ◌++◌, Bool, false, refl, sym, ap, subst, ◌∙◌, inl, inr, length, map, take, drop as drop_l, MutBor}
 use Rattle.std.specs.Prelude.{T, Option, MatchOption}
 use Rattle.std.proofs.raw_atomic.Walks.{proved, leaves}
@@ -48,8 +48,7 @@ use Rattle.bitvec_domain.specs.Loans.{words_before, body_words, span_loans, word
 use Rattle.bitvec_domain.specs.PartialElementMut.{memory_of}
 use Rattle.bitvec_domain.specs.declared.domain.domain_mut.DomainMut.TheVariants.{Enclave}
 use Rattle.bitvec_domain.specs.DomainMut.{loan_names, loans_of, lent_parts, DomainRestsIfNone}
-use Rattle.bitvec_domain.proofs.LentSlices.{named_as, Kept, lends_whole, whole_back}
-use Rattle.bitvec_domain.proofs.LoanEnds.{whole_end}
+use Rattle.tests_types.proofs.LentMemory.{named_as, Kept, lends_whole, whole_back, whole_end}
 use Rattle.tests_types.specs.FilledDomain.{filled_loans, filled_memory, numbers_of_words}
 use Rattle.tests_types.proofs.FilledMemoryLemmas.{filled-whole}
 use Rattle.tests_types.proofs.DomainEnds.{some_or_none, words_or, AllRest, none_rests, dropped_rests}
@@ -62,10 +61,10 @@ use Rattle.bitvec_domain.proofs.domain.partial_element_mut.PartialElementMut.The
 use Rattle.std.specs.contracts.option.Option as OP
 use Rattle.std.proofs.option.Option.TheLaws.{the_told as option_told, the_row_laws as option_laws}
 use Rattle.std.proofs.VecSteps.Shapes.{after, head, arm_body}
-use Rattle.tests_types.specs.contracts.filled_domain.fill_by_parts as f
-use Rattle.tests_types.specs.contracts.filled_domain.fill_by_parts.Key.{name as #fill}
-use Rattle.tests_types.proofs.filled_domain.fill_by_parts.Statement.{statement}
-use Rattle.tests_types.proofs.filled_domain.fill_by_parts.Code as code
+use Rattle.tests_types.specs.contracts.filled_domain.fill_lent as f
+use Rattle.tests_types.specs.contracts.filled_domain.fill_lent.Key.{name as #fill}
+use Rattle.tests_types.proofs.filled_domain.fill_lent.Statement.{statement}
+use Rattle.tests_types.proofs.filled_domain.fill_lent.Code as code
 use Rattle.bitvec_domain.specs.contracts.ptr.span.BitSpan.domain_mut as g
 use Rattle.bitvec_domain.proofs.ptr.span.BitSpan.domain_mut.Met.{met}
 use Rattle.tests_types.specs.contracts.filled_domain.filled_domain as h
@@ -76,9 +75,9 @@ use Rattle.bitvec_domain.specs.contracts.domain.partial_element_mut.PartialEleme
 use Rattle.bitvec_domain.proofs.domain.partial_element_mut.PartialElementMut.drop.Met.{met as met_r}
 use Rattle.tests_types.proofs.Destruct++none.drop.Code.{code as nothing_to_drop}
 
-pub fill_by_parts_spec : {M : Type 1} → statement M
+pub fill_lent_spec : {M : Type 1} → statement M
 unfolding nothing_to_drop
-fill_by_parts_spec {M = M} 𝓤 𝓛 𝓜 𝓡 wired X O L LO copy rb rbd rc rcd rd rdd re red rp rpd ro rod rq rqd rh rhd rg rgd obo obod ooc oocd oba obad m1 m2 m3 m4 m5 m6 m7 m8 m9 m10 m11 m12 =
+fill_lent_spec {M = M} 𝓤 𝓛 𝓜 𝓡 wired X O L LO copy rb rbd rc rcd rd rdd re red rp rpd ro rod rq rqd rh rhd rg rgd obo obod ooc oocd oba obad m1 m2 m3 m4 m5 m6 m7 m8 m9 m10 m11 m12 =
     let H = 𝓛.H in let 𝓣 = tables 𝓤 H 𝓜 𝓡 𝓡.env in let R : RattleType = copied 0 X in let Or : RattleType = param 1 O in let En = f.ended X O rb rbd rc rcd rd rdd re red rp rpd ro rod rq rqd rh rhd rg rgd obo obod ooc oocd oba obad in
     let inst = bounded (a_type ∷ a_type ∷ []) (X, (O, tt)) (dcons rbd (dcons rcd (dcons rdd (dcons red (dcons rpd (dcons rod (dcons rqd (dcons rhd (dcons rgd (dcons obod (dcons oocd (dcons obad dnil)))))))))))) in let fn = inst_fn inst code.function in
     let c = f.clauses X O rb rbd rc rcd rd rdd re red rp rpd ro rod rq rqd rh rhd rg rgd obo obod ooc oocd oba obad 𝓛 𝓜.mem 𝓡.returns in
