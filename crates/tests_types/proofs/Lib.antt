@@ -1,2 +1,6 @@
 pub mod DisjointMasks
+pub mod DomainEnds
+pub mod FilledBitLemmas
+pub mod FilledMemoryLemmas
+pub mod LentMemory
 pub mod ScanCounts
