@@ -1,5 +1,5 @@
 -- Bit commands know nothing of a register, an order or a place.
-use Rattle.std.proofs.Common.{◌≡◌, ℕ, zero, suc, Bool, true, false, cond, eqb, List, [], ◌∷◌, ap, ◌∙◌, refl, subst, Some}
+use Rattle.std.proofs.Common.{◌≡◌, ℕ, zero, suc, Bool, true, false, cond, eqb, List, [], ◌∷◌, ap, refl, subst, Some}
 use Rattle.std.specs.Prelude.{slice_get}
 use Rattle.std.specs.List.{AllByRecursion, AllZip}
 use Rattle.std.proofs.lemmas.Option.{none-some, same_Some}
@@ -8,7 +8,7 @@ use Rattle.bitvec.specs.declared.run.command.Command.TheVariants.{Load, Store, S
 use Rattle.bitvec.specs.declared.run.command.Request.{Request}
 use Rattle.bitvec.specs.declared.run.command.Reply.{Reply}
 use Rattle.bitvec.specs.declared.run.command.Reply.TheVariants.{Word, Bit, Done, PastEnd, NoSpan}
-use Rattle.bitvec.specs.Commands.{outcome, reply_in, list_in, alone, own_commands}
+use Rattle.bitvec.specs.Commands.{outcome, list_in, alone, own_commands}
 use Rattle.bitvec.specs.Laws.{AreSameCommands, AreSameRequests, AreSameReplies, IsSameNumber, IsBitCommand}
 
 -- lists that are related one by one, at one place of both

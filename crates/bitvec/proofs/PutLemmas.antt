@@ -1,5 +1,5 @@
 -- A memory with lists put in the places of disjoint spans: there is one, and this is it.
-use Rattle.std.proofs.Common.{◌≡◌, ◌≢◌, ◌⊎◌, ℕ, zero, suc, ◌+◌, ◌-◌, ◌*◌, ◌/◌, ◌%◌, ◌<◌, ◌≤◌, Bool, true, false, ◌&&◌, nat_le, nat_lt, if◌then◌else◌, List, [], ◌∷◌, length, get_or, sym, subst, ◌∙◌, ap, Some, refl, inl, inr, arith}
+use Rattle.std.proofs.Common.{◌≡◌, ◌⊎◌, ℕ, zero, suc, ◌+◌, ◌-◌, ◌*◌, ◌/◌, ◌%◌, ◌<◌, ◌≤◌, Bool, true, false, ◌&&◌, nat_le, nat_lt, if◌then◌else◌, List, [], ◌∷◌, length, sym, subst, ◌∙◌, ap, Some, refl, inl, inr, arith}
 use Rattle.std.specs.Prelude.{slice_get, pos, nat_abs}
 use Rattle.std.proofs.Math.Nat.{div-lt_iff_lt-mul}
 use Rattle.std.proofs.lemmas.Bool.{cases_lt, cases_eq, le-leb, lt-leb, lt-ltb, le-ltb}
@@ -11,7 +11,7 @@ use Rattle.bitvec_order.specs.Order.{number_of, IsOneToOne}
 use Rattle.bitvec_order.proofs.IndexLemmas.{digit-number_of_at}
 use Rattle.bitvec_ptr.specs.Memory.{tabulate, bit_of}
 use Rattle.bitvec_ptr.proofs.MemoryLemmas.{get_or-tabulate, length-tabulate, tabulate-from_elements}
-use Rattle.bitvec_domain.specs.Span.{Span, Covers, Fits, list_of, element}
+use Rattle.bitvec_domain.specs.Span.{Span, Covers, Fits, element}
 use Rattle.bitvec_domain.proofs.BecomesLemmas.{list-kept}
 use Rattle.bitvec_domain.proofs.CoverLemmas.{covers-own}
 use Rattle.bitvec.specs.Run.{CanRun, IsPlaced, IsOutside}

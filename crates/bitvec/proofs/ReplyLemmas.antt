@@ -1,5 +1,5 @@
 -- A span's replies in a run, in order: those that its own commands give on its list alone.
-use Rattle.std.proofs.Common.{◌≡◌, ℕ, zero, suc, Bool, true, false, cond, eqb, List, [], ◌∷◌, length, take, ap, ◌∙◌, sym, refl, subst, Some, inl, inr, arith}
+use Rattle.std.proofs.Common.{◌≡◌, ℕ, suc, Bool, cond, eqb, List, [], ◌∷◌, length, take, ap, ◌∙◌, refl, subst, Some, inl, inr, arith}
 use Rattle.std.specs.Prelude.{slice_get, Option}
 use Rattle.std.proofs.lemmas.Bool.{cases_Bool, eqb-true}
 use Rattle.std.proofs.lemmas.Option.{same_Some}

@@ -1,5 +1,5 @@
 -- One list under two orders.
-use Rattle.std.proofs.Common.{◌≡◌, ℕ, ◌+◌, ◌-◌, ◌*◌, ◌/◌, ◌%◌, ◌<◌, ◌≤◌, Bool, true, false, cond, eqb, List, [], ◌∷◌, length, get_or, ap, ◌∙◌, sym, refl, subst, arith}
+use Rattle.std.proofs.Common.{◌≡◌, ℕ, ◌+◌, ◌-◌, ◌*◌, ◌/◌, ◌%◌, ◌<◌, ◌≤◌, Bool, true, false, cond, eqb, List, [], ◌∷◌, length, get_or, ap, ◌∙◌, sym, refl, arith}
 use Rattle.std.specs.Prelude.{nat_abs, nat_le, nat_lt, ◌&&◌, Option}
 use Rattle.std.specs.List.{AllByRecursion, AllZip}
 use Rattle.std.proofs.lemmas.Nat.{mod_below}
@@ -16,7 +16,6 @@ use Rattle.bitvec_domain.proofs.WordsLemmas.{met_within}
 use Rattle.bitvec.specs.declared.run.command.Command.{Command}
 use Rattle.bitvec.specs.declared.run.command.Command.TheVariants.{Load, Store, Set, Clear, Invert, Read, Replace, Swap, Copy, Fill}
 use Rattle.bitvec.specs.declared.run.command.Reply.{Reply}
-use Rattle.bitvec.specs.declared.run.command.Reply.TheVariants.{PastEnd}
 use Rattle.bitvec.specs.Commands.{when, on_word, outcome, reply_in, list_in, alone}
 use Rattle.bitvec.specs.Laws.{AreSameCommands, AreSameReplies, IsTurned}
 

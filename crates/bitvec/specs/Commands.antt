@@ -1,6 +1,6 @@
 -- Commands on one list of bits that starts at the bit `head` of a word. `bits` is the width of a word, `at` takes an index
 -- in a word to its position in the number, and `number` gives the number of a word.
-use Rattle.std.specs.Prelude.{ℕ, ◌+◌, ◌/◌, ◌%◌, Bool, true, false, not, ◌&&◌, List, [], ◌∷◌, length, swap, slice_set, if◌then◌else◌, ◌==◌, nat_lt, nat_le, Option, Some, None}
+use Rattle.std.specs.Prelude.{ℕ, ◌+◌, ◌%◌, Bool, true, false, not, ◌&&◌, List, [], ◌∷◌, length, swap, slice_set, if◌then◌else◌, ◌==◌, nat_lt, nat_le, Option, Some, None}
 use Rattle.bitvec_mem.specs.Digit.{digit}
 use Rattle.bitvec_ptr.specs.Memory.{list_with_copy}
 use Rattle.bitvec_ptr.specs.Place.{words_met}

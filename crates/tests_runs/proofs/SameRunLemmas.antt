@@ -1,15 +1,15 @@
 -- Two runs from one memory whose spans get the same commands in the same order: the same replies, and the same memory.
-use Rattle.std.proofs.Common.{◌≡◌, ◌≢◌, ◌⊎◌, ℕ, ◌+◌, ◌-◌, ◌*◌, ◌^◌, ◌<◌, ◌≤◌, Bool, true, false, List, [], ◌∷◌, length, map, Some, refl, sym, ◌∙◌, ap, subst, inl, inr, arith}
+use Rattle.std.proofs.Common.{◌≡◌, ◌≢◌, ◌⊎◌, ℕ, ◌+◌, ◌-◌, ◌*◌, ◌^◌, ◌<◌, ◌≤◌, Bool, true, false, List, [], ◌∷◌, ◌++◌, append-nil, drop, length, map, replicate, Some, refl, sym, ◌∙◌, ap, subst, inl, inr, arith}
 use Rattle.std.specs.Prelude.{ℤ, pos, negsuc, nat_abs, ◌+ℤ◌, ◌*ℤ◌, ◌≤ℤ◌, ◌<ℤ◌, slice_get, slice_index, All}
 use Rattle.std.proofs.lemmas.Int.{ints}
-use Rattle.std.proofs.lemmas.List.{same_lists, get_or_default}
+use Rattle.std.proofs.lemmas.List.{same_lists, get_or_default, drop_all}
 use Rattle.std.proofs.lemmas.List.Elements.{All-head, All-tail}
 use Rattle.std.proofs.lemmas.Option.{slice_get_cases, slice_get_within, get_or_from_slice_get}
 use Rattle.bitvec.specs.Order.{IsOneToOne}
 use Rattle.bitvec.proofs.IndexLemmas.{same_from_indices}
 use Rattle.bitvec.specs.Memory.{bit_of}
 use Rattle.bitvec_ptr.proofs.BitLemmas.{bit_of-word}
-use Rattle.bitvec.specs.Span.{Span, Covers, Fits, list_of, element}
+use Rattle.bitvec.specs.Span.{Span, Covers, Fits, list_of, element, with_filled}
 use Rattle.bitvec.proofs.PartLemmas.{element-list_of}
 use Rattle.bitvec.specs.declared.run.command.Request.{Request}
 use Rattle.bitvec.specs.declared.run.command.Reply.{Reply}
@@ -110,3 +110,10 @@ same_words {W} number limit one (a ∷ here) (b ∷ there) below other_below e =
     let same = one a b (All-head Below a here below) (All-head Below b there other_below) first in
     let others = same_words number limit one here there (All-tail Below a here below) (All-tail Below b there other_below) rest in
     rw (same, others) refl
+
+-- a list with all of its bits made the same
+pub filled_whole : (xs : List Bool) (len : ℕ) (bit : Bool) → length xs ≡ len → with_filled xs 0 len bit ≡ replicate len bit
+filled_whole xs len bit long =
+    let none : drop len xs ≡ [] = drop_all len xs (omega (arith, long)) in
+    let many : len - 0 ≡ len = omega arith in
+    rw (many, none) (append-nil (replicate len bit))

@@ -1,6 +1,4 @@
-use Rattle.std.proofs.Common.{length, subst, sym}
 use Rattle.bitvec.specs.BitSpan.{span_of}
-use Rattle.bitvec.specs.Run.{CanRun}
 use Rattle.bitvec.proofs.AppendedRuns.{run-more}
 use Rattle.tests_runs.proofs.laws.run_on.Goals as goal
 
