@@ -77,9 +77,9 @@ module _ {S : Type 0} (bits : ℕ) (at : ℕ → ℕ) (view : S → Span) (list_
       elim (holds_cases (start y) (view y).len place) [
         | inl both ↦ absurd (let never = only 0 y refl both.0 both.1 in omega (arith, never))
         | inr other ↦ (
-          let next : suc k + s ≡ k + suc s = omega arith in
-          let out = other.1 in
-          rw out (bit_put-own (suc k) xs s x place is from upto (λ t z it low high. let step = only (suc t) z it low high in omega (arith, step)) ∙ ap (λ n. element (list_for n x) (place - start x)) next))
+            let next : suc k + s ≡ k + suc s = omega arith in
+            let out = other.1 in
+            rw out (bit_put-own (suc k) xs s x place is from upto (λ t z it low high. let step = only (suc t) z it low high in omega (arith, step)) ∙ ap (λ n. element (list_for n x) (place - start x)) next))
       ]
 
   -- a place of none of them has the old bit

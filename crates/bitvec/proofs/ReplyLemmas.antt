@@ -24,16 +24,16 @@ module _ {W : Type 0} (number : W → ℕ) (bits : ℕ) (at : ℕ → ℕ) (head
   replies_from_each (p ∷ qs) (r ∷ rs) xs many each =
       elim (cases_Bool (eqb p.span s)) [
         | inl here ↦ (
-          let first = same_Some r (reply_after [] xs p) (each 0 p refl (eqb-true p.span s here)) in
-          let rest = replies_from_each qs rs (list_in xs (outcome number bits at head p.command xs)) (omega (arith, many)) (λ n q is named.
-              subst (λ b. slice_get rs n ≡ Some (reply_in (outcome number bits at head q.command (alone number bits at head (cond b (p.command ∷ own_commands s (take n qs)) (own_commands s (take n qs))) xs).1))) here
-                  (each (suc n) q is named)) in
-          rw here (ap (λ t. t ∷ own_replies s qs rs) first ∙ ap (λ ts. reply_after [] xs p ∷ ts) rest))
+            let first = same_Some r (reply_after [] xs p) (each 0 p refl (eqb-true p.span s here)) in
+            let rest = replies_from_each qs rs (list_in xs (outcome number bits at head p.command xs)) (omega (arith, many)) (λ n q is named.
+            subst (λ b. slice_get rs n ≡ Some (reply_in (outcome number bits at head q.command (alone number bits at head (cond b (p.command ∷ own_commands s (take n qs)) (own_commands s (take n qs))) xs).1))) here
+            (each (suc n) q is named)) in
+            rw here (ap (λ t. t ∷ own_replies s qs rs) first ∙ ap (λ ts. reply_after [] xs p ∷ ts) rest))
         | inr there ↦ (
-          let rest = replies_from_each qs rs xs (omega (arith, many)) (λ n q is named.
-              subst (λ b. slice_get rs n ≡ Some (reply_in (outcome number bits at head q.command (alone number bits at head (cond b (p.command ∷ own_commands s (take n qs)) (own_commands s (take n qs))) xs).1))) there
-                  (each (suc n) q is named)) in
-          rw there rest)
+            let rest = replies_from_each qs rs xs (omega (arith, many)) (λ n q is named.
+            subst (λ b. slice_get rs n ≡ Some (reply_in (outcome number bits at head q.command (alone number bits at head (cond b (p.command ∷ own_commands s (take n qs)) (own_commands s (take n qs))) xs).1))) there
+            (each (suc n) q is named)) in
+            rw there rest)
       ]
 
 -- in a run each span's replies are those

@@ -43,17 +43,13 @@ fn run_bit_commands<R: BitRegister, O: BitOrder<R>, R2: BitRegister, O2: BitOrde
         (λ span other. list_of R.BITS O.at_of (span_of span) (map R.number here.old)
         ≡ list_of R2.BITS O2.at_of (span_of other) (map R2.number there.old)) spans.now
         other_spans.now }
-    requires bit_commands { All (λ request. IsBitCommand request.command)
-        requests.now }
-    requires same_requests { AllZip (AreSameRequests R.number R2.number IsSameNumber)
-        requests.now
+    requires bit_commands { All (λ request. IsBitCommand request.command) requests.now }
+    requires same_requests { AllZip (AreSameRequests R.number R2.number IsSameNumber) requests.now
         other_requests.now }
     ensures same_replies { (s : ℕ) → s < length spans.now
         → AllZip (AreSameReplies IsSameNumber)
-        (own_replies s requests.now
-        (map (reply_number R.number) replies.new))
-        (own_replies s other_requests.now
-        (map (reply_number R2.number) other_replies.new)) }
+        (own_replies s requests.now (map (reply_number R.number) replies.new))
+        (own_replies s other_requests.now (map (reply_number R2.number) other_replies.new)) }
     ensures same_lists { AllZip (λ span other. list_of R.BITS O.at_of (span_of span)
         (map R.number here.new) ≡ list_of R2.BITS O2.at_of (span_of other)
         (map R2.number there.new)) spans.now other_spans.now }
@@ -83,15 +79,13 @@ fn run_turned<R: BitRegister, O: BitOrder<R>, O2: BitOrder<R>>(
     requires same_spans { map span_of spans.now ≡ map span_of other_spans.now }
     requires same_bits { memory_bits R.BITS O.at_of (map R.number here.old)
         ≡ memory_bits R.BITS O2.at_of (map R.number there.old) }
-    requires same_requests { AllZip (AreSameRequests R.number R.number (IsTurned R.BITS O.at_of O2.at_of))
-        requests.now
+    requires same_requests { AllZip
+        (AreSameRequests R.number R.number (IsTurned R.BITS O.at_of O2.at_of)) requests.now
         other_requests.now }
     ensures same_replies { (s : ℕ) → s < length spans.now
         → AllZip (AreSameReplies (IsTurned R.BITS O.at_of O2.at_of))
-        (own_replies s requests.now
-        (map (reply_number R.number) replies.new))
-        (own_replies s other_requests.now
-        (map (reply_number R.number) other_replies.new)) }
+        (own_replies s requests.now (map (reply_number R.number) replies.new))
+        (own_replies s other_requests.now (map (reply_number R.number) other_replies.new)) }
     ensures same_lists { AllZip (λ span other. list_of R.BITS O.at_of (span_of span)
         (map R.number here.new) ≡ list_of R.BITS O2.at_of (span_of other) (map R.number there.new))
         spans.now other_spans.now }
@@ -132,12 +126,10 @@ fn run_in_two_orders<R: BitRegister, O: BitOrder<R>>(
     requires room { length replies.old ≡ length requests.now }
     requires other_room { length other_replies.old ≡ length other_requests.now }
     requires same_memory { here.old ≡ there.old }
-    requires same_commands { HaveSameOwnCommands (length spans.now)
-        requests.now
+    requires same_commands { HaveSameOwnCommands (length spans.now) requests.now
         other_requests.now }
-    ensures same_replies { HaveSameOwnReplies (length spans.now)
-        requests.now (map (reply_number R.number) replies.new)
-        other_requests.now
+    ensures same_replies { HaveSameOwnReplies (length spans.now) requests.now
+        (map (reply_number R.number) replies.new) other_requests.now
         (map (reply_number R.number) other_replies.new) }
     ensures same_memory { here.new ≡ there.new }
 {

@@ -21,7 +21,7 @@ returns g c = λ spans other_spans memory other_memory requests other_requests s
     let own = own_bit_commands s requests (recursion_from_All (λ request. IsBitCommand request.command) requests bit) in
     let lists = zip_at (λ (a b : Span). list_of bits at a memory ≡ list_of other_bits other_at b other_memory) spans other_spans s span other same is other_is in
     let equal : here ≡ alone_from other_number other_bits other_at other other_memory s other_requests =
-        bit_alone number other_number bits other_bits at other_at span.head other.head (own_commands s requests) (own_commands s other_requests) (list_of bits at span memory) own
-        (own_same number other_number IsSameNumber s requests other_requests same_requests)
-        ∙ ap (alone other_number other_bits other_at other.head (own_commands s other_requests)) lists in
+    bit_alone number other_number bits other_bits at other_at span.head other.head (own_commands s requests) (own_commands s other_requests) (list_of bits at span memory) own
+    (own_same number other_number IsSameNumber s requests other_requests same_requests)
+    ∙ ap (alone other_number other_bits other_at other.head (own_commands s other_requests)) lists in
     subst (λ (there : List (Reply ℕ) × List Bool). AllZip (AreSameReplies IsSameNumber) here.0 there.0 × (here.1 ≡ there.1)) equal (same_replies here.0, refl)
