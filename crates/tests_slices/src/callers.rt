@@ -1,14 +1,19 @@
 //! Callers.
 
-ghost use Rattle.std.specs.Prelude.{◌≡◌, ◌≤◌, ◌↔◌, IfSome, IsTrue, IsFalse, true, false, length, map};
-ghost use Rattle.std.specs.Prelude.{slice_set};
+ghost use Rattle.std.specs.Prelude.{◌≡◌, ◌<◌, ◌≤◌, ◌↔◌, IfSome, IsTrue, IsFalse, true, false, length};
+ghost use Rattle.std.specs.Prelude.{[], ◌∷◌, map, slice_set};
 ghost use Rattle.bitvec.specs.BitSpan.{span_of, list_by};
-ghost use Rattle.bitvec.specs.Span.{Fits, KeepsOthers, span_from};
+ghost use Rattle.bitvec.specs.Span.{Fits, KeepsOthers, element, span_from};
+ghost use Rattle.bitvec.specs.Commands.{reply_number};
+ghost use Rattle.bitvec.specs.Run.{IsRun};
+ghost use Rattle.bitvec.specs.declared.run.command.Command.TheVariants.{Replace};
+ghost use Rattle.bitvec.specs.declared.run.command.Reply.TheVariants.{Bit};
 ghost use Rattle.bitvec_slice.specs.BitSlice.{slice_memory, slice_span};
 
 use bitvec::mem::BitRegister;
 use bitvec::order::BitOrder;
 use bitvec::ptr::span::BitSpan;
+use bitvec::run::{Reply, Request, run};
 use bitvec_slice::slice::{BitSlice, BitSliceMut};
 
 /// Two bits.
@@ -42,4 +47,28 @@ fn behind_the_first<'a, R: BitRegister, O: BitOrder<R>>(
     let mut bits = slice.iter();
     bits.next()?;
     Some(bits.as_bitslice())
+}
+
+/// A bit of a slice is set, and then its span is run: they are one run, whose first request is the
+/// edit.
+fn set_and_run<R: BitRegister, O: BitOrder<R>>(
+    span: BitSpan<R, O>,
+    memory: &mut [R],
+    i: usize,
+    bit: bool,
+    requests: &[Request<R>],
+    replies: &mut [Reply<R>],
+)
+    requires fits { Fits R.BITS (span_of span) (length memory.old) }
+    requires inside { i < (span_of span).len }
+    requires room { length replies.old ≡ length requests.now }
+    ensures { IsRun R.number R.BITS O.at_of span_of (span ∷ []) (map R.number memory.old)
+        (record { span = 0; command = Replace i bit } ∷ requests.now)
+        (Bit (element (list_by span O.at_of memory.old) i)
+        ∷ map (reply_number R.number) replies.new) (map R.number memory.new) }
+{
+    let mut slice = BitSliceMut::new_unchecked(span, memory);
+    slice.set(i, bit);
+    drop(slice);
+    run(&[span], memory, requests, replies);
 }
