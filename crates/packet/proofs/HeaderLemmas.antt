@@ -96,19 +96,41 @@ module _ {S : Type 0} (view : S → Span) (spans : List S) (at : ℕ → ℕ) (b
   kept-by_run place out =
       sym (ap (λ ws. bit_of 32 at ws place) (map-id after)) ∙ ran.placed.others place out ∙ ap (λ ws. bit_of 32 at ws place) (map-id before)
 
--- a run of four stores, one through each span, writes the header
-pub header-written : {S : Type 0} (view : S → Span) (a b c d : S) → view a ≡ field_span 0 4 → view b ≡ field_span 4 6 → view c ≡ field_span 10 6 → view d ≡ field_span 16 16
-    → (r0 r1 r2 r3 : Request ℕ) (k0 k1 k2 k3 : Command ℕ) (at : ℕ → ℕ) (header : Header)
-    → r0 ≡ record { span = 0; command = k0 } → r1 ≡ record { span = 1; command = k1 } → r2 ≡ record { span = 2; command = k2 } → r3 ≡ record { span = 3; command = k3 }
-    → k0 ≡ Store 0 (shifted_number at 0 4 header.version) → k1 ≡ Store 0 (shifted_number at 4 6 header.class) → k2 ≡ Store 0 (shifted_number at 10 6 header.flags) → k3 ≡ Store 0 (shifted_number at 16 16 header.length)
+-- a request stores a number in the field from an index on, through the span of number s
+pub record StoresField (at : ℕ → ℕ) (start len number s : ℕ) (request : Request ℕ) : Type 0 where
+  pub command : Command ℕ
+  pub is_request : request ≡ record { span = s; command = command }
+  pub is_store : command ≡ Store 0 (shifted_number at start len number)
+
+-- four spans are the fields of a header, and four requests store its numbers, one through each
+pub record StoresHeader {S : Type 0} (view : S → Span) (a b c d : S) (at : ℕ → ℕ) (header : Header) (r0 r1 r2 r3 : Request ℕ) : Type 0 where
+  pub is_version : view a ≡ field_span 0 4
+  pub is_class : view b ≡ field_span 4 6
+  pub is_flags : view c ≡ field_span 10 6
+  pub is_length : view d ≡ field_span 16 16
+  pub version : StoresField at 0 4 header.version 0 r0
+  pub class : StoresField at 4 6 header.class 1 r1
+  pub flags : StoresField at 10 6 header.flags 2 r2
+  pub length : StoresField at 16 16 header.length 3 r3
+
+-- a run of these writes the header
+pub header-written : {S : Type 0} (view : S → Span) (a b c d : S) (at : ℕ → ℕ) (header : Header) (r0 r1 r2 r3 : Request ℕ) → StoresHeader view a b c d at header r0 r1 r2 r3
     → (before after : List ℕ) (replies : List (Reply ℕ)) → IsRun (λ n. n) 32 at view (a ∷ b ∷ c ∷ d ∷ []) (map (λ w. w) before) (r0 ∷ r1 ∷ r2 ∷ r3 ∷ []) replies (map (λ w. w) after)
     → HasHeader at header after
-header-written view a b c d is_version is_class is_flags is_length r0 r1 r2 r3 k0 k1 k2 k3 at header t0 t1 t2 t3 s0 s1 s2 s3 before after replies ran =
+header-written view a b c d at header r0 r1 r2 r3 all before after replies ran =
+    let t0 = all.version.is_request in
+    let t1 = all.class.is_request in
+    let t2 = all.flags.is_request in
+    let t3 = all.length.is_request in
+    let s0 = all.version.is_store in
+    let s1 = all.class.is_store in
+    let s2 = all.flags.is_store in
+    let s3 = all.length.is_store in
     record {
-      version = stored-by_run view _ at before after _ replies ran 0 0 4 _ a refl is_version (rw (t0, t1, t2, t3, s0) refl) (omega arith) (omega arith);
-      class = stored-by_run view _ at before after _ replies ran 1 4 6 _ b refl is_class (rw (t0, t1, t2, t3, s1) refl) (omega arith) (omega arith);
-      flags = stored-by_run view _ at before after _ replies ran 2 10 6 _ c refl is_flags (rw (t0, t1, t2, t3, s2) refl) (omega arith) (omega arith);
-      length = stored-by_run view _ at before after _ replies ran 3 16 16 _ d refl is_length (rw (t0, t1, t2, t3, s3) refl) (omega arith) (omega arith);
+      version = stored-by_run view _ at before after _ replies ran 0 0 4 _ a refl all.is_version (rw (t0, t1, t2, t3, s0) refl) (omega arith) (omega arith);
+      class = stored-by_run view _ at before after _ replies ran 1 4 6 _ b refl all.is_class (rw (t0, t1, t2, t3, s1) refl) (omega arith) (omega arith);
+      flags = stored-by_run view _ at before after _ replies ran 2 10 6 _ c refl all.is_flags (rw (t0, t1, t2, t3, s2) refl) (omega arith) (omega arith);
+      length = stored-by_run view _ at before after _ replies ran 3 16 16 _ d refl all.is_length (rw (t0, t1, t2, t3, s3) refl) (omega arith) (omega arith);
     }
 
 pub header_same : (one other : Header) → one.version ≡ other.version → one.class ≡ other.class → one.flags ≡ other.flags → one.length ≡ other.length → one ≡ other

@@ -12,8 +12,16 @@ returns-clause-room g c =
 
 pub returns-clause-written : goal.returns-clause-written
 returns-clause-written g c h =
-    header-written span_of c.span.result c.span-2.result c.span-3.result c.span-4.result c.span.ensures c.span-2.ensures c.span-3.ensures c.span-4.ensures
-    _ _ _ _ _ _ _ _ g.O.BitAt.at_of _ c.to.ensures c.to-2.ensures c.to-3.ensures c.to-4.ensures c.store.ensures c.store-2.ensures c.store-3.ensures c.store-4.ensures
+    header-written span_of c.span.result c.span-2.result c.span-3.result c.span-4.result g.O.BitAt.at_of _ _ _ _ _ (record {
+      is_version = c.span.ensures;
+      is_class = c.span-2.ensures;
+      is_flags = c.span-3.ensures;
+      is_length = c.span-4.ensures;
+      version = record { command = _; is_request = c.to.ensures; is_store = c.store.ensures };
+      class = record { command = _; is_request = c.to-2.ensures; is_store = c.store-2.ensures };
+      flags = record { command = _; is_request = c.to-3.ensures; is_store = c.store-3.ensures };
+      length = record { command = _; is_request = c.to-4.ensures; is_store = c.store-4.ensures };
+    })
     c.args.memory.now c.run.new.memory _ c.run.ensures
 
 pub returns-clause-others : goal.returns-clause-others
