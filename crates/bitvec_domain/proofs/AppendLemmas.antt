@@ -1,7 +1,7 @@
 -- The bits of a memory of which a part was written.
 use Rattle.std.proofs.Common.{◌≡◌, ℕ, ◌+◌, ◌-◌, ◌*◌, ◌/◌, ◌%◌, ◌<◌, ◌≤◌, Bool, false, List, ◌++◌, length, map, take, drop, sym, ap, ◌∙◌, inl, inr, arith, length-append, length-drop, length-take-le}
 use Rattle.std.specs.Prelude.{slice_set, slice_index}
-use Rattle.std.proofs.lemmas.Bool.{cases_lt}
+use Rattle.std.proofs.lemmas.Bool.{cases_eq, cases_lt}
 use Rattle.std.proofs.lemmas.List.{map-append, length-map, take-append-drop, get_or_append_left, get_or-append_right, get_or-append-add, set-append_left, set-append_right}
 use Rattle.std.proofs.lemmas.Nat.{div-add-mod'}
 use Rattle.std.proofs.Math.Nat.{lt_of_mul-lt-mul_right}
@@ -42,10 +42,18 @@ memory_bits-append bits at xs ys some =
 three_parts : {X : Type 0} (a k : ℕ) (xs : List X) → take a xs ++ (mid_of a k xs ++ post_of a k xs) ≡ xs
 three_parts a k xs = ap (λ ys. take a xs ++ ys) (take-append-drop k (drop a xs)) ∙ take-append-drop a xs
 
-pub write_mid : {X : Type 0} (bits : ℕ) (at : ℕ → ℕ) (number : X → ℕ) (a k i : ℕ) (b : Bool) (xs ys : List X) → 0 < bits → a + k ≤ length xs → i < k * bits
+-- so a bit that is written in the part is written in the memory
+pub write_mid : {X : Type 0} (bits : ℕ) (at : ℕ → ℕ) (number : X → ℕ) (a k i : ℕ) (b : Bool)
+    (xs ys : List X) → a + k ≤ length xs → i < k * bits
     → memory_bits bits at (map number ys) ≡ slice_set (memory_bits bits at (map number (mid_of a k xs))) i b
     → memory_bits bits at (map number (put_mid a k xs ys)) ≡ slice_set (memory_bits bits at (map number xs)) (a * bits + i) b
-write_mid bits at number a k i b xs ys some within inside written =
+write_mid bits at number a k i b xs ys within inside written =
+    let some : 0 < bits = elim (cases_eq bits 0) [
+      | inl none ↦ (
+          let product : k * bits ≡ k * 0 = ap (λ n. k * n) none in
+          absurd (omega (arith, inside, product)))
+      | inr more ↦ omega arith
+    ] in
     let T : List ℕ = map number (take a xs) in
     let M : List ℕ = map number (mid_of a k xs) in
     let Y : List ℕ = map number ys in

@@ -1,5 +1,5 @@
 -- What an edit of some bits of a memory makes of the list of a span, and of all else.
-use Rattle.std.proofs.Common.{◌≡◌, ℕ, suc, ◌+◌, ◌-◌, ◌*◌, ◌/◌, ◌%◌, ◌<◌, ◌≤◌, Bool, false, List, [], ◌∷◌, ◌++◌, length, map, get_or, take, drop, Some, sym, ap, subst, ◌∙◌, inl, inr, arith, append_assoc, length-append, length-drop, length-take-le}
+use Rattle.std.proofs.Common.{◌≡◌, ℕ, suc, ◌+◌, ◌-◌, ◌*◌, ◌/◌, ◌%◌, ◌<◌, ◌≤◌, Bool, false, List, [], ◌∷◌, ◌++◌, length, map, get_or, take, drop, Some, refl, sym, ap, subst, ◌∙◌, inl, inr, arith, append_assoc, length-append, length-drop, length-take-le}
 use Rattle.std.specs.Prelude.{ℤ, pos, nat_abs, ◌≤ℤ◌, swap, slice_get, slice_set}
 use Rattle.std.proofs.Math.ListN.{length-set}
 use Rattle.std.proofs.lemmas.Bool.{cases_eq, cases_lt}
@@ -157,15 +157,21 @@ module _ (bits : ℕ) (at : ℕ → ℕ) (span : Span) (old new : List ℕ) (in_
             ])
       ] ∙ get_or-memory_bits bits at old p false below)
 
--- two bits of the span are read, and each is written in the other's place
-pub swap-becomes : (bits : ℕ) (at : ℕ → ℕ) (span : Span) (old mid new : List ℕ) (i j : ℕ) (x y : Bool) → i < span.len → j < span.len → x ≡ element (list_of bits at span old) i → y ≡ element (list_of bits at span old) j
-    → BecomesList bits at span old mid (slice_set (list_of bits at span old) i y) → BecomesList bits at span mid new (slice_set (list_of bits at span mid) j x)
+-- two bits of the span are each written in the other's place
+pub swap-becomes : (bits : ℕ) (at : ℕ → ℕ) (span : Span) (old mid new : List ℕ) (i j : ℕ)
+    → i < span.len → j < span.len
+    → BecomesList bits at span old mid
+    (slice_set (list_of bits at span old) i (element (list_of bits at span old) j))
+    → BecomesList bits at span mid new
+    (slice_set (list_of bits at span mid) j (element (list_of bits at span old) i))
     → BecomesList bits at span old new (swap (list_of bits at span old) i j)
-swap-becomes bits at span old mid new i j x y h k is_x is_y first second =
+swap-becomes bits at span old mid new i j h k first second =
     let xs : List Bool = list_of bits at span old in
     let long = length-list_of bits at span old in
-    becomes-same bits at span old new (slice_set (list_of bits at span mid) j x) (swap xs i j)
-    (ap (λ (ys : List Bool). slice_set ys j x) first.list ∙ (λ m. slice_set (slice_set xs i (is_y m)) j (is_x m)) ∙ swap_is xs i j false (omega (arith, long, h)) (omega (arith, long, k)))
+    becomes-same bits at span old new (slice_set (list_of bits at span mid) j (element xs i))
+    (swap xs i j)
+    (ap (λ (ys : List Bool). slice_set ys j (element xs i)) first.list
+    ∙ swap_is xs i j false (omega (arith, long, h)) (omega (arith, long, k)))
     (becomes-then bits at span old mid new _ _ first second)
 
 -- a list whose first elements are another's, and one more
@@ -185,15 +191,16 @@ one_more xs ys i same h =
     ∙ ap (λ ws. ws ++ drop (i + 1) xs) (sym (take_more ys i false (omega (arith, same, h))))
 
 -- one more of the span's bits is a list's
-pub more-becomes : (bits : ℕ) (at : ℕ → ℕ) (span : Span) (old mid new : List ℕ) (ys : List Bool) (i : ℕ) (b : Bool) → length ys ≡ span.len
-    → i < span.len → b ≡ element ys i
+pub more-becomes : (bits : ℕ) (at : ℕ → ℕ) (span : Span) (old mid new : List ℕ) (ys : List Bool)
+    (i : ℕ) → length ys ≡ span.len → i < span.len
     → BecomesList bits at span old mid (take i ys ++ drop i (list_of bits at span old))
-    → BecomesList bits at span mid new (slice_set (list_of bits at span mid) i b)
+    → BecomesList bits at span mid new (slice_set (list_of bits at span mid) i (element ys i))
     → BecomesList bits at span old new (take (i + 1) ys ++ drop (i + 1) (list_of bits at span old))
-more-becomes bits at span old mid new ys i b same h is first second =
+more-becomes bits at span old mid new ys i same h first second =
     let long = length-list_of bits at span old in
     becomes-same bits at span old new _ _
-    ((λ m. slice_set (first.list m) i (is m)) ∙ one_more (list_of bits at span old) ys i (omega (arith, same, long)) (omega (arith, long, h)))
+    (ap (λ (xs : List Bool). slice_set xs i (element ys i)) first.list
+    ∙ one_more (list_of bits at span old) ys i (omega (arith, same, long)) (omega (arith, long, h)))
     (becomes-then bits at span old mid new _ _ first second)
 
 -- all of them are
@@ -205,18 +212,42 @@ all-becomes bits at span old new ys n same h edit =
     becomes-same bits at span old new _ _ ((λ m. take_all n ys (omega (arith, same, h)) m ++ drop_all n xs (omega (arith, long, h)) m)
     ∙ append-nil ys) edit
 
+-- a span lies in a memory of so many words of that width
+pub record LiesIn (bits : ℕ) (span : Span) (words : ℕ) : Type 0 where
+  pub in_head : span.head < bits
+  pub fits : Fits bits span words
+
+-- the bits of a span in one memory were copied to the places of another span of as many bits,
+-- which made `new` of `old`
+pub record IsCopied (wide : ℕ) (place_in : ℕ → ℕ) (source : Span) (from : List ℕ)
+    (bits : ℕ) (at : ℕ → ℕ) (span : Span) (old new : List ℕ) : Type 0 where
+  pub len : source.len ≡ span.len
+  pub words : length new ≡ length old
+  pub copied : memory_bits bits at new
+      ≡ list_with_copy (memory_bits wide place_in from) (nat_abs source.word * wide + source.head)
+      (memory_bits bits at old) (nat_abs span.word * bits + span.head) span.len
+
 -- the span's bits are copied from those of another, of any width and order
-pub span-becomes : (wide : ℕ) (place_in : ℕ → ℕ) (source : Span) (from : List ℕ) (bits : ℕ) (at : ℕ → ℕ) (span : Span) (old new : List ℕ) (s to count : ℕ) → source.head < wide → Fits wide source (length from)
-    → span.head < bits → Fits bits span (length old) → source.len ≡ span.len → s ≡ nat_abs source.word * wide + source.head → to ≡ nat_abs span.word * bits + span.head → length new ≡ length old → count ≡ span.len
-    → memory_bits bits at new ≡ list_with_copy (memory_bits wide place_in from) s (memory_bits bits at old) to count → BecomesList bits at span old new (list_of wide place_in source from)
-span-becomes wide place_in source from bits at span old new s to count source_head source_fits in_head fits same e f many all is =
+pub span-becomes : (wide : ℕ) (place_in : ℕ → ℕ) (source : Span) (from : List ℕ)
+    (bits : ℕ) (at : ℕ → ℕ) (span : Span) (old new : List ℕ)
+    → LiesIn wide source (length from) → LiesIn bits span (length old)
+    → IsCopied wide place_in source from bits at span old new
+    → BecomesList bits at span old new (list_of wide place_in source from)
+span-becomes wide place_in source from bits at span old new there here is =
+    let start : ℕ = nat_abs source.word * wide + source.head in
     let theirs = length-memory_bits wide place_in from in
-    let source_room : 0 < source.len → nat_abs source.word * wide + source.head + source.len ≤ length from * wide = λ some. met_covers wide (nat_abs source.word) source.head source.len (length from) (omega (arith, source_head)) some source_fits.1 in
-    copy-becomes bits at span old new in_head fits (list_of wide place_in source from) (memory_bits wide place_in from) s to (length-list_of wide place_in source from ∙ same)
-    (λ some. let r = source_room (omega (arith, some, same)) in omega (arith, r, e, same, theirs))
-    (λ j h. let r = source_room (omega (arith, h, same)) in
-    element-list_of wide place_in source from j (omega (arith, h, same)) ∙ sym (ap (λ n. get_or (memory_bits wide place_in from) (n + j) false) e ∙ get_or-memory_bits wide place_in from (nat_abs source.word * wide + source.head + j) false (omega (arith, r, h, same))))
-    f many (is ∙ ap (list_with_copy (memory_bits wide place_in from) s (memory_bits bits at old) to) all)
+    let some : 0 < wide = omega (arith, there.in_head) in
+    let source_room : 0 < source.len → start + source.len ≤ length from * wide = λ more.
+    met_covers wide (nat_abs source.word) source.head source.len (length from) some more
+    there.fits.1 in
+    copy-becomes bits at span old new here.in_head here.fits (list_of wide place_in source from)
+    (memory_bits wide place_in from) start (nat_abs span.word * bits + span.head)
+    (length-list_of wide place_in source from ∙ is.len)
+    (λ more. let r = source_room (omega (arith, more, is.len)) in omega (arith, r, is.len, theirs))
+    (λ j h. let r = source_room (omega (arith, h, is.len)) in
+    element-list_of wide place_in source from j (omega (arith, h, is.len))
+    ∙ sym (get_or-memory_bits wide place_in from (start + j) false (omega (arith, r, h, is.len))))
+    refl is.words is.copied
 
 -- a range of a span's bits
 module _ (bits : ℕ) (at : ℕ → ℕ) (span : Span) (from to : ℕ) (words : List ℕ) (in_head : span.head < bits) (fits : Fits bits span (length words)) (rises : from ≤ to) (within : to ≤ span.len) where

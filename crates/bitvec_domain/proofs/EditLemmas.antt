@@ -10,27 +10,53 @@ use Rattle.bitvec_domain.proofs.BecomesLemmas.{lists-kept}
 use Rattle.bitvec_domain.proofs.PartEditLemmas.{others-part}
 use Rattle.bitvec_domain.proofs.PartLemmas.{value_of-from_mask}
 
--- a word that was put in place of another, and an answer, by their digits under the part's mask
-pub edits_part : {X : Type 0} (bits : ℕ) (at : ℕ → ℕ) (slot : Slot) (after : ℕ → Bool) (number : X → ℕ) (old new : List X) (word : X) (was mask answer : ℕ)
-    → IsOneToOne bits at → 0 < bits → slot.word < length old → slot.tail ≤ bits → IsMaskOf bits at slot.head slot.tail mask
-    → was ≡ slice_index (map number old) slot.word → new ≡ slice_set old slot.word word
-    → number word < 2 ^ bits → answer < 2 ^ bits
-    → ((i : ℕ) → i < bits → digit (number word) (at i) ≡ (if digit mask (at i) then after i else digit was (at i)))
-    → ((p : ℕ) → p < bits → digit answer p ≡ (digit was p && digit mask p))
+-- a word was put in place of the slot's, in a memory of words of that width
+pub record IsReplaced {X : Type 0} (bits : ℕ) (slot : Slot) (old new : List X) (word : X)
+    : Type 0 where
+  pub some : 0 < bits
+  pub tail_in : slot.tail ≤ bits
+  pub in_memory : slot.word < length old
+  pub put : new ≡ slice_set old slot.word word
+
+-- under a slot's mask, the bits of the word `was` were answered, and made those of `after` in
+-- `word`
+pub record IsEditedUnderMask (bits : ℕ) (at : ℕ → ℕ) (slot : Slot) (after : ℕ → Bool)
+    (was word answer : ℕ) : Type 0 where
+  pub mask : ℕ
+  pub masked : IsMaskOf bits at slot.head slot.tail mask
+  pub small : word < 2 ^ bits
+  pub small_answer : answer < 2 ^ bits
+  pub digits : (i : ℕ) → i < bits
+      → digit word (at i) ≡ (if digit mask (at i) then after i else digit was (at i))
+  pub kept : (p : ℕ) → p < bits → digit answer p ≡ (digit was p && digit mask p)
+
+-- a word that was edited under the mask of its slot's part, and put in its place, is an edit of
+-- the part
+pub edits_part : {X : Type 0} (bits : ℕ) (at : ℕ → ℕ) (slot : Slot) (after : ℕ → Bool)
+    (number : X → ℕ) (old new : List X) (word : X) (answer : ℕ)
+    → IsOneToOne bits at → IsReplaced bits slot old new word
+    → IsEditedUnderMask bits at slot after (slice_index (map number old) slot.word) (number word)
+    answer
     → EditsPart bits at slot after (map number old) (map number new) answer
-edits_part bits at slot after number old new word was mask answer law some in_memory within masked is put small small_answer digits kept =
-    let placed : map number new ≡ slice_set (map number old) slot.word (number word) = ap (map number) put ∙ map-set number old slot.word word in
+edits_part bits at slot after number old new word answer law replaced edited =
+    let was : ℕ = slice_index (map number old) slot.word in
+    let placed : map number new ≡ slice_set (map number old) slot.word (number word) =
+    ap (map number) replaced.put ∙ map-set number old slot.word word in
     let each : (i : ℕ) → i < bits → digit (number word) (at i)
-    ≡ (if nat_le slot.head i && nat_lt i slot.tail then after i else digit (slice_index (map number old) slot.word) (at i)) = λ i h.
-    digits i h
-    ∙ ap (λ b. if b then after i else digit was (at i)) (digit-mask_at bits at slot.head slot.tail mask i law within masked h)
-    ∙ ap (λ w. if (nat_le slot.head i && nat_lt i slot.tail) then after i else digit w (at i)) is in
+    ≡ (if nat_le slot.head i && nat_lt i slot.tail then after i else digit was (at i)) = λ i h.
+    edited.digits i h
+    ∙ ap (λ b. if b then after i else digit was (at i))
+    (digit-mask_at bits at slot.head slot.tail edited.mask i law replaced.tail_in edited.masked
+    h) in
     record {
-      words = placed ∙ ap (slice_set (map number old) slot.word) (number_of-from_digits bits at _ (number word) law small each);
+      words = placed
+          ∙ ap (slice_set (map number old) slot.word)
+          (number_of-from_digits bits at _ (number word) law edited.small each);
       apart = lists-kept bits at (slot_span slot) (map number old) (map number new)
-          (others-part bits at slot after (map number old) (map number new) (number word) some
-          (omega (arith, in_memory, length-map old number)) placed each);
-      answered = value_of-from_mask bits at (slot_part slot (map number old)) was mask answer law within is masked small_answer kept;
+          (others-part bits at slot after (map number old) (map number new) (number word)
+          replaced.some (omega (arith, replaced.in_memory, length-map old number)) placed each);
+      answered = value_of-from_mask bits at (slot_part slot (map number old)) was edited.mask answer
+          law replaced.tail_in refl edited.masked edited.small_answer edited.kept;
     }
 
 -- the number of a test is that of every test with the same values

@@ -25,14 +25,62 @@ pub value_of-whole : (bits : ℕ) (at : ℕ → ℕ) (w : ℕ) → IsOneToOne bi
 value_of-whole bits at w law small =
     sym (number_of-from_digits bits at (λ i. nat_le 0 i && nat_lt i bits && digit w (at i)) w law small (λ i h. sym (rw (le-leb 0 i (omega arith), lt-ltb i bits h) refl)))
 
--- what holds of each row of a table, where it is the first that applies, holds of the table
-pub table_cases : (P : Parts → Type 0) (empty begins ends one : Bool) (r0 r1 r2 r3 r4 r5 : Parts) → (empty ≡ true → P r0) → (empty ≡ false → begins ≡ true → ends ≡ true → P r1) → (empty ≡ false → begins ≡ false → ends ≡ true → P r2) → (empty ≡ false → begins ≡ true → ends ≡ false → P r3) → (empty ≡ false → begins ≡ false → ends ≡ false → one ≡ true → P r4) → (empty ≡ false → begins ≡ false → ends ≡ false → one ≡ false → P r5) → P (if empty then r0 else (if begins && ends then r1 else (if ends then r2 else (if begins then r3 else (if one then r4 else r5)))))
-table_cases P true begins ends one r0 r1 r2 r3 r4 r5 p0 p1 p2 p3 p4 p5 = p0 refl
-table_cases P false true true one r0 r1 r2 r3 r4 r5 p0 p1 p2 p3 p4 p5 = p1 refl refl refl
-table_cases P false false true one r0 r1 r2 r3 r4 r5 p0 p1 p2 p3 p4 p5 = p2 refl refl refl
-table_cases P false true false one r0 r1 r2 r3 r4 r5 p0 p1 p2 p3 p4 p5 = p3 refl refl refl
-table_cases P false false false true r0 r1 r2 r3 r4 r5 p0 p1 p2 p3 p4 p5 = p4 refl refl refl refl
-table_cases P false false false false r0 r1 r2 r3 r4 r5 p0 p1 p2 p3 p4 p5 = p5 refl refl refl refl
+-- what holds of each side of a choice, where it is the side that is taken, holds of the choice
+if_cases : {A : Type 0} (P : A → Type 0) (test : Bool) (x y : A)
+    → (test ≡ true → P x) → (test ≡ false → P y) → P (if test then x else y)
+if_cases P true x y p q = p refl
+if_cases P false x y p q = q refl
+
+-- both of two tests hold, or the second alone
+both_true : (a b : Bool) → (a && b) ≡ true → (a ≡ true) × (b ≡ true)
+both_true true true e = (refl, refl)
+both_true true false e = absurd cc
+both_true false b e = absurd cc
+
+second_alone : (a b : Bool) → (a && b) ≡ false → b ≡ true → a ≡ false
+second_alone true true e f = absurd cc
+second_alone true false e f = absurd cc
+second_alone false b e f = refl
+
+-- what holds of each row of the table of a span's parts, where it is the first that applies, holds
+-- of its parts
+module _ (P : Parts → Type 0) (bits : ℕ) (span : Span) (words : List ℕ) where
+  abbrev first : ℕ
+  first = nat_abs span.word
+
+  abbrev elements : ℕ
+  elements = words_met bits span.head span.len
+
+  abbrev tail : ℕ
+  tail = tail_of bits span.head span.len
+
+  abbrev head_part : Part
+  head_part = part_of bits span words 0
+
+  abbrev tail_part : Part
+  tail_part = part_of bits span words (elements - 1)
+
+  pub table_cases : ((span.len == 0) ≡ true → P (region None [] None))
+      → ((span.len == 0) ≡ false → (span.head == 0) ≡ true → (tail == bits) ≡ true
+      → P (region None (slice_range words first (first + elements)) None))
+      → ((span.len == 0) ≡ false → (span.head == 0) ≡ false → (tail == bits) ≡ true
+      → P (region (Some head_part) (slice_range words (first + 1) (first + elements)) None))
+      → ((span.len == 0) ≡ false → (span.head == 0) ≡ true → (tail == bits) ≡ false
+      → P (region None (slice_range words first (first + elements - 1)) (Some tail_part)))
+      → ((span.len == 0) ≡ false → (span.head == 0) ≡ false → (tail == bits) ≡ false
+      → (elements == 1) ≡ true → P (enclave head_part))
+      → ((span.len == 0) ≡ false → (span.head == 0) ≡ false → (tail == bits) ≡ false
+      → (elements == 1) ≡ false
+      → P (region (Some head_part) (slice_range words (first + 1) (first + elements - 1))
+      (Some tail_part)))
+      → P (parts_of bits span words)
+  table_cases none whole headed tailed single parted =
+      if_cases P (span.len == 0) _ _ none (λ some.
+      if_cases P (span.head == 0 && tail == bits) _ _
+      (λ is. let two = both_true _ _ is in whole some two.0 two.1) (λ no.
+      if_cases P (tail == bits) _ _ (λ ends. headed some (second_alone _ _ no ends) ends) (λ stops.
+      if_cases P (span.head == 0) _ _ (λ begins. tailed some begins stops) (λ inside.
+      if_cases P (elements == 1) _ _ (single some inside stops) (parted some inside stops)))))
 
 length_slice : (xs : List ℕ) (i n : ℕ) → i + n ≤ length xs → length (take n (drop i xs)) ≡ n
 length_slice xs i n h = length-take-le n (drop i xs) (omega (arith, length-drop i xs))
@@ -100,15 +148,7 @@ module _ (bits : ℕ) (at : ℕ → ℕ) (span : Span) (words : List ℕ) (in_he
       let first : ℕ = nat_abs span.word in
       let e : ℕ = words_met bits span.head span.len in
       let P : Parts → Type 0 = λ parts. items bits at parts ≡ map value_at (range_with_len 0 (words_met bits span.head span.len)) in
-      let head_part : Part = part_of bits span words 0 in
-      let tail_part : Part = part_of bits span words (words_met bits span.head span.len - 1) in
-      table_cases P (span.len == 0) (span.head == 0) (tail_of bits span.head span.len == bits) (words_met bits span.head span.len == 1)
-      (region None [] None)
-      (region None (slice_range words first (first + e)) None)
-      (region (Some head_part) (slice_range words (first + 1) (first + e)) None)
-      (region None (slice_range words first (first + e - 1)) (Some tail_part))
-      (enclave head_part)
-      (region (Some head_part) (slice_range words (first + 1) (first + e - 1)) (Some tail_part))
+      table_cases P bits span words
       (λ empty. ap (λ n. map value_at (range_with_len 0 n)) (sym (words_met-none bits span.head span.len (eqb-true span.len 0 empty))))
       (λ some begins ends. append-nil _ ∙ body 0 e first (first + e) (omega arith) (omega arith) (omega arith) (inr (eqb-true span.head 0 begins)) (inr (eqb-true _ bits ends)))
       (λ some begins ends.
@@ -151,15 +191,7 @@ module _ (bits : ℕ) (at : ℕ → ℕ) (span : Span) (words : List ℕ) (in_he
       let e : ℕ = words_met bits span.head span.len in
       let q : ℕ = (span.head + span.len - 1) / bits in
       let parts = div-add-mod' (span.head + span.len - 1) bits in
-      let head_part : Part = part_of bits span words 0 in
-      let tail_part : Part = part_of bits span words (words_met bits span.head span.len - 1) in
-      table_cases (HasShortBody bits) (span.len == 0) (span.head == 0) (tail_of bits span.head span.len == bits) (words_met bits span.head span.len == 1)
-      (region None [] None)
-      (region None (slice_range words first (first + e)) None)
-      (region (Some head_part) (slice_range words (first + 1) (first + e)) None)
-      (region None (slice_range words first (first + e - 1)) (Some tail_part))
-      (enclave head_part)
-      (region (Some head_part) (slice_range words (first + 1) (first + e - 1)) (Some tail_part))
+      table_cases (HasShortBody bits) bits span words
       (λ empty. zero-le)
       (λ some begins ends.
       let len_some : 0 < span.len = (let differ = eqb-false span.len 0 some in omega arith) in

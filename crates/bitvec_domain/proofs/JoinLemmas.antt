@@ -1,5 +1,5 @@
 -- The bits of a span's parts, one behind the other, are the bits of the span.
-use Rattle.std.proofs.Common.{◌≡◌, ℕ, zero, suc, ◌+◌, ◌-◌, ◌*◌, ◌/◌, ◌%◌, ◌<◌, ◌≤◌, ◌==◌, Bool, false, List, [], ◌∷◌, ◌++◌, length, map, take, drop, Some, None, refl, sym, ap, ◌∙◌, inl, inr, arith, append-nil, append_assoc, length-drop, length-take-le}
+use Rattle.std.proofs.Common.{◌≡◌, ℕ, zero, suc, ◌+◌, ◌-◌, ◌*◌, ◌/◌, ◌%◌, ◌<◌, ◌≤◌, Bool, false, List, [], ◌∷◌, ◌++◌, length, map, take, drop, refl, sym, ap, ◌∙◌, inl, inr, arith, append-nil, append_assoc, length-drop, length-take-le}
 use Rattle.std.specs.Prelude.{nat_abs, slice_index, slice_range}
 use Rattle.std.specs.List.{range_with_len}
 use Rattle.std.proofs.lemmas.List.{length-map, get_or-take, get_or-drop}
@@ -14,7 +14,7 @@ use Rattle.bitvec_ptr.proofs.PlaceLemmas.{words_met-some, tail_of-some}
 use Rattle.bitvec_ptr.proofs.MemoryLemmas.{tabulate_same, tabulate-from_elements, bit_of-place}
 use Rattle.bitvec_ptr.proofs.BitLemmas.{bit_of-word}
 use Rattle.bitvec_domain.specs.Span.{Span, Fits, list_of}
-use Rattle.bitvec_domain.specs.Parts.{Part, Parts, enclave, region, part_head, part_tail, part_of, parts_of}
+use Rattle.bitvec_domain.specs.Parts.{Part, Parts, part_head, part_tail, part_of, parts_of}
 use Rattle.bitvec_domain.specs.BitParts.{bits_list, part_bits, body_bits, bit_parts_of, joined_bits}
 use Rattle.bitvec_domain.proofs.PartLemmas.{part_same}
 use Rattle.bitvec_domain.proofs.ItemLemmas.{table_cases, first_bound, last_bound}
@@ -94,16 +94,9 @@ module _ (bits : ℕ) (at : ℕ → ℕ) (span : Span) (words : List ℕ) (in_he
       let t : ℕ = tail_of bits span.head span.len in
       let parts = div-add-mod' (span.head + span.len - 1) bits in
       let rest = mod_below (span.head + span.len - 1) bits (omega arith) in
-      let head_part : Part = part_of bits span words 0 in
       let tail_part : Part = part_of bits span words (words_met bits span.head span.len - 1) in
       let P : Parts → Type 0 = λ p. joined_bits bits at (bit_parts_of bits p) ≡ list_of bits at span words in
-      table_cases P (span.len == 0) (span.head == 0) (tail_of bits span.head span.len == bits) (words_met bits span.head span.len == 1)
-      (region None [] None)
-      (region None (slice_range words first (first + e)) None)
-      (region (Some head_part) (slice_range words (first + 1) (first + e)) None)
-      (region None (slice_range words first (first + e - 1)) (Some tail_part))
-      (enclave head_part)
-      (region (Some head_part) (slice_range words (first + 1) (first + e - 1)) (Some tail_part))
+      table_cases P bits span words
       (λ empty.
       let none = eqb-true span.len 0 empty in
       append-nil _ ∙ ap (λ n. tabulate n (λ j. bit_of bits at [] (0 * bits + 0 + j))) (let same : length {A = ℕ} [] * bits ≡ 0 = omega arith in same) ∙ sym (ap (stretch 0) none))

@@ -52,8 +52,8 @@ impl<'a, R: BitRegister, O> PartialElement<'a, R, O> {
     pub(super) fn new(memory: &'a [R], at: usize, head: BitIdx<R>, tail: BitEnd<R>) -> Self
         requires at { at < length memory.now }
         requires ordered { head ≤ tail }
-        ensures { element_part R.number result
-            ≡ record { word = slice_index (map R.number memory.now) at; head = head; tail = tail } }
+        ensures { element_part R.number result ≡
+            record { word = slice_index (map R.number memory.now) at; head = head; tail = tail } }
     {
         PartialElement {
             elem: &memory[at..at + 1],

@@ -230,7 +230,8 @@ impl<'a, R: BitRegister, O> PartialElementMut<'a, R, O> {
         ensures reference { (words_memory result).ghost_name ≡ (memory_of self.entry).ghost_name }
         ensures memory { (words_memory result).now ≡ (memory_of self.entry).now }
         ensures stretch { stretch_in result ≡ slot_stretch (slot_in self.entry) }
-        ensures bits { lent_word_bits R.number result ≡ part_bits (lent_part R.number self.entry) }
+        ensures bits { lent_word_bits R.number result
+            ≡ part_bits (lent_part R.number self.entry) }
     {
         let PartialElementMut {
             memory,

@@ -128,11 +128,14 @@ impl<R: BitRegister, O> BitSpan<R, O> {
     pub fn new(word: isize, head: BitIdx<R>, bits: usize) -> Result<Self, BitSpanError<R>>
         ensures accepted { IsOk result
             ↔ ((bits ≤ region_max_bits)
-            × (int_div_euclid (place_at R.BITS word head +ℤ pos bits) (pos R.BITS) ≤ℤ isize.MAX)) }
-        ensures too_long { (result ≡ Err (BitSpanError.TooLong bits)) ↔ (region_max_bits < bits) }
+            × (int_div_euclid (place_at R.BITS word head +ℤ pos bits) (pos R.BITS)
+            ≤ℤ isize.MAX)) }
+        ensures too_long { (result ≡ Err (BitSpanError.TooLong bits))
+            ↔ (region_max_bits < bits) }
         ensures too_high { (result ≡ Err (BitSpanError.TooHigh word (record {})))
             ↔ ((bits ≤ region_max_bits)
-            × (isize.MAX <ℤ int_div_euclid (place_at R.BITS word head +ℤ pos bits) (pos R.BITS))) }
+            × (isize.MAX <ℤ int_div_euclid (place_at R.BITS word head +ℤ pos bits)
+            (pos R.BITS))) }
         ensures span { IfOk result (λ s. span_of s
             ≡ record { word = word; head = head; len = bits }) }
     {
@@ -161,7 +164,8 @@ impl<R: BitRegister, O> BitSpan<R, O> {
             ↔ ((bits ≤ region_max_bits)
             × (int_div_euclid (place_of R.BITS (ptr_of pointer) +ℤ pos bits) (pos R.BITS)
             ≤ℤ isize.MAX)) }
-        ensures too_long { (result ≡ Err (BitSpanError.TooLong bits)) ↔ (region_max_bits < bits) }
+        ensures too_long { (result ≡ Err (BitSpanError.TooLong bits))
+            ↔ (region_max_bits < bits) }
         ensures too_high { (result ≡ Err (BitSpanError.TooHigh (ptr_of pointer).word (record {})))
             ↔ ((bits ≤ region_max_bits)
             × (isize.MAX <ℤ int_div_euclid (place_of R.BITS (ptr_of pointer) +ℤ pos bits)
@@ -172,8 +176,8 @@ impl<R: BitRegister, O> BitSpan<R, O> {
         Self::new(pointer.address(), pointer.bit(), bits)
     }
 
-    /// The span of `len` bits from the bit number `place` of a memory on, where the first bit of the
-    /// first word has number 0.
+    /// The span of `len` bits from the bit number `place` of a memory on, where the first bit of
+    /// the first word has number 0.
     ///
     /// It refuses `TooLong(len)` where there are more than 2305843009213693951 bits. Constant time.
     /// Our own: the way to a span for who counts bits, as [`new`](BitSpan::new) is for who has a
@@ -287,7 +291,8 @@ impl<R: BitRegister, O> BitSpan<R, O> {
         ensures start { (range_of result).start
             ≡ record { word = (span_of self).word; bit = (span_of self).head } }
         ensures end { place_of R.BITS (range_of result).end
-            ≡ place_at R.BITS (span_of self).word (span_of self).head +ℤ pos (span_of self).len }
+            ≡ place_at R.BITS (span_of self).word (span_of self).head
+            +ℤ pos (span_of self).len }
         ensures places { places_of R.BITS (range_of result) ≡ span_places R.BITS (span_of self) }
     {
         self.to_bitptr().range(self.len)
@@ -367,7 +372,8 @@ impl<R: BitRegister, O> BitSpan<R, O> {
         ensures span { span_of result ≡ span_range R.BITS (span_of self) from to }
         ensures fit { (words : ℕ) → Fits R.BITS (span_of self) words
             → Fits R.BITS (span_of result) words }
-        ensures list { (at : ℕ → ℕ) (words : List ℕ) → Fits R.BITS (span_of self) (length words)
+        ensures list { (at : ℕ → ℕ) (words : List ℕ)
+            → Fits R.BITS (span_of self) (length words)
             → list_of R.BITS at (span_of result) words
             ≡ take (to - from) (drop from (list_of R.BITS at (span_of self) words)) }
         ensures edits { (at : ℕ → ℕ) (old new : List ℕ) (xs : List Bool)

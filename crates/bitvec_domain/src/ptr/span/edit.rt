@@ -91,9 +91,9 @@ impl<R: BitRegister, O: BitOrder<R>> BitSpan<R, O> {
         self.write(memory, j, first);
     }
 
-    /// Copies `count` of the span's bits, from its bit `from` on, to those from its bit `to` on, and
-    /// leaves every other bit as it is. The two ranges may overlap, and what is copied is what was
-    /// there before the call.
+    /// Copies `count` of the span's bits, from its bit `from` on, to those from its bit `to` on,
+    /// and leaves every other bit as it is. The two ranges may overlap, and what is copied is what
+    /// was there before the call.
     ///
     /// Requires a span that [`fits`](BitSpan::fits), and that both ranges end within it. Costs by
     /// words. Our own, for the Rust crate's `BitSlice::copy_within_unchecked`.
@@ -154,7 +154,7 @@ impl<R: BitRegister, O: BitOrder<R>> BitSpan<R, O> {
 
     /// Makes each bit of the span in a memory the same, and leaves every other bit as it is.
     ///
-    /// Requires a span that [`fits`](BitSpan::fits). Our own.
+    /// Requires a span that [`fits`](BitSpan::fits). Costs by words. Our own.
     ///
     /// # Examples
     ///
@@ -213,7 +213,7 @@ impl<R: BitRegister, O: BitOrder<R>> BitSpan<R, O> {
     /// Makes the bits of the span in a memory those of a list of as many, and leaves every other
     /// bit as it is.
     ///
-    /// Requires a span that [`fits`](BitSpan::fits). Our own, for the Rust crate's
+    /// Requires a span that [`fits`](BitSpan::fits). Costs by bits. Our own, for the Rust crate's
     /// `BitSlice::clone_from_bitslice`.
     pub fn write_bits(self, memory: &mut [R], bits: &[bool])
         requires fits { Fits R.BITS (span_of self) (length memory.old) }

@@ -40,5 +40,7 @@ returns-clause-bits g c =
     let at = g.O.BitAt.at_of in
     let inside = met_within width bits.head bits.len c.args.i bits.count some c.requires bits.fits in
     let count : bits.first + bits.count - bits.first ≡ bits.count = omega arith in
-    write_mid width at number bits.first (bits.first + bits.count - bits.first) (bits.head + c.args.i) c.args.bit bits.memory.now c.replace.new.memory some (omega (arith, bits.in_memory)) (rw count inside)
+    write_mid width at number bits.first (bits.first + bits.count - bits.first)
+    (bits.head + c.args.i) c.args.bit bits.memory.now c.replace.new.memory
+    (omega (arith, bits.in_memory)) (rw count inside)
     (c.replace.ensures.bits ∙ ap (λ n. slice_set (memory_bits width at (map number (mid_of bits.first (bits.first + bits.count - bits.first) bits.memory.now))) n c.args.bit) c.word_pointer-pointer.ensures.place)

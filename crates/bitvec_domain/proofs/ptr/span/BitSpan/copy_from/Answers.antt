@@ -1,5 +1,6 @@
-use Rattle.std.proofs.Common.{map, length, ap, sym, ◌∙◌}
+use Rattle.std.proofs.Common.{map, length, sym, ◌∙◌}
 use Rattle.bitvec_ptr.specs.BitPtr.{ptr_of}
+use Rattle.bitvec_ptr.specs.Memory.{memory_bits, list_with_copy}
 use Rattle.bitvec_ptr.specs.Place.{index_of}
 use Rattle.bitvec_ptr.proofs.PlaceOrder.{bit_below}
 use Rattle.bitvec_domain.specs.BitSpan.{span_of}
@@ -24,8 +25,26 @@ returns g c =
     let target = span_of c.args.self in
     let from = c.args.source_memory.now in
     let memory = c.args.memory.now in
-    span-becomes wide g.O2.BitAt.at_of source (map g.R2.BitRegister.number from) width g.O.BitAt.at_of target (map number memory) _ _ _ _
-    (bit_below wide c.args.source.head g.met.R2.BitRegister.width_at_least_8 c.args.source.in_word) (fits-numbers wide source g.R2.BitRegister.number from c.requires.source_fits)
-    (bit_below width c.args.self.head g.met.R.BitRegister.width_at_least_8 c.args.self.in_word) (fits-numbers width target number memory c.requires.fits)
-    c.requires.same (ap (index_of wide) c.to_bitptr-start.ensures.pointer) (ap (index_of width) c.to_bitptr.ensures.pointer) (numbers-many number memory _ c.copy_to.ensures.words)
-    c.len.ensures c.copy_to.ensures.bits
+    let eight = g.met.R.BitRegister.width_at_least_8 in
+    let their_eight = g.met.R2.BitRegister.width_at_least_8 in
+    let place_in = g.O2.BitAt.at_of in
+    let at = g.O.BitAt.at_of in
+    let theirs = map g.R2.BitRegister.number from in
+    let old = map number memory in
+    span-becomes wide place_in source theirs width at target old _
+    (record {
+      in_head = bit_below wide c.args.source.head their_eight c.args.source.in_word;
+      fits = fits-numbers wide source g.R2.BitRegister.number from c.requires.source_fits;
+    })
+    (record {
+      in_head = bit_below width c.args.self.head eight c.args.self.in_word;
+      fits = fits-numbers width target number memory c.requires.fits;
+    })
+    (record {
+      len = c.requires.same;
+      words = numbers-many number memory _ c.copy_to.ensures.words;
+      copied = c.copy_to.ensures.bits
+          ∙ (λ m. list_with_copy (memory_bits wide place_in theirs)
+          (index_of wide (c.to_bitptr-start.ensures.pointer m)) (memory_bits width at old)
+          (index_of width (c.to_bitptr.ensures.pointer m)) (c.len.ensures m));
+    })

@@ -1,5 +1,6 @@
-use Rattle.std.proofs.Common.{map, length, ap, sym, ◌∙◌}
+use Rattle.std.proofs.Common.{map, length, sym, ◌∙◌}
 use Rattle.bitvec_ptr.specs.BitPtr.{ptr_of}
+use Rattle.bitvec_ptr.specs.Memory.{memory_bits, list_with_copy}
 use Rattle.bitvec_ptr.specs.Place.{index_of}
 use Rattle.bitvec_ptr.proofs.PlaceOrder.{bit_below}
 use Rattle.bitvec_domain.specs.BitSpan.{span_of}
@@ -24,8 +25,21 @@ returns g c =
     let target = span_of c.args.target in
     let memory = c.args.memory.now in
     let eight = g.met.R.BitRegister.width_at_least_8 in
-    span-becomes width at source (map number memory) width at target (map number memory) _ _ _ _
-    (bit_below width c.args.self.head eight c.args.self.in_word) (fits-numbers width source number memory c.requires.source_fits)
-    (bit_below width c.args.target.head eight c.args.target.in_word) (fits-numbers width target number memory c.requires.fits)
-    c.requires.same (ap (index_of width) c.to_bitptr.ensures.pointer) (ap (index_of width) c.to_bitptr-2.ensures.pointer) (numbers-many number memory _ c.copy_within.ensures.words)
-    c.len.ensures c.copy_within.ensures.bits
+    let old = map number memory in
+    span-becomes width at source old width at target old _
+    (record {
+      in_head = bit_below width c.args.self.head eight c.args.self.in_word;
+      fits = fits-numbers width source number memory c.requires.source_fits;
+    })
+    (record {
+      in_head = bit_below width c.args.target.head eight c.args.target.in_word;
+      fits = fits-numbers width target number memory c.requires.fits;
+    })
+    (record {
+      len = c.requires.same;
+      words = numbers-many number memory _ c.copy_within.ensures.words;
+      copied = c.copy_within.ensures.bits
+          ∙ (λ m. list_with_copy (memory_bits width at old)
+          (index_of width (c.to_bitptr.ensures.pointer m)) (memory_bits width at old)
+          (index_of width (c.to_bitptr-2.ensures.pointer m)) (c.len.ensures m));
+    })

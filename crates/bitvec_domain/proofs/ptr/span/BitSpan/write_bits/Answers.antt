@@ -1,4 +1,4 @@
-use Rattle.std.proofs.Common.{◌<◌, ◌≤◌, map, refl, arith}
+use Rattle.std.proofs.Common.{◌<◌, ◌≤◌, map, arith}
 use Rattle.bitvec_domain.specs.BitSpan.{span_of}
 use Rattle.bitvec_domain.proofs.BecomesLemmas.{more-becomes, all-becomes}
 use Rattle.bitvec_domain.proofs.ptr.span.BitSpan.write_bits.Goals as goal
@@ -8,7 +8,8 @@ loop-i-preserved g c =
     let number = g.R.BitRegister.number in
     let below : c.loop-i.i < c.args.self.len = omega (arith, c.loop-i-test.true, c.len-i-end.ensures) in
     more-becomes g.R.BitRegister.BITS g.O.BitAt.at_of (span_of c.args.self) (map number c.args.memory.now)
-    (map number c.loop-i.memory) _ c.args.bits.now c.loop-i.i _ c.requires.len below refl c.loop-i.invariant c.write.ensures
+    (map number c.loop-i.memory) _ c.args.bits.now c.loop-i.i c.requires.len below
+    c.loop-i.invariant c.write.ensures
 
 pub returns : goal.returns
 returns g c =
