@@ -12,10 +12,12 @@ pub mod TurnLemmas
 pub use Rattle.bitvec_mem.proofs.DigitLemmas
 pub use Rattle.bitvec_order.proofs.Block
 pub use Rattle.bitvec_order.proofs.IndexLemmas
+pub use Rattle.bitvec_ptr.proofs.BitLemmas
 pub use Rattle.bitvec_ptr.proofs.CopyLemmas
 pub use Rattle.bitvec_ptr.proofs.MemoryLemmas
 pub use Rattle.bitvec_ptr.proofs.PlaceLemmas
 pub use Rattle.bitvec_domain.proofs.BecomesLemmas
+pub use Rattle.bitvec_domain.proofs.ByteLemmas
 pub use Rattle.bitvec_domain.proofs.CoverLemmas
 pub use Rattle.bitvec_domain.proofs.PartEditLemmas
 pub use Rattle.bitvec_domain.proofs.PartLemmas

@@ -1,5 +1,6 @@
 pub mod AppendLemmas
 pub mod BecomesLemmas
+pub mod ByteLemmas
 pub mod CoverLemmas
 pub mod DisjointLemmas
 pub mod EditLemmas

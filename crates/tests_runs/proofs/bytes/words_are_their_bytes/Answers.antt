@@ -1,4 +1,4 @@
-use Rattle.tests_runs.proofs.ByteLemmas.{low_bytes, high_bytes}
+use Rattle.bitvec.proofs.ByteLemmas.{low_bytes, high_bytes}
 use Rattle.tests_runs.proofs.bytes.words_are_their_bytes.Goals as goal
 
 pub returns-clause-low : goal.returns-clause-low

@@ -5,15 +5,15 @@ use Rattle.std.specs.Int.{byte_at, bytes_low_first, bytes_high_first}
 use Rattle.std.specs.List.{flat_map}
 use Rattle.std.proofs.lemmas.Nat.{div-add-mod', mod_below, pow-add}
 use Rattle.std.proofs.Math.Nat.{div-eq_of_lt, mod-eq_of_lt, div-lt_iff_lt-mul, pow-suc}
-use Rattle.bitvec.specs.Digit.{digit}
-use Rattle.bitvec.specs.Memory.{tabulate, bit_of, memory_bits}
-use Rattle.bitvec.proofs.DigitLemmas.{digit-mod, digit-shr}
-use Rattle.bitvec.proofs.MemoryLemmas.{tabulate-from_elements}
+use Rattle.bitvec_mem.specs.Digit.{digit}
+use Rattle.bitvec_ptr.specs.Memory.{tabulate, bit_of, memory_bits}
+use Rattle.bitvec_mem.proofs.DigitLemmas.{digit-mod, digit-shr}
+use Rattle.bitvec_ptr.proofs.MemoryLemmas.{tabulate-from_elements}
 use Rattle.bitvec_ptr.proofs.BitLemmas.{length-memory_bits, get_or-memory_bits}
 use Rattle.bitvec_domain.proofs.AppendLemmas.{memory_bits-append}
 
 -- 256 to the k is two to the 8 * k
-pow_bytes : (k : ℕ) → 256 ^ k ≡ 2 ^ (8 * k)
+pub pow_bytes : (k : ℕ) → 256 ^ k ≡ 2 ^ (8 * k)
 pow_bytes zero = ap (λ m. 2 ^ m) (let same : 0 ≡ 8 * 0 = omega arith in same)
 pow_bytes (suc k) =
     pow-suc 256 k ∙ ap (λ x. x * 256) (pow_bytes k) ∙ sym (pow-add 2 (8 * k) 8) ∙ ap (λ m. 2 ^ m) (let same : 8 * k + 8 ≡ 8 * suc k = omega arith in same)
