@@ -113,7 +113,7 @@ module _ {S : Type 0} (bits : ℕ) (at : ℕ → ℕ) (view : S → Span) (list_
             bit_put-own 0 spans s x (start x + j) is (omega arith) (omega (arith, h))
             (λ t y it from upto. elim (cases_eq t s) [
               | inl e ↦ e
-              | inr differ ↦ absurd (apart_at bits view spans words t s y x can it is differ (pos (start x + j)) (covers_at bits (view y) words (start x + j) (fits_at bits view spans words t y can it) from upto) (covers-own bits (view x) words j fits h))
+              | inr differ ↦ absurd (apart_at bits view spans t s y x can.1 it is differ (pos (start x + j)) (covers_at bits (view y) words (start x + j) (fits_at bits view spans words t y can it) from upto) (covers-own bits (view x) words j fits h))
             ]) in
             let back : start x + j - start x ≡ j = omega arith in
             let number : 0 + s ≡ s = omega arith in

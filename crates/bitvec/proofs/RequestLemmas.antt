@@ -1,9 +1,9 @@
 -- One request: a step on the span that it names, or none.
 use Rattle.std.proofs.Common.{◌≡◌, ◌≢◌, ℕ, zero, suc, ◌≤◌, List, [], ◌∷◌, length, get_or, arith, sym, ◌∙◌, ap, Some, refl, subst, inl, inr}
-use Rattle.std.specs.Prelude.{slice_get, take, ℤ}
+use Rattle.std.specs.Prelude.{slice_get, take, AllPairs}
 use Rattle.std.proofs.lemmas.Bool.{cases_order, cases_eq, eq-eqb, ne_eqb}
 use Rattle.std.proofs.lemmas.Option.{none-some, same_Some, get_or_from_slice_get, slice_get_within, slice_get_past}
-use Rattle.bitvec_domain.specs.Span.{Span, Covers, Fits, list_of}
+use Rattle.bitvec_domain.specs.Span.{Span, Covers, Fits, AreDisjoint, list_of}
 use Rattle.bitvec.specs.declared.run.command.Request.{Request}
 use Rattle.bitvec.specs.declared.run.command.Reply.{Reply}
 use Rattle.bitvec.specs.declared.run.command.Reply.TheVariants.{NoSpan}
@@ -15,15 +15,15 @@ fits_at bits view spans words s span can is =
     subst (λ x. Fits bits (view x) words) (get_or_from_slice_get spans s span span is) (can.0 s span (slice_get_within spans s span is))
 
 -- spans of different numbers are disjoint
-pub apart_at : {S : Type 0} (bits : ℕ) (view : S → Span) (spans : List S) (words s t : ℕ) (a b : S) → CanRun bits view spans words → slice_get spans s ≡ Some a → slice_get spans t ≡ Some b → s ≢ t
-    → (place : ℤ) → Covers bits (view a) place → Covers bits (view b) place → ⊥
-apart_at bits view spans words s t a b can is it differ place in_a in_b =
+pub apart_at : {S : Type 0} (bits : ℕ) (view : S → Span) (spans : List S) (s t : ℕ) (a b : S) → AllPairs (λ x y. AreDisjoint bits (view x) (view y)) spans
+    → slice_get spans s ≡ Some a → slice_get spans t ≡ Some b → s ≢ t → AreDisjoint bits (view a) (view b)
+apart_at bits view spans s t a b apart is it differ =
     let at_s : (d : _) → get_or spans s d ≡ a = λ d. get_or_from_slice_get spans s a d is in
     let at_t : (d : _) → get_or spans t d ≡ b = λ d. get_or_from_slice_get spans t b d it in
-    elim (cases_order s t) [
+    λ place in_a in_b. elim (cases_order s t) [
       | inl e ↦ differ e
-      | inr (inl below) ↦ can.1 s t a below (slice_get_within spans t b it) place (subst (λ x. Covers bits (view x) place) (sym (at_s a)) in_a) (subst (λ x. Covers bits (view x) place) (sym (at_t a)) in_b)
-      | inr (inr above) ↦ can.1 t s a above (slice_get_within spans s a is) place (subst (λ x. Covers bits (view x) place) (sym (at_t a)) in_b) (subst (λ x. Covers bits (view x) place) (sym (at_s a)) in_a)
+      | inr (inl below) ↦ apart s t a below (slice_get_within spans t b it) place (subst (λ x. Covers bits (view x) place) (sym (at_s a)) in_a) (subst (λ x. Covers bits (view x) place) (sym (at_t a)) in_b)
+      | inr (inr above) ↦ apart t s a above (slice_get_within spans s a is) place (subst (λ x. Covers bits (view x) place) (sym (at_t a)) in_b) (subst (λ x. Covers bits (view x) place) (sym (at_s a)) in_a)
     ]
 
 -- of one request, the one at a number is that one
@@ -40,16 +40,25 @@ one_reply number bits at view spans old request reply is n other found =
     let one = only_one request other n found in let at_0 = one.0 in let same = one.1 in
     rw (at_0, ← same) (ap (λ r. Some r) is)
 
+-- the request names a span, and its command's step through that span gets the reply, and makes the memory `new` of `old`
+pub record IsRequestStep {S W : Type 0} (number : W → ℕ) (bits : ℕ) (at : ℕ → ℕ) (view : S → Span) (spans : List S) (old : List ℕ) (request : Request W) (reply : Reply ℕ) (new : List ℕ) : Type 0 where
+  pub named : S
+  pub is_named : slice_get spans request.span ≡ Some named
+  pub step : IsStep number bits at (view named) old request.command reply new
+
 -- a step through the span that the request names is a run of that request
-pub run-one : {S W : Type 0} (number : W → ℕ) (bits : ℕ) (at : ℕ → ℕ) (view : S → Span) (spans : List S) (named : S) (old new : List ℕ) (request : Request W) (reply : Reply ℕ)
-    → CanRun bits view spans (length old) → slice_get spans request.span ≡ Some named → IsStep number bits at (view named) old request.command reply new
+pub run-one : {S W : Type 0} (number : W → ℕ) (bits : ℕ) (at : ℕ → ℕ) (view : S → Span) (spans : List S) (old new : List ℕ) (request : Request W) (reply : Reply ℕ)
+    → CanRun bits view spans (length old) → IsRequestStep number bits at view spans old request reply new
     → IsRun number bits at view spans old (request ∷ []) (reply ∷ []) new
-run-one {S} number bits at view spans named old new request reply can named_is step =
+run-one {S} number bits at view spans old new request reply can one =
+    let named = one.named in
+    let named_is = one.is_named in
+    let step = one.step in
     let same : (span : S) → (s : ℕ) → slice_get spans s ≡ Some span → request.span ≡ s → named ≡ span =
     λ span s is e. same_Some named span (sym named_is ∙ (ap (slice_get spans) e ∙ is)) in
     let kept : (span : S) → (s : ℕ) → slice_get spans s ≡ Some span → request.span ≢ s → list_of bits at (view span) new ≡ list_of bits at (view span) old =
     λ span s is differ. step.becomes.apart (view span).word (view span).head (view span).len (fits_at bits view spans (length old) s span can is).0
-    (apart_at bits view spans (length old) request.span s named span can named_is is differ) in
+    (apart_at bits view spans request.span s named span can.1 named_is is differ) in
     record {
       as_many = refl;
       each = one_reply number bits at view spans old request reply (step.answered ∙ sym (ap (reply_behind number bits at view old [] request) named_is));

@@ -1,8 +1,10 @@
 -- Spans in a list whose places rise: each is apart from all before it where it is from the last of these that has bits.
-use Rattle.std.proofs.Common.{◌≡◌, ℕ, ℤ, pos, ◌+◌, ◌<◌, ◌+ℤ◌, ◌≤ℤ◌, ◌<ℤ◌, ◌⊎◌, List, length, get_or, sym, ◌∙◌, subst, ap, inl, inr, arith}
+use Rattle.std.proofs.Common.{◌≡◌, ℕ, ℤ, pos, ◌+◌, ◌<◌, ◌+ℤ◌, ◌≤ℤ◌, ◌<ℤ◌, ◌⊎◌, List, length, get_or, Some, sym, ◌∙◌, subst, ap, inl, inr, arith}
+use Rattle.std.specs.Prelude.{slice_get}
 use Rattle.std.proofs.lemmas.Bool.{cases_eq}
 use Rattle.std.proofs.lemmas.Int.{ints}
 use Rattle.std.proofs.lemmas.List.{get_or_default}
+use Rattle.std.proofs.lemmas.Option.{get_or_from_slice_get}
 use Rattle.bitvec_ptr.specs.Place.{place_at}
 use Rattle.bitvec_domain.specs.Span.{Span, Covers, AreDisjoint}
 use Rattle.bitvec_domain.proofs.DisjointLemmas.{disjoint-none, disjoint-sym}
@@ -48,19 +50,26 @@ pub apart_none : (bits : ℕ) (a b : Span) → b.len ≡ 0 → AreDisjoint bits 
 apart_none bits a b none = disjoint-sym bits b a (disjoint-none bits b a none)
 
 -- what holds of each element below i, and of x, which stands at i, holds of each below i + 1
-pub each_more : {X : Type 0} (P : X → Type 0) (xs : List X) (i : ℕ) (x : X) → i < length xs → x ≡ get_or xs i x → ((a : ℕ) (d : X) → a < i → P (get_or xs a d)) → P x → (a : ℕ) (d : X) → a < i + 1 → P (get_or xs a d)
-each_more P xs i x within is so_far here a d below =
+pub each_more : {X : Type 0} (P : X → Type 0) (xs : List X) (i : ℕ) (x : X) → slice_get xs i ≡ Some x
+    → ((a : ℕ) (d : X) → a < i → P (get_or xs a d)) → P x → (a : ℕ) (d : X) → a < i + 1 → P (get_or xs a d)
+each_more P xs i x is so_far here a d below =
     elim (cases_eq a i) [
-      | inl same ↦ subst P (is ∙ get_or_default xs i x d within ∙ ap (λ n. get_or xs n d) (sym same)) here
+      | inl same ↦ subst P (sym (ap (λ n. get_or xs n d) same ∙ get_or_from_slice_get xs i x d is)) here
       | inr other ↦ so_far a d (omega arith)
     ]
 
--- what relates each element below i to each later one below i, and to x, which stands at i, does so below i + 1
-pub pairs_more : {X : Type 0} (R : X → X → Type 0) (xs : List X) (i : ℕ) (x : X) → i < length xs → x ≡ get_or xs i x → ((a b : ℕ) (d : X) → a < b → b < i → R (get_or xs a d) (get_or xs b d)) → ((a : ℕ) (d : X) → a < i → R (get_or xs a d) x)
-    → (a b : ℕ) (d : X) → a < b → b < i + 1 → R (get_or xs a d) (get_or xs b d)
-pairs_more R xs i x within is so_far here a b d above below =
+-- each element below i is related to each later one below i
+abbrev pub ArePairsBelow : {X : Type 0} → (X → X → Type 0) → List X → ℕ → Type 0
+ArePairsBelow {X} R xs i = (a b : ℕ) (d : X) → a < b → b < i → R (get_or xs a d) (get_or xs b d)
+
+-- where each of them is also related to x, which stands at i, this is so below i + 1
+pub pairs_more : {X : Type 0} (R : X → X → Type 0) (xs : List X) (i : ℕ) (x : X) → slice_get xs i ≡ Some x
+    → ArePairsBelow R xs i → ((a : ℕ) (d : X) → a < i → R (get_or xs a d) x) → ArePairsBelow R xs (i + 1)
+pairs_more R xs i x is so_far here = λ a b d above below.
     elim (cases_eq b i) [
-      | inl same ↦ subst (λ y. R (get_or xs a d) y) (is ∙ get_or_default xs i x d within ∙ ap (λ n. get_or xs n d) (sym same)) (here a d (omega arith))
+      | inl same ↦ (
+          let found = ap (λ n. get_or xs n d) same ∙ get_or_from_slice_get xs i x d is in
+          subst (λ y. R (get_or xs a d) y) (sym found) (here a d (omega arith)))
       | inr other ↦ so_far a b d above (omega arith)
     ]
 
@@ -71,30 +80,34 @@ pair_at R xs i j x y is_x is_y all above below =
 
 -- no two of the spans below i have a place in common
 abbrev pub AreApartBelow : {X : Type 0} → ℕ → (X → Span) → List X → ℕ → Type 0
-AreApartBelow {X} bits view xs i = (a b : ℕ) (d : X) → a < b → b < i → AreDisjoint bits (view (get_or xs a d)) (view (get_or xs b d))
+AreApartBelow bits view xs i = ArePairsBelow (λ x y. AreDisjoint bits (view x) (view y)) xs i
 
 -- each of them ends where the one at `last` ends or before
 abbrev pub AllEndBy : {X : Type 0} → ℕ → (X → Span) → List X → ℕ → ℕ → Type 0
 AllEndBy {X} bits view xs i last = (a : ℕ) (d : X) → a < i → EndsBy bits (view (get_or xs a d)) (view (get_or xs last d))
 
 -- a span with bits that the last one comes before
-pub one_more_rises : {X : Type 0} (bits : ℕ) (view : X → Span) (xs : List X) (last i : ℕ) (x y : X) → last < i → i < length xs → x ≡ get_or xs last x → y ≡ get_or xs i y → AreApartBelow bits view xs i → AllEndBy bits view xs i last → ComesBefore bits (view x) (view y) → 0 < (view y).len
+pub one_more_rises : {X : Type 0} (bits : ℕ) (view : X → Span) (xs : List X) (last i : ℕ) (y : X) → slice_get xs i ≡ Some y
+    → AreApartBelow bits view xs i → AllEndBy bits view xs i last → ((d : X) → ComesBefore bits (view (get_or xs last d)) (view y)) → 0 < (view y).len
     → AreApartBelow bits view xs (i + 1) × AllEndBy bits view xs (i + 1) i
-one_more_rises {X} bits view xs last i x y last_in within is_x is_y apart behind before some =
-    let ends : (a : ℕ) (d : X) → a < i → EndsBy bits (view (get_or xs a d)) (view x) = λ a d h.
-    subst (λ v. EndsBy bits (view (get_or xs a d)) (view v)) (sym (is_x ∙ get_or_default xs last x d (omega arith))) (behind a d h) in (
-      pairs_more (λ a b. AreDisjoint bits (view a) (view b)) xs i y within is_y apart (λ a d h. apart_next bits (view (get_or xs a d)) (view x) (view y) (ends a d h) before),
-      λ a d h. subst (λ v. EndsBy bits (view (get_or xs a d)) (view v)) (is_y ∙ get_or_default xs i y d within)
-          (each_more (λ v. EndsBy bits (view v) (view y)) xs i y within is_y (λ b e k. ends_by-next bits (view (get_or xs b e)) (view x) (view y) (ends b e k) before some) (ends_by-self bits (view y)) a d h),
-    )
+one_more_rises bits view xs last i y is apart behind before some = (
+  pairs_more (λ a b. AreDisjoint bits (view a) (view b)) xs i y is apart (λ a d h.
+      apart_next bits (view (get_or xs a d)) (view (get_or xs last d)) (view y) (behind a d h) (before d)),
+  λ a d h. subst (λ v. EndsBy bits (view (get_or xs a d)) (view v)) (sym (get_or_from_slice_get xs i y d is))
+      (each_more (λ v. EndsBy bits (view v) (view y)) xs i y is (λ b e k.
+      ends_by-next bits (view (get_or xs b e)) (view (get_or xs last e)) (view y) (behind b e k) (before e) some) (ends_by-self bits (view y)) a d h),
+)
 
 -- a span of no bits
-pub one_more_empty : {X : Type 0} (bits : ℕ) (view : X → Span) (xs : List X) (last i : ℕ) (y : X) → i < length xs → y ≡ get_or xs i y → AreApartBelow bits view xs i → AllEndBy bits view xs i last → (view y).len ≡ 0
+pub one_more_empty : {X : Type 0} (bits : ℕ) (view : X → Span) (xs : List X) (last i : ℕ) (y : X) → slice_get xs i ≡ Some y
+    → AreApartBelow bits view xs i → AllEndBy bits view xs i last → (view y).len ≡ 0
     → AreApartBelow bits view xs (i + 1) × AllEndBy bits view xs (i + 1) last
-one_more_empty bits view xs last i y within is_y apart behind none = (
-  pairs_more (λ a b. AreDisjoint bits (view a) (view b)) xs i y within is_y apart (λ a d h. apart_none bits (view (get_or xs a d)) (view y) none),
+one_more_empty bits view xs last i y is apart behind none = (
+  pairs_more (λ a b. AreDisjoint bits (view a) (view b)) xs i y is apart (λ a d h. apart_none bits (view (get_or xs a d)) (view y) none),
   λ a d h. elim (cases_eq a i) [
-    | inl same ↦ ends_by-none bits (view (get_or xs a d)) (view (get_or xs last d)) (ap (λ v. (view v).len) (ap (λ n. get_or xs n d) same ∙ sym (is_y ∙ get_or_default xs i y d within)) ∙ none)
+    | inl same ↦ (
+        let found = ap (λ n. get_or xs n d) same ∙ get_or_from_slice_get xs i y d is in
+        ends_by-none bits (view (get_or xs a d)) (view (get_or xs last d)) (ap (λ v. (view v).len) found ∙ none))
     | inr other ↦ behind a d (omega arith)
   ],
 )

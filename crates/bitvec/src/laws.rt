@@ -23,9 +23,9 @@ pub fn bit_commands<R: BitRegister, O: BitOrder<R>, R2: BitRegister, O2: BitOrde
 /// A number is turned from one order to another where its digit at the position of each index in
 /// the other is the digit at the index's position in the one. In two memories, each under an order
 /// of its own, as many spans have equal heads and equal lists. Then the same requests, with the
-/// numbers of `Store` turned, get each span the same replies, with the numbers of `Word` turned, and
-/// leave it equal lists. So it is for the same spans in memories with the same bits, and for spans
-/// that were moved by whole words.
+/// numbers of `Store` turned, get each span the same replies, with the numbers of `Word` turned,
+/// and leave it equal lists. So it is for the same spans in memories with the same bits, and for
+/// spans that were moved by whole words.
 pub fn turned_orders<R: BitRegister, O: BitOrder<R>, O2: BitOrder<R>>()
     ensures { TurnedOrdersAgree R.number R.BITS O.at_of O2.at_of }
 {}

@@ -109,8 +109,8 @@ fn replace<R: BitRegister, O: BitOrder<R>>(
     bit: bool,
 ) -> Reply<R>
     requires { Fits R.BITS (span_of span) (length memory.old) }
-    ensures { IsStep R.number R.BITS O.at_of (span_of span) (map R.number memory.old) (Replace index bit)
-        (reply_number R.number result) (map R.number memory.new) }
+    ensures { IsStep R.number R.BITS O.at_of (span_of span) (map R.number memory.old)
+        (Replace index bit) (reply_number R.number result) (map R.number memory.new) }
 {
     if index < span.len() {
         Reply::Bit(span.replace(memory, index, bit))
@@ -127,8 +127,8 @@ fn swap<R: BitRegister, O: BitOrder<R>>(
     with: usize,
 ) -> Reply<R>
     requires { Fits R.BITS (span_of span) (length memory.old) }
-    ensures { IsStep R.number R.BITS O.at_of (span_of span) (map R.number memory.old) (Swap index with)
-        (reply_number R.number result) (map R.number memory.new) }
+    ensures { IsStep R.number R.BITS O.at_of (span_of span) (map R.number memory.old)
+        (Swap index with) (reply_number R.number result) (map R.number memory.new) }
 {
     let len = span.len();
     if index < len && with < len {
@@ -155,8 +155,8 @@ fn copy<R: BitRegister, O: BitOrder<R>>(
     count: usize,
 ) -> Reply<R>
     requires { Fits R.BITS (span_of span) (length memory.old) }
-    ensures { IsStep R.number R.BITS O.at_of (span_of span) (map R.number memory.old) (Copy from to count)
-        (reply_number R.number result) (map R.number memory.new) }
+    ensures { IsStep R.number R.BITS O.at_of (span_of span) (map R.number memory.old)
+        (Copy from to count) (reply_number R.number result) (map R.number memory.new) }
 {
     if can_copy(span.len(), from, to, count) {
         span.copy_within(memory, from, to, count);
@@ -182,8 +182,8 @@ fn fill<R: BitRegister, O: BitOrder<R>>(
     value: bool,
 ) -> Reply<R>
     requires { Fits R.BITS (span_of span) (length memory.old) }
-    ensures { IsStep R.number R.BITS O.at_of (span_of span) (map R.number memory.old) (Fill from to value)
-        (reply_number R.number result) (map R.number memory.new) }
+    ensures { IsStep R.number R.BITS O.at_of (span_of span) (map R.number memory.old)
+        (Fill from to value) (reply_number R.number result) (map R.number memory.new) }
 {
     if can_fill(span.len(), from, to) {
         span.range(from, to).fill(memory, value);

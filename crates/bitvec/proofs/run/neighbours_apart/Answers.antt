@@ -1,4 +1,6 @@
-use Rattle.std.proofs.Common.{◌≡◌, ◌+◌, ◌<◌, length, sym, subst, arith, rules}
+use Rattle.std.proofs.Common.{◌≡◌, ◌+◌, ◌<◌, length, sym, ◌∙◌, subst, refl, arith, rules}
+use Rattle.std.proofs.lemmas.List.{get_or_default}
+use Rattle.std.proofs.lemmas.Option.{slice_get_read}
 use Rattle.bitvec_domain.specs.BitSpan.{span_of}
 use Rattle.bitvec_domain.specs.Span.{AreDisjoint}
 use Rattle.bitvec.proofs.RisingLemmas.{ComesBefore, AllEndBy, pair_at, one_more_rises, one_more_empty}
@@ -21,11 +23,13 @@ loop-i-preserved g c =
     let span = c.index-spans-i.result in
     let so_far = c.loop-i.invariant in
     let within : c.loop-i.i < length c.args.spans.now = omega arith in
+    let is = slice_get_read spans (length spans) c.loop-i.i span refl within c.index-spans-i.is in
     elim c.if-not-is_empty.branch [
       | then-not-is_empty+else-not-comes_before w ↦ (
           let rises : ComesBefore width (span_of before) (span_of span) = w.if-not-comes_before.ensures.0 (search rules) in
           let some : 0 < span.len = search (rules, arith) in
-          let next = one_more_rises width span_of spans c.loop-i.last c.loop-i.i before span so_far.last_in within c.index-spans-last.is c.index-spans-i.is so_far.apart so_far.behind rises some in
+          let next = one_more_rises width span_of spans c.loop-i.last c.loop-i.i span is so_far.apart so_far.behind
+          (λ d. subst (λ x. ComesBefore width (span_of x) (span_of span)) (c.index-spans-last.is ∙ get_or_default spans c.loop-i.last before d (omega (arith, so_far.last_in, within))) rises) some in
           record {
             last_in = omega (arith, w.last-is);
             apart = next.0;
@@ -33,7 +37,7 @@ loop-i-preserved g c =
           })
       | else-not-is_empty w ↦ (
           let none : span.len ≡ 0 = w.if-not-is_empty.ensures.0 (search rules) in
-          let next = one_more_empty width span_of spans c.loop-i.last c.loop-i.i span within c.index-spans-i.is so_far.apart so_far.behind none in
+          let next = one_more_empty width span_of spans c.loop-i.last c.loop-i.i span is so_far.apart so_far.behind none in
           record {
             last_in = omega (arith, w.last-is, so_far.last_in);
             apart = next.0;

@@ -8,8 +8,12 @@ use Rattle.bitvec.proofs.run.serve.Goals as goal
 
 pub returns-then-request-spans : goal.returns-then-request-spans
 returns-then-request-spans g c =
-    run-one _ _ _ span_of c.args.spans.now _ _ _ _ _ (subst (λ (n : ℕ). CanRun g.R.BitRegister.BITS span_of c.args.spans.now n) (sym (length-map c.args.memory.now g.R.BitRegister.number)) c.requires)
-    (slice_get_read c.args.spans.now _ c.args.request.span c.index-spans-request.result refl (omega arith) c.index-spans-request.is) c.step.ensures
+    run-one _ _ _ span_of c.args.spans.now _ _ _ _ (subst (λ (n : ℕ). CanRun g.R.BitRegister.BITS span_of c.args.spans.now n) (sym (length-map c.args.memory.now g.R.BitRegister.number)) c.requires)
+    (record {
+      named = c.index-spans-request.result;
+      is_named = slice_get_read c.args.spans.now _ c.args.request.span c.index-spans-request.result refl (omega arith) c.index-spans-request.is;
+      step = c.step.ensures;
+    })
 
 pub returns-else-request-spans : goal.returns-else-request-spans
 returns-else-request-spans g c =
