@@ -46,20 +46,40 @@ copied_first source s target t n xs none e =
     ∙ ap (λ (ys : List Bool). ys ++ drop (0 + n) target) e
     ∙ ap (λ m. xs ++ drop m target) (let same : 0 + n ≡ n = omega arith in same)
 
+-- all the bits of a span of a memory were copied to the start of the words `before`, which became
+-- `words`
+pub record IsCopied (bits : ℕ) (at : ℕ → ℕ) (span : Span) (memory : List ℕ)
+    (width : ℕ) (order : ℕ → ℕ) (before words : List ℕ) : Type 0 where
+  pub source : Ptr
+  pub dest : Ptr
+  pub count : ℕ
+  pub is_source : source ≡ record { word = span.word; bit = span.head }
+  pub is_dest : dest ≡ record { word = pos 0; bit = 0 }
+  pub is_count : count ≡ length (list_of bits at span memory)
+  pub copied : memory_bits width order words
+      ≡ list_with_copy (memory_bits bits at memory) (index_of bits source)
+      (memory_bits width order before) (index_of width dest) count
+
 -- words to which the bits of a span were copied
-pub copied_block : (bits : ℕ) (at : ℕ → ℕ) (span : Span) (memory : List ℕ) (width : ℕ) (order : ℕ → ℕ) (source dest : Ptr) (words before : List ℕ) (count : ℕ)
-    → span.head < bits → Fits bits span (length memory) → source ≡ record { word = span.word; bit = span.head } → dest ≡ record { word = pos 0; bit = 0 } → count ≡ length (list_of bits at span memory)
-    → memory_bits width order words ≡ list_with_copy (memory_bits bits at memory) (index_of bits source) (memory_bits width order before) (index_of width dest) count
+pub copied_block : (bits : ℕ) (at : ℕ → ℕ) (span : Span) (memory : List ℕ)
+    (width : ℕ) (order : ℕ → ℕ) (before words : List ℕ)
+    → span.head < bits → Fits bits span (length memory)
+    → IsCopied bits at span memory width order before words
     → memory_bits width order words ≡ list_of bits at span memory ++ drop (length (list_of bits at span memory)) (memory_bits width order before)
-copied_block bits at span memory width order source dest words before count in_head fits is_source is_dest is_count copied =
-    let many : count ≡ span.len = is_count ∙ length-list_of bits at span memory in
-    let start : index_of width dest ≡ 0 = ap (index_of width) is_dest ∙ (let none : 0 * width + 0 ≡ 0 = omega arith in none) in
-    copied
-    ∙ copied_first (memory_bits bits at memory) (index_of bits source) (memory_bits width order before) (index_of width dest) count (list_of bits at span memory) start
-    (ap (λ (p : Ptr). take count (drop (index_of bits p) (memory_bits bits at memory))) is_source
+copied_block bits at span memory width order before words in_head fits is =
+    let many : is.count ≡ span.len = is.is_count ∙ length-list_of bits at span memory in
+    let none : 0 * width + 0 ≡ 0 = omega arith in
+    let start : index_of width is.dest ≡ 0 = ap (index_of width) is.is_dest ∙ none in
+    let all = memory_bits bits at memory in
+    let stretch = λ (p : Ptr). take is.count (drop (index_of bits p) all) in
+    is.copied
+    ∙ copied_first (memory_bits bits at memory) (index_of bits is.source)
+    (memory_bits width order before) (index_of width is.dest) is.count
+    (list_of bits at span memory) start
+    (ap stretch is.is_source
     ∙ ap (λ n. take n (drop (nat_abs span.word * bits + span.head) (memory_bits bits at memory))) many
     ∙ stretch_is_list bits at span memory in_head fits)
-    ∙ ap (λ n. list_of bits at span memory ++ drop n (memory_bits width order before)) is_count
+    ∙ ap (λ n. list_of bits at span memory ++ drop n (memory_bits width order before)) is.is_count
 
 -- a digit of a word as one of the memory's bits
 digit_is_bit : (bits : ℕ) (at : ℕ → ℕ) (words : List ℕ) (q i : ℕ) → i < bits → q * bits + i < length words * bits → digit (slice_index words q) (at i) ≡ get_or (memory_bits bits at words) (q * bits + i) false
@@ -98,20 +118,28 @@ pub record AreCut (n : ℕ) (xs ys first rest other_first other_rest : List Bool
   -- where their first elements are the same, they are so exactly where the rests are
   pub rests : first ≡ other_first → (rest ≡ other_rest) ↔ (xs ≡ ys)
 
-pub cut_both : (n : ℕ) (xs ys first rest other_first other_rest : List Bool) → first ≡ take n xs → rest ≡ drop n xs → other_first ≡ take n ys → other_rest ≡ drop n ys → n ≤ length xs → length xs ≡ length ys
+-- a list is cut into its first n elements and those behind them
+pub record IsCut (n : ℕ) (xs first rest : List Bool) : Type 0 where
+  pub front : first ≡ take n xs
+  pub back : rest ≡ drop n xs
+
+pub cut_both : (n : ℕ) (xs ys first rest other_first other_rest : List Bool)
+    → IsCut n xs first rest → IsCut n ys other_first other_rest
+    → n ≤ length xs → length xs ≡ length ys
     → AreCut n xs ys first rest other_first other_rest
-cut_both n xs ys first rest other_first other_rest is_first is_rest is_other_first is_other_rest within many = record {
-  length-first = ap length is_first ∙ length-take-le n xs within;
-  length-other_first = ap length is_other_first ∙ length-take-le n ys (omega (arith, within, many));
-  length-rest = ap length is_rest ∙ length-drop n xs;
-  length-other_rest = ap length is_other_rest ∙ length-drop n ys ∙ ap (λ m. m - n) (sym many);
+cut_both n xs ys first rest other_first other_rest cut other_cut within many = record {
+  length-first = ap length cut.front ∙ length-take-le n xs within;
+  length-other_first =
+      ap length other_cut.front ∙ length-take-le n ys (omega (arith, within, many));
+  length-rest = ap length cut.back ∙ length-drop n xs;
+  length-other_rest = ap length other_cut.back ∙ length-drop n ys ∙ ap (λ m. m - n) (sym many);
   rests =
       λ e.
-      let firsts : take n xs ≡ take n ys = sym is_first ∙ e ∙ is_other_first in (
+      let firsts : take n xs ≡ take n ys = sym cut.front ∙ e ∙ other_cut.front in (
         λ same.
-            let back : drop n xs ≡ drop n ys = sym is_rest ∙ same ∙ is_other_rest in
+            let back : drop n xs ≡ drop n ys = sym cut.back ∙ same ∙ other_cut.back in
             sym (take-append-drop n xs) ∙ ap (λ (zs : List Bool). zs ++ drop n xs) firsts ∙ ap (λ (zs : List Bool). take n ys ++ zs) back ∙ take-append-drop n ys,
-        λ all. is_rest ∙ ap (drop n) all ∙ sym is_other_rest,
+        λ all. cut.back ∙ ap (drop n) all ∙ sym other_cut.back,
       );
 }
 

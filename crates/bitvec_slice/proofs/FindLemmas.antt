@@ -52,9 +52,11 @@ not_between from upto i h =
       ]
     ]
 
-pub lacking_zeros : (bits : ℕ) (at : ℕ → ℕ) (head len k from upto mask : ℕ) → IsOneToOne bits at → head < bits → k < words_met bits head len → from ≡ part_head head k → upto ≡ part_tail bits head len k → IsMaskOf bits at from upto mask → IsLacking bits at head len k true mask
-lacking_zeros bits at head len k start end mask law in_head met starts ends given =
-    let masked = subst (λ t. IsMaskOf bits at (part_head head k) t mask) ends (subst (λ h. IsMaskOf bits at h end mask) starts given) in
+pub lacking_zeros : (bits : ℕ) (at : ℕ → ℕ) (head len k mask : ℕ)
+    → IsOneToOne bits at → head < bits → k < words_met bits head len
+    → IsMaskOf bits at (part_head head k) (part_tail bits head len k) mask
+    → IsLacking bits at head len k true mask
+lacking_zeros bits at head len k mask law in_head met masked =
     let within = tail_within bits head len k (omega arith) (some_len bits head len k met) in
     let digits : (i : ℕ) → i < bits → digit mask (at i) ≡ (nat_le (part_head head k) i && nat_lt i (part_tail bits head len k)) = λ i h. digit-mask_at bits at (part_head head k) (part_tail bits head len k) mask i law within masked h in
     record {

@@ -37,27 +37,30 @@ marks_none bits words other from marks none = record {
   digits = λ p small. ((λ off w low high. absurd (omega (arith, low, high))), λ all. ap (λ n. digit n p) none ∙ digit-zero p);
 }
 
--- one word more, whose numbers are a and b
-pub marks_more : (bits : ℕ) (words other : List ℕ) (from i a b marks more : ℕ) → slice_index words (from + i) ≡ a → slice_index other (from + i) ≡ b → more < 2 ^ bits → ((p : ℕ) → p < bits → digit more p ≡ (digit marks p || exclusive_or (digit a p) (digit b p)))
+-- one word more
+pub marks_more : (bits : ℕ) (words other : List ℕ) (from i marks more : ℕ) → more < 2 ^ bits
+    → ((p : ℕ) → p < bits → digit more p ≡ (digit marks p || exclusive_or
+    (digit (slice_index words (from + i)) p) (digit (slice_index other (from + i)) p)))
     → MarksDifferences bits words other from (from + i) marks → MarksDifferences bits words other from (from + (i + 1)) more
-marks_more bits words other from i a b marks more is_a is_b fits joined before = record {
+marks_more bits words other from i marks more fits joined before = record {
   below = fits;
   digits =
       λ p small.
-      let both = or_off (digit marks p) (digit a p) (digit b p) in
+      let a = digit (slice_index words (from + i)) p in
+      let b = digit (slice_index other (from + i)) p in
+      let both = or_off (digit marks p) a b in
       let so_far = before.digits p small in (
         λ off w low high.
             let known = both.0 (sym (joined p small) ∙ off) in
             elim (cases_eq w (from + i)) [
               | inl here ↦ (
                   ap (λ v. digit (slice_index words v) p) here
-                  ∙ ap (λ n. digit n p) is_a
                   ∙ known.1
-                  ∙ sym (ap (λ v. digit (slice_index other v) p) here ∙ ap (λ n. digit n p) is_b))
+                  ∙ sym (ap (λ v. digit (slice_index other v) p) here))
               | inr differs ↦ so_far.0 known.0 w low (omega (arith, high, differs))
             ],
         λ all.
-            let same : digit a p ≡ digit b p = sym (ap (λ n. digit n p) is_a) ∙ all (from + i) (omega arith) (omega arith) ∙ ap (λ n. digit n p) is_b in
+            let same = all (from + i) (omega arith) (omega arith) in
             joined p small ∙ both.1 (so_far.1 (λ w low high. all w low (omega (arith, high))), same),
       );
 }

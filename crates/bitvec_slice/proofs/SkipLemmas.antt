@@ -58,17 +58,43 @@ between_words bits n k r some low high =
       ],
     )
 
--- where whole words have the digits of a number whose digits are all `bit`, so are the elements that lie in them
-pub skipped_elements : (bits : ℕ) (at : ℕ → ℕ) (span : Span) (words : List ℕ) (number k r from upto : ℕ) (bit : Bool) → IsOneToOne bits at → 0 < bits
-    → HaveDigits bits number words (nat_abs span.word + k) (nat_abs span.word + r) → ((p : ℕ) → p < bits → digit number p ≡ bit)
-    → k * bits ≤ span.head + from → span.head + upto ≤ r * bits → upto ≤ span.len → AllBetween bit (list_of bits at span words) from upto
-skipped_elements bits at span words number k r from upto bit law some have all low high inside j after before =
-    let n : ℕ = span.head + j in
+-- the elements of a span from index `from` to before index `upto` lie in the words from word k to
+-- before word r of those that it meets
+pub record AreInWords (bits : ℕ) (span : Span) (from upto k r : ℕ) : Type 0 where
+  pub begin : k * bits ≤ span.head + from
+  pub end : span.head + upto ≤ r * bits
+  pub inside : upto ≤ span.len
+
+-- words that some element lies before the end of have bits
+some_bits : (bits n r : ℕ) → n < r * bits → 0 < bits
+some_bits bits n r less =
+    elim (cases_lt 0 bits) [
+      | inl some ↦ some
+      | inr none ↦ (
+          let e : bits ≡ 0 = omega arith in
+          let zero : r * bits ≡ r * 0 = ap (λ b. r * b) e in
+          absurd (omega (arith, zero, less)))
+    ]
+
+-- where every digit of whole words is `bit`, so are the elements that lie in them
+pub skipped_elements : (bits : ℕ) (at : ℕ → ℕ) (span : Span) (words : List ℕ) (bit : Bool)
+    (k r from upto : ℕ) → IsOneToOne bits at
+    → ((w p : ℕ) → nat_abs span.word + k ≤ w → w < nat_abs span.word + r → p < bits
+    → digit (slice_index words w) p ≡ bit)
+    → AreInWords bits span from upto k r → AllBetween bit (list_of bits at span words) from upto
+skipped_elements bits at span words bit k r from upto law all lie = λ j after before.
+    let begin = lie.begin in
+    let end = lie.end in
+    let inside = lie.inside in
+    let some = some_bits bits (span.head + j) r (omega arith) in
     let place : nat_abs span.word * bits + span.head + j ≡ nat_abs span.word * bits + (span.head + j) = omega arith in
     let within = between_words bits (span.head + j) k r some (omega arith) (omega arith) in
     let small = law.below ((span.head + j) % bits) (mod_below (span.head + j) bits some) in
-    element-list_of bits at span words j (omega arith) ∙ ap (bit_of bits at words) place ∙ bit_of-place bits at words (nat_abs span.word) (span.head + j) some
-    ∙ have (nat_abs span.word + (span.head + j) / bits) (at ((span.head + j) % bits)) (omega (arith, within.0)) (omega (arith, within.1)) small ∙ all (at ((span.head + j) % bits)) small
+    element-list_of bits at span words j (omega arith)
+    ∙ ap (bit_of bits at words) place
+    ∙ bit_of-place bits at words (nat_abs span.word) (span.head + j) some
+    ∙ all (nat_abs span.word + (span.head + j) / bits) (at ((span.head + j) % bits))
+    (omega (arith, within.0)) (omega (arith, within.1)) small
 
 -- two stretches, one behind the other
 pub all_joined : (bit : Bool) (xs : List Bool) (from mid upto : ℕ) → AllBetween bit xs from mid → AllBetween bit xs mid upto → AllBetween bit xs from upto
@@ -101,13 +127,16 @@ words_before bits width head index len upto ew ei small inside =
     ] in
     omega (arith, e, most)
 
--- the bounds of the elements in the words that are passed over
-pub passed_bounds : (bits width head index len from upto r : ℕ) → width ≡ bits → index ≡ head → (index + from) / width * width ≡ index + from → (index + from) / width ≤ r → r ≤ (index + upto) / width → upto ≤ len
-    → ((index + from) / width * bits ≤ head + from) × (head + (r * width - index) ≤ r * bits) × (r * width - index ≤ len)
-passed_bounds bits width head index len from upto r ew ei start low high inside =
-    let same : (index + from) / width * bits ≡ (index + from) / width * width = ap (λ n. (index + from) / width * n) (sym ew) in
-    let rows : r * bits ≡ r * width = ap (λ n. r * n) (sym ew) in
-    let below : (index + from) / width * width ≤ r * width = mul-le-mul_right width low in
-    let above : r * width ≤ (index + upto) / width * width = mul-le-mul_right width high in
-    let parts = div-add-mod' (index + upto) width in
-    (omega (arith, same, start, ei), omega (arith, rows, below, start, ei), omega (arith, above, parts, inside, ei))
+-- the elements in the words that are passed over, of which the first begins with element `from`
+pub passed_bounds : (bits : ℕ) (span : Span) (index from upto k r : ℕ) → index ≡ span.head
+    → k * bits ≡ index + from → k ≤ r → r ≤ (index + upto) / bits → upto ≤ span.len
+    → AreInWords bits span from (r * bits - index) k r
+passed_bounds bits span index from upto k r is start low high inside =
+    let below : k * bits ≤ r * bits = mul-le-mul_right bits low in
+    let above : r * bits ≤ (index + upto) / bits * bits = mul-le-mul_right bits high in
+    let parts = div-add-mod' (index + upto) bits in
+    record {
+      begin = omega (arith, start, is);
+      end = omega (arith, below, start, is);
+      inside = omega (arith, above, parts, inside, is);
+    }

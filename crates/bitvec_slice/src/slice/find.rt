@@ -82,7 +82,8 @@ impl<'a, R: BitRegister, O: BitOrder<R>> BitSlice<'a, R, O> {
     // from the slice's first word; `end` where all before word `end` have them.
     fn first_other(&self, k: usize, end: usize, lacking: R) -> usize
         requires ordered { k ≤ end }
-        requires met { end ≤ words_met R.BITS (slice_span self.now).head (slice_span self.now).len }
+        requires met { end
+            ≤ words_met R.BITS (slice_span self.now).head (slice_span self.now).len }
         requires below { R.number lacking < 2 ^ R.BITS }
         ensures start { k ≤ result }
         ensures end { result ≤ end }

@@ -86,7 +86,8 @@ impl<'a, R: BitRegister, O: BitOrder<R>> BitSlice<'a, R, O> {
 
     /// The indices of the bits that are one, counted from 0, in rising order.
     pub fn iter_ones(&self) -> IterOnes<'a, R, O>
-        ensures { ones_left result ≡ ones_between (bits_of self.now) 0 (length (bits_of self.now)) }
+        ensures { ones_left result
+            ≡ ones_between (bits_of self.now) 0 (length (bits_of self.now)) }
     {
         IterOnes {
             slice: *self,

@@ -25,7 +25,8 @@ pub(super) fn have_same_positions<
     R2: BitRegister,
     O2: BitOrder<R2>,
 >() -> bool
-    ensures { IsTrue result ↔ ((R.BITS ≡ R2.BITS) × HaveSamePositions R.BITS O.at_of O2.at_of) }
+    ensures { IsTrue result
+        ↔ ((R.BITS ≡ R2.BITS) × HaveSamePositions R.BITS O.at_of O2.at_of) }
 {
     if R::BITS != R2::BITS {
         return false;

@@ -24,7 +24,16 @@ returns g c =
     let memory = map number (slice_memory slice) in
     let zeros : List ℕ = 0 ∷ 0 ∷ 0 ∷ 0 ∷ 0 ∷ 0 ∷ 0 ∷ 0 ∷ [] in
     ap (memory_bits 64 g.P.BitAt.at_of) (sym (map-id c.copy_to.new.target))
-    ∙ copied_block width g.O.BitAt.at_of (slice_span slice) memory 64 g.P.BitAt.at_of (ptr_of c.to_bitptr-source.result) (ptr_of c.new-dest.result) (map (λ x. x) c.copy_to.new.target) zeros c.len.result
+    ∙ copied_block width g.O.BitAt.at_of (slice_span slice) memory 64 g.P.BitAt.at_of zeros
+    (map (λ x. x) c.copy_to.new.target)
     (omega (arith, slice.span.in_word, g.met.R.BitRegister.width_at_least_8))
     (subst (λ n. Fits width (slice_span slice) n) (sym (length-map (slice_memory slice) number)) slice.fits)
-    c.to_bitptr-source.ensures.pointer (search (c.new-dest.ensures, c.MIN.ensures)) c.len.ensures.list c.copy_to.ensures.bits
+    (record {
+      source = ptr_of c.to_bitptr-source.result;
+      dest = ptr_of c.new-dest.result;
+      count = c.len.result;
+      is_source = c.to_bitptr-source.ensures.pointer;
+      is_dest = search (c.new-dest.ensures, c.MIN.ensures);
+      is_count = c.len.ensures.list;
+      copied = c.copy_to.ensures.bits;
+    })

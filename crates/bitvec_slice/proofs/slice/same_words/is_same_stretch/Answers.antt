@@ -18,8 +18,13 @@ loop-i-preserved g c =
     let at = c.args.from + c.loop-i.i in
     let is = sym (number_at number here at c.index-here-from.result (search rules)) ∙ sym (ap number c.index-here-from.is) in
     let other_is = sym (number_at other_number there at c.index-there-from.result (search rules)) ∙ sym (ap other_number c.index-there-from.is) in
-    marks_more g.R.BitRegister.BITS (map number here) (map other_number there) c.args.from c.loop-i.i _ _ _ _ is other_is c.or-differences.ensures.below
-    (λ p small. c.or-differences.ensures.digits p small ∙ ap (λ b. digit (number c.loop-i.differences) p || b) (c.difference.ensures.digits p small)) c.loop-i.invariant
+    marks_more g.R.BitRegister.BITS (map number here) (map other_number there) c.args.from
+    c.loop-i.i _ _ c.or-differences.ensures.below
+    (λ p small.
+    c.or-differences.ensures.digits p small
+    ∙ ap (λ b. digit (number c.loop-i.differences) p || b)
+    (rw (is, other_is) (c.difference.ensures.digits p small)))
+    c.loop-i.invariant
 
 pub returns : goal.returns
 returns g c =

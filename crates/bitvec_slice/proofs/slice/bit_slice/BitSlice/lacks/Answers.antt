@@ -1,4 +1,5 @@
-use Rattle.std.proofs.Common.{map, not, ap, ◌∙◌, arith}
+use Rattle.std.proofs.Common.{map, not, ap, subst, ◌∙◌, arith}
+use Rattle.bitvec.specs.Order.{IsMaskOf}
 use Rattle.bitvec.specs.Parts.{Part}
 use Rattle.bitvec.proofs.PartLemmas.{length-list_of}
 use Rattle.bitvec_slice.specs.BitSlice.{slice_memory, slice_span, bits_of}
@@ -25,8 +26,11 @@ returns g c =
           (lacking_ones width at span.head span.len c.args.k)
       | else-bit w ↦ lacking_same width at span.head span.len c.args.k (not c.args.bit) _ n _ (ap not w.if-bit.false)
           (ap number w.lacking-is ∙ w.into_inner-lacking.ensures.value)
-          (lacking_zeros width at span.head span.len c.args.k _ _ _ law (omega (arith, c.args.self.now.span.in_word, g.met.R.BitRegister.width_at_least_8)) c.requires
-          (ap (λ (p : Part). p.head) c.part-part.ensures.part) (ap (λ (p : Part). p.tail) c.part-part.ensures.part) w.mask.ensures)
+          (lacking_zeros width at span.head span.len c.args.k _ law
+          (omega (arith, c.args.self.now.span.in_word, g.met.R.BitRegister.width_at_least_8))
+          c.requires
+          (subst (λ (p : Part). IsMaskOf width at p.head p.tail w.mask.result)
+          c.part-part.ensures.part w.mask.ensures))
     ] in
     let fits = word_fits width at span.head span.len c.args.k (not c.args.bit) xs n value law lacking long is in
     let both = lacks width at span.head span.len c.args.k (not c.args.bit) xs n value law lacking long is c.eq.result

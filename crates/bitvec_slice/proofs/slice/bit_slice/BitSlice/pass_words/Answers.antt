@@ -1,9 +1,9 @@
-use Rattle.std.proofs.Common.{◌≡◌, ℕ, ◌+◌, ◌*◌, ◌-◌, ◌/◌, ◌<◌, ◌≤◌, not, map, sym, ap, ◌∙◌, arith}
+use Rattle.std.proofs.Common.{◌≡◌, ℕ, ◌+◌, ◌*◌, ◌-◌, ◌/◌, ◌<◌, ◌≤◌, not, map, sym, ap, subst, ◌∙◌, arith}
 use Rattle.std.proofs.lemmas.Nat.{div-add-mod', le-div, pow_pos}
 use Rattle.std.proofs.Math.Nat.{mul-le-mul_right}
 use Rattle.bitvec.specs.Digit.{digit}
 use Rattle.bitvec_slice.specs.BitSlice.{slice_memory, slice_span}
-use Rattle.bitvec_slice.proofs.SkipLemmas.{all_zero, all_one, words_before, passed_bounds, skipped_elements}
+use Rattle.bitvec_slice.proofs.SkipLemmas.{AreInWords, all_zero, all_one, words_before, passed_bounds, skipped_elements}
 use Rattle.bitvec_slice.proofs.slice.bit_slice.BitSlice.pass_words.Goals as goal
 use Rattle.bitvec_slice.proofs.slice.bit_slice.BitSlice.pass_words.Goals.{then-bit, else-bit}
 
@@ -19,16 +19,23 @@ returns-clause-lacking g c =
     let number = g.R.BitRegister.number in
     let width = c.bits_of-width.result in
     let index = c.head-head.result in
+    let from = c.args.from in
+    let k = (index + from) / width in
     let r = c.first_other.result in
-    let whole : (index + c.args.from) / width * width ≡ index + c.args.from = omega (arith, c.if-k-width.false) in
-    let within = passed_bounds bits width slice.span.head index slice.span.len c.args.from c.args.upto r c.bits_of-width.ensures.value c.head-head.ensures whole c.first_other.ensures.start c.first_other.ensures.end c.requires.inside in
+    let span = slice_span slice in
+    let whole : k * width ≡ index + from = omega (arith, c.if-k-width.false) in
+    let upto = r * width - index in
+    let passed = passed_bounds width span index from c.args.upto k r c.head-head.ensures whole
+    c.first_other.ensures.start c.first_other.ensures.end c.requires.inside in
+    let lie = subst (λ b. AreInWords b span from upto k r) c.bits_of-width.ensures.value passed in
     let digits : (p : ℕ) → p < bits → digit (number c.if-bit.lacking) p ≡ not c.args.bit =
     elim c.if-bit.branch [
       | then-bit w ↦ λ p small. all_zero _ p (ap number (w.lacking-is ∙ w.ZERO-lacking.ensures) ∙ g.met.R.BitRegister.zero_is_0) ∙ sym (ap not w.if-bit.true)
       | else-bit w ↦ λ p small. all_one bits _ p (ap number (w.lacking-is ∙ w.ALL-lacking.ensures) ∙ g.met.R.BitRegister.all_is_greatest) small ∙ sym (ap not w.if-bit.false)
     ] in
-    skipped_elements bits g.O.BitAt.at_of (slice_span slice) (map number (slice_memory slice)) (number c.if-bit.lacking) ((index + c.args.from) / width) r c.args.from (r * width - index) (not c.args.bit) g.met.O.BitOrder.one_to_one
-    (omega (arith, g.met.R.BitRegister.width_at_least_8)) c.first_other.ensures.words digits within.0 within.1 within.2
+    skipped_elements bits g.O.BitAt.at_of span (map number (slice_memory slice)) (not c.args.bit)
+    k r from upto g.met.O.BitOrder.one_to_one
+    (λ w p low high small. c.first_other.ensures.words w p low high small ∙ digits p small) lie
 
 pub first_other-requires-clause-ordered : goal.first_other-requires-clause-ordered
 first_other-requires-clause-ordered g c =
