@@ -60,18 +60,23 @@ run-none number bits at view spans words = record {
 }
 
 -- a reply behind some requests and more after them, from the memory between and from the first
-reply_behind-at : {S W : Type 0} (number : W → ℕ) (bits : ℕ) (at : ℕ → ℕ) (view : S → Span) (old mid : List ℕ) (qs ps : List (Request W)) (q : Request W) (o : Option S)
-    → ((span : S) → o ≡ Some span → list_of bits at (view span) mid ≡ (alone_from number bits at (view span) old q.span qs).1)
-    → reply_behind number bits at view mid ps q o ≡ reply_behind number bits at view old (qs ++ ps) q o
+reply_behind-at : {S W : Type 0} (number : W → ℕ) (bits : ℕ) (at : ℕ → ℕ) (view : S → Span)
+    (old mid : List ℕ) (qs ps : List (Request W)) (q : Request W) (o : Option S)
+    → ((span : S) → o ≡ Some span
+    → list_of bits at (view span) mid ≡ (alone_from number bits at (view span) old q.span qs).1)
+    → reply_behind number bits at view mid ps q o
+    ≡ reply_behind number bits at view old (qs ++ ps) q o
 reply_behind-at number bits at view old mid qs ps q None lists = refl
 reply_behind-at number bits at view old mid qs ps q (Some span) lists =
-    ap (λ xs. reply_in (outcome number bits at (view span).head q.command xs)) (alone_from-append number bits at (view span) old mid q.span qs ps (lists span refl))
+    ap (λ xs. reply_in (outcome number bits at (view span).head q.command xs))
+    (alone_from-append number bits at (view span) old mid q.span qs ps (lists span refl))
 
 pub reply_behind-append : {S W : Type 0} (number : W → ℕ) (bits : ℕ) (at : ℕ → ℕ) (view : S → Span) (spans : List S) (old mid : List ℕ) (qs ps : List (Request W))
     → ((s : ℕ) (span : S) → slice_get spans s ≡ Some span → list_of bits at (view span) mid ≡ (alone_from number bits at (view span) old s qs).1)
     → (q : Request W) → reply_behind number bits at view mid ps q (slice_get spans q.span) ≡ reply_behind number bits at view old (qs ++ ps) q (slice_get spans q.span)
 reply_behind-append number bits at view spans old mid qs ps lists q =
-    reply_behind-at number bits at view old mid qs ps q (slice_get spans q.span) (λ span. lists q.span span)
+    reply_behind-at number bits at view old mid qs ps q (slice_get spans q.span)
+    (λ span. lists q.span span)
 
 module _ {S W : Type 0} (number : W → ℕ) (bits : ℕ) (at : ℕ → ℕ) (view : S → Span) (spans : List S) (old mid new : List ℕ) (qs ps : List (Request W)) (rs ts : List (Reply ℕ))
     (h : IsRun number bits at view spans old qs rs mid) (k : IsRun number bits at view spans mid ps ts new) where

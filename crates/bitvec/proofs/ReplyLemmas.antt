@@ -37,13 +37,17 @@ module _ {W : Type 0} (number : W → ℕ) (bits : ℕ) (at : ℕ → ℕ) (head
       ]
 
 -- each span's replies, in order, are those that its own commands give on its list alone
-abbrev pub AreOwnReplies : {S W : Type 0} → (W → ℕ) → ℕ → (ℕ → ℕ) → (S → Span) → List S → List ℕ → List (Request W) → List (Reply ℕ) → Type 0
+abbrev pub AreOwnReplies : {S W : Type 0} → (W → ℕ) → ℕ → (ℕ → ℕ) → (S → Span) → List S → List ℕ
+    → List (Request W) → List (Reply ℕ) → Type 0
 AreOwnReplies {S} number bits at view spans old requests replies =
-    (s : ℕ) (span : S) → slice_get spans s ≡ Some span → own_replies s requests replies ≡ (alone_from number bits at (view span) old s requests).0
+    (s : ℕ) (span : S) → slice_get spans s ≡ Some span
+    → own_replies s requests replies ≡ (alone_from number bits at (view span) old s requests).0
 
 -- in a run each span's replies are those
-pub own_replies-alone : {S W : Type 0} (number : W → ℕ) (bits : ℕ) (at : ℕ → ℕ) (view : S → Span) (spans : List S) (old new : List ℕ) (requests : List (Request W)) (replies : List (Reply ℕ))
-    → IsRun number bits at view spans old requests replies new → AreOwnReplies number bits at view spans old requests replies
+pub own_replies-alone : {S W : Type 0} (number : W → ℕ) (bits : ℕ) (at : ℕ → ℕ) (view : S → Span)
+    (spans : List S) (old new : List ℕ) (requests : List (Request W)) (replies : List (Reply ℕ))
+    → IsRun number bits at view spans old requests replies new
+    → AreOwnReplies number bits at view spans old requests replies
 own_replies-alone {S} number bits at view spans old new requests replies run = λ s span is.
     replies_from_each number bits at (view span).head s requests replies (list_of bits at (view span) old) run.as_many (λ n q is_q named.
     let found : slice_get spans q.span ≡ Some span = ap (slice_get spans) named ∙ is in

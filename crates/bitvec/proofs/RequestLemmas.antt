@@ -15,15 +15,20 @@ fits_at bits view spans words s span can is =
     subst (λ x. Fits bits (view x) words) (get_or_from_slice_get spans s span span is) (can.0 s span (slice_get_within spans s span is))
 
 -- spans of different numbers are disjoint
-pub apart_at : {S : Type 0} (bits : ℕ) (view : S → Span) (spans : List S) (s t : ℕ) (a b : S) → AllPairs (λ x y. AreDisjoint bits (view x) (view y)) spans
-    → slice_get spans s ≡ Some a → slice_get spans t ≡ Some b → s ≢ t → AreDisjoint bits (view a) (view b)
+pub apart_at : {S : Type 0} (bits : ℕ) (view : S → Span) (spans : List S) (s t : ℕ) (a b : S)
+    → AllPairs (λ x y. AreDisjoint bits (view x) (view y)) spans
+    → slice_get spans s ≡ Some a → slice_get spans t ≡ Some b → s ≢ t
+    → AreDisjoint bits (view a) (view b)
 apart_at bits view spans s t a b apart is it differ =
-    let at_s : (d : _) → get_or spans s d ≡ a = λ d. get_or_from_slice_get spans s a d is in
-    let at_t : (d : _) → get_or spans t d ≡ b = λ d. get_or_from_slice_get spans t b d it in
-    λ place in_a in_b. elim (cases_order s t) [
+    let at_s = get_or_from_slice_get spans s a a is in
+    let at_t = get_or_from_slice_get spans t b a it in
+    λ place in_a in_b.
+    let here = subst (λ x. Covers bits (view x) place) (sym at_s) in_a in
+    let there = subst (λ x. Covers bits (view x) place) (sym at_t) in_b in
+    elim (cases_order s t) [
       | inl e ↦ differ e
-      | inr (inl below) ↦ apart s t a below (slice_get_within spans t b it) place (subst (λ x. Covers bits (view x) place) (sym (at_s a)) in_a) (subst (λ x. Covers bits (view x) place) (sym (at_t a)) in_b)
-      | inr (inr above) ↦ apart t s a above (slice_get_within spans s a is) place (subst (λ x. Covers bits (view x) place) (sym (at_t a)) in_b) (subst (λ x. Covers bits (view x) place) (sym (at_s a)) in_a)
+      | inr (inl below) ↦ apart s t a below (slice_get_within spans t b it) place here there
+      | inr (inr above) ↦ apart t s a above (slice_get_within spans s a is) place there here
     ]
 
 -- of one request, the one at a number is that one
@@ -40,15 +45,19 @@ one_reply number bits at view spans old request reply is n other found =
     let one = only_one request other n found in let at_0 = one.0 in let same = one.1 in
     rw (at_0, ← same) (ap (λ r. Some r) is)
 
--- the request names a span, and its command's step through that span gets the reply, and makes the memory `new` of `old`
-pub record IsRequestStep {S W : Type 0} (number : W → ℕ) (bits : ℕ) (at : ℕ → ℕ) (view : S → Span) (spans : List S) (old : List ℕ) (request : Request W) (reply : Reply ℕ) (new : List ℕ) : Type 0 where
+-- the request names a span, and its command's step through that span gets the reply, and makes the
+-- memory `new` of `old`
+pub record IsRequestStep {S W : Type 0} (number : W → ℕ) (bits : ℕ) (at : ℕ → ℕ) (view : S → Span)
+    (spans : List S) (old : List ℕ) (request : Request W) (reply : Reply ℕ) (new : List ℕ) : Type 0 where
   pub named : S
   pub is_named : slice_get spans request.span ≡ Some named
   pub step : IsStep number bits at (view named) old request.command reply new
 
 -- a step through the span that the request names is a run of that request
-pub run-one : {S W : Type 0} (number : W → ℕ) (bits : ℕ) (at : ℕ → ℕ) (view : S → Span) (spans : List S) (old new : List ℕ) (request : Request W) (reply : Reply ℕ)
-    → CanRun bits view spans (length old) → IsRequestStep number bits at view spans old request reply new
+pub run-one : {S W : Type 0} (number : W → ℕ) (bits : ℕ) (at : ℕ → ℕ) (view : S → Span)
+    (spans : List S) (old new : List ℕ) (request : Request W) (reply : Reply ℕ)
+    → CanRun bits view spans (length old)
+    → IsRequestStep number bits at view spans old request reply new
     → IsRun number bits at view spans old (request ∷ []) (reply ∷ []) new
 run-one {S} number bits at view spans old new request reply can one =
     let named = one.named in

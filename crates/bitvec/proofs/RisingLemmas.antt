@@ -50,11 +50,14 @@ pub apart_none : (bits : ℕ) (a b : Span) → b.len ≡ 0 → AreDisjoint bits 
 apart_none bits a b none = disjoint-sym bits b a (disjoint-none bits b a none)
 
 -- what holds of each element below i, and of x, which stands at i, holds of each below i + 1
-pub each_more : {X : Type 0} (P : X → Type 0) (xs : List X) (i : ℕ) (x : X) → slice_get xs i ≡ Some x
-    → ((a : ℕ) (d : X) → a < i → P (get_or xs a d)) → P x → (a : ℕ) (d : X) → a < i + 1 → P (get_or xs a d)
+pub each_more : {X : Type 0} (P : X → Type 0) (xs : List X) (i : ℕ) (x : X)
+    → slice_get xs i ≡ Some x → ((a : ℕ) (d : X) → a < i → P (get_or xs a d)) → P x
+    → (a : ℕ) (d : X) → a < i + 1 → P (get_or xs a d)
 each_more P xs i x is so_far here a d below =
     elim (cases_eq a i) [
-      | inl same ↦ subst P (sym (ap (λ n. get_or xs n d) same ∙ get_or_from_slice_get xs i x d is)) here
+      | inl same ↦ (
+          let found = ap (λ n. get_or xs n d) same ∙ get_or_from_slice_get xs i x d is in
+          subst P (sym found) here)
       | inr other ↦ so_far a d (omega arith)
     ]
 
@@ -63,8 +66,9 @@ abbrev pub ArePairsBelow : {X : Type 0} → (X → X → Type 0) → List X → 
 ArePairsBelow {X} R xs i = (a b : ℕ) (d : X) → a < b → b < i → R (get_or xs a d) (get_or xs b d)
 
 -- where each of them is also related to x, which stands at i, this is so below i + 1
-pub pairs_more : {X : Type 0} (R : X → X → Type 0) (xs : List X) (i : ℕ) (x : X) → slice_get xs i ≡ Some x
-    → ArePairsBelow R xs i → ((a : ℕ) (d : X) → a < i → R (get_or xs a d) x) → ArePairsBelow R xs (i + 1)
+pub pairs_more : {X : Type 0} (R : X → X → Type 0) (xs : List X) (i : ℕ) (x : X)
+    → slice_get xs i ≡ Some x → ArePairsBelow R xs i
+    → ((a : ℕ) (d : X) → a < i → R (get_or xs a d) x) → ArePairsBelow R xs (i + 1)
 pairs_more R xs i x is so_far here = λ a b d above below.
     elim (cases_eq b i) [
       | inl same ↦ (
@@ -87,27 +91,33 @@ abbrev pub AllEndBy : {X : Type 0} → ℕ → (X → Span) → List X → ℕ �
 AllEndBy {X} bits view xs i last = (a : ℕ) (d : X) → a < i → EndsBy bits (view (get_or xs a d)) (view (get_or xs last d))
 
 -- a span with bits that the last one comes before
-pub one_more_rises : {X : Type 0} (bits : ℕ) (view : X → Span) (xs : List X) (last i : ℕ) (y : X) → slice_get xs i ≡ Some y
-    → AreApartBelow bits view xs i → AllEndBy bits view xs i last → ((d : X) → ComesBefore bits (view (get_or xs last d)) (view y)) → 0 < (view y).len
+pub one_more_rises : {X : Type 0} (bits : ℕ) (view : X → Span) (xs : List X) (last i : ℕ) (y : X)
+    → slice_get xs i ≡ Some y → AreApartBelow bits view xs i → AllEndBy bits view xs i last
+    → ((d : X) → ComesBefore bits (view (get_or xs last d)) (view y)) → 0 < (view y).len
     → AreApartBelow bits view xs (i + 1) × AllEndBy bits view xs (i + 1) i
-one_more_rises bits view xs last i y is apart behind before some = (
-  pairs_more (λ a b. AreDisjoint bits (view a) (view b)) xs i y is apart (λ a d h.
-      apart_next bits (view (get_or xs a d)) (view (get_or xs last d)) (view y) (behind a d h) (before d)),
-  λ a d h. subst (λ v. EndsBy bits (view (get_or xs a d)) (view v)) (sym (get_or_from_slice_get xs i y d is))
-      (each_more (λ v. EndsBy bits (view v) (view y)) xs i y is (λ b e k.
-      ends_by-next bits (view (get_or xs b e)) (view (get_or xs last e)) (view y) (behind b e k) (before e) some) (ends_by-self bits (view y)) a d h),
-)
+one_more_rises {X} bits view xs last i y is apart behind before some =
+    let at : ℕ → X → Span = λ a d. view (get_or xs a d) in
+    let next : (a : ℕ) (d : X) → a < i → EndsBy bits (at a d) (view y) = λ a d h.
+    ends_by-next bits (at a d) (at last d) (view y) (behind a d h) (before d) some in (
+      pairs_more (λ a b. AreDisjoint bits (view a) (view b)) xs i y is apart
+          (λ a d h. apart_next bits (at a d) (at last d) (view y) (behind a d h) (before d)),
+      λ a d h. subst (λ v. EndsBy bits (at a d) (view v)) (sym (get_or_from_slice_get xs i y d is))
+          (each_more (λ v. EndsBy bits (view v) (view y)) xs i y is next (ends_by-self bits (view y)) a d h),
+    )
 
 -- a span of no bits
-pub one_more_empty : {X : Type 0} (bits : ℕ) (view : X → Span) (xs : List X) (last i : ℕ) (y : X) → slice_get xs i ≡ Some y
-    → AreApartBelow bits view xs i → AllEndBy bits view xs i last → (view y).len ≡ 0
+pub one_more_empty : {X : Type 0} (bits : ℕ) (view : X → Span) (xs : List X) (last i : ℕ) (y : X)
+    → slice_get xs i ≡ Some y → AreApartBelow bits view xs i → AllEndBy bits view xs i last
+    → (view y).len ≡ 0
     → AreApartBelow bits view xs (i + 1) × AllEndBy bits view xs (i + 1) last
 one_more_empty bits view xs last i y is apart behind none = (
-  pairs_more (λ a b. AreDisjoint bits (view a) (view b)) xs i y is apart (λ a d h. apart_none bits (view (get_or xs a d)) (view y) none),
+  pairs_more (λ a b. AreDisjoint bits (view a) (view b)) xs i y is apart
+      (λ a d h. apart_none bits (view (get_or xs a d)) (view y) none),
   λ a d h. elim (cases_eq a i) [
     | inl same ↦ (
         let found = ap (λ n. get_or xs n d) same ∙ get_or_from_slice_get xs i y d is in
-        ends_by-none bits (view (get_or xs a d)) (view (get_or xs last d)) (ap (λ v. (view v).len) found ∙ none))
+        let empty = ap (λ v. (view v).len) found ∙ none in
+        ends_by-none bits (view (get_or xs a d)) (view (get_or xs last d)) empty)
     | inr other ↦ behind a d (omega arith)
   ],
 )

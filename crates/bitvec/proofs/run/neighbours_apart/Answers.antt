@@ -28,8 +28,11 @@ loop-i-preserved g c =
       | then-not-is_empty+else-not-comes_before w ↦ (
           let rises : ComesBefore width (span_of before) (span_of span) = w.if-not-comes_before.ensures.0 (search rules) in
           let some : 0 < span.len = search (rules, arith) in
-          let next = one_more_rises width span_of spans c.loop-i.last c.loop-i.i span is so_far.apart so_far.behind
-          (λ d. subst (λ x. ComesBefore width (span_of x) (span_of span)) (c.index-spans-last.is ∙ get_or_default spans c.loop-i.last before d (omega (arith, so_far.last_in, within))) rises) some in
+          let last_within : c.loop-i.last < length c.args.spans.now = omega (arith, so_far.last_in, within) in
+          let next = one_more_rises width span_of spans c.loop-i.last c.loop-i.i span is
+          so_far.apart so_far.behind (λ d.
+          let same = c.index-spans-last.is ∙ get_or_default spans c.loop-i.last before d last_within in
+          subst (λ x. ComesBefore width (span_of x) (span_of span)) same rises) some in
           record {
             last_in = omega (arith, w.last-is);
             apart = next.0;
@@ -37,7 +40,8 @@ loop-i-preserved g c =
           })
       | else-not-is_empty w ↦ (
           let none : span.len ≡ 0 = w.if-not-is_empty.ensures.0 (search rules) in
-          let next = one_more_empty width span_of spans c.loop-i.last c.loop-i.i span is so_far.apart so_far.behind none in
+          let next = one_more_empty width span_of spans c.loop-i.last c.loop-i.i span is
+          so_far.apart so_far.behind none in
           record {
             last_in = omega (arith, w.last-is, so_far.last_in);
             apart = next.0;

@@ -8,10 +8,15 @@ use Rattle.bitvec.proofs.run.serve.Goals as goal
 
 pub returns-then-request-spans : goal.returns-then-request-spans
 returns-then-request-spans g c =
-    run-one _ _ _ span_of c.args.spans.now _ _ _ _ (subst (λ (n : ℕ). CanRun g.R.BitRegister.BITS span_of c.args.spans.now n) (sym (length-map c.args.memory.now g.R.BitRegister.number)) c.requires)
+    let spans = c.args.spans.now in
+    let named = c.index-spans-request.result in
+    let can =
+    subst (λ (n : ℕ). CanRun g.R.BitRegister.BITS span_of spans n)
+    (sym (length-map c.args.memory.now g.R.BitRegister.number)) c.requires in
+    run-one _ _ _ span_of spans _ _ _ _ can
     (record {
-      named = c.index-spans-request.result;
-      is_named = slice_get_read c.args.spans.now _ c.args.request.span c.index-spans-request.result refl (omega arith) c.index-spans-request.is;
+      named = named;
+      is_named = slice_get_read spans _ c.args.request.span named refl (omega arith) c.index-spans-request.is;
       step = c.step.ensures;
     })
 
