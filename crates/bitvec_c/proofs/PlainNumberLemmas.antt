@@ -1,7 +1,7 @@
 -- A range that a number is stored into, by the slice that borrows it.
 use Rattle.std.proofs.Common.{◌≡◌, ℕ, ◌%◌, Bool, List, map, sym, subst}
 use Rattle.bitvec.specs.Span.{Span, BecomesList, span_at}
-use Rattle.bitvec_slice.specs.Field.{field_list, lowest_digits}
+use Rattle.bitvec_slice.specs.Field.{field_list}
 use Rattle.bitvec_c.specs.Range.{RangeBecomes}
 
 -- the memory that is lent is the slice's before and behind the edit
@@ -13,10 +13,10 @@ lent_edit {W} {s} {xs} bits at number old lent_old lent_new new ends begins edit
     (subst (λ (ws : List W). BecomesList bits at s (map number lent_old) (map number ws) xs) (sym ends) edit)
 
 -- the span of a range gets as many lowest digits of a number as it has bits
-pub stored_range : (bits : ℕ) (at : ℕ → ℕ) (big rises : Bool) (start count value digits : ℕ) (s : Span) (old new : List ℕ)
-    → s ≡ span_at bits start count → digits ≡ s.len
-    → BecomesList bits at s old new (field_list big bits rises s.head (lowest_digits digits value))
-    → RangeBecomes bits at start count (field_list big bits rises (start % bits) (lowest_digits count value)) old new
-stored_range bits at big rises start count value digits s old new is many edit =
-    subst (λ (r : Span). BecomesList bits at r old new (field_list big bits rises r.head (lowest_digits r.len value))) is
-    (subst (λ n. BecomesList bits at s old new (field_list big bits rises s.head (lowest_digits n value))) many edit)
+module _ (bits : ℕ) (at : ℕ → ℕ) (big rises : Bool) (start count value : ℕ) where
+  pub stored_range : (digits : ℕ) (s : Span) (old new : List ℕ) → s ≡ span_at bits start count → digits ≡ s.len
+      → BecomesList bits at s old new (field_list big bits rises s.head digits value)
+      → RangeBecomes bits at start count (field_list big bits rises (start % bits) count value) old new
+  stored_range digits s old new is many edit =
+      subst (λ (r : Span). BecomesList bits at r old new (field_list big bits rises r.head r.len value)) is
+      (subst (λ n. BecomesList bits at s old new (field_list big bits rises s.head n value)) many edit)

@@ -1,22 +1,21 @@
 -- Numbers in lists of bits, by the words' parts.
-use Rattle.std.proofs.Common.{◌≡◌, ℕ, ◌+◌, ◌-◌, ◌*◌, ◌/◌, ◌%◌, ◌^◌, ◌<◌, ◌≤◌, ◌==◌, ◌&&◌, ◌||◌, Bool, true, false, not, nat_le, nat_lt, List, length, reverse, refl, sym, ap, ◌∙◌, inl, inr, arith}
+use Rattle.std.proofs.Common.{◌≡◌, ℕ, ◌+◌, ◌-◌, ◌*◌, ◌/◌, ◌%◌, ◌^◌, ◌<◌, ◌≤◌, ◌==◌, ◌&&◌, ◌||◌, Bool, true, false, nat_le, nat_lt, if◌then◌else◌, List, length, refl, sym, ap, ◌∙◌, inl, inr, arith}
 use Rattle.std.specs.Prelude.{Option, Some, None, IsSome, IsNone}
 use Rattle.std.proofs.lemmas.Bool.{cases_eq, cases_lt, cases_order, and_right, lt-ltb, le-ltb, le-leb, lt-leb, eq-eqb, ne_eqb}
-use Rattle.std.proofs.lemmas.List.{get_or_past, get_or-reverse, length-reverse}
 use Rattle.std.proofs.lemmas.Nat.{div-add-mod', mod_below, div-mul-add, pow_pos, le-div}
 use Rattle.std.proofs.Math.Nat.{mod-lt, mul-le-mul_right}
 use Rattle.std.proofs.Math.Pow.{pow_mono}
 use Rattle.bitvec.specs.Digit.{digit}
 use Rattle.bitvec.specs.SameDigits.{same_from_digits}
 use Rattle.bitvec.specs.Place.{words_met}
-use Rattle.bitvec.specs.OrderLemmas.{low_one_to_one, number_of_below}
+use Rattle.bitvec.specs.Order.{IsOneToOne}
+use Rattle.bitvec.specs.OrderLemmas.{number_of_below}
 use Rattle.bitvec.specs.Span.{element}
 use Rattle.bitvec.proofs.DigitLemmas.{digit-mod, digit_above}
-use Rattle.bitvec.proofs.IndexLemmas.{digit-number_of_at}
-use Rattle.bitvec.proofs.MemoryLemmas.{length-tabulate, get_or-tabulate}
+use Rattle.bitvec.proofs.IndexLemmas.{digit-number_of_at, number_of-from_digits}
 use Rattle.bitvec.proofs.PlaceLemmas.{words_met-some}
 use Rattle.bitvec.proofs.PartLemmas.{some_len}
-use Rattle.bitvec_slice.specs.Field.{IsSequential, stretch_start, stretch_end, mirrored, turned_in_words, le_bits, be_bits, field_bits, shift_at, place_in, word_at, number_with}
+use Rattle.bitvec_slice.specs.Field.{IsSequential, position_of, stretch_start, stretch_end, mirrored, digit_place, field_number}
 
 -- a number with no digit from n on is below two to the n
 pub small_from_digits : (w k n : ℕ) → w < 2 ^ k → ((p : ℕ) → n ≤ p → digit w p ≡ false) → w < 2 ^ n
@@ -33,21 +32,8 @@ small_from_digits w k n small none =
           omega (arith, rest, same))
     ]
 
--- the number of a list of digits
-pub digit-number_with : (xs : List Bool) (q : ℕ) → digit (number_with xs) q ≡ element xs q
-digit-number_with xs q =
-    elim (cases_lt q (length xs)) [
-      | inl inside ↦ digit-number_of_at (length xs) (λ i. i) (element xs) q (low_one_to_one (length xs)) inside
-      | inr past ↦ digit_above (number_with xs) (length xs) q (number_of_below (length xs) (λ i. i) (element xs) (length xs) (λ i h passes. h)) past ∙ sym (get_or_past xs q false past)
-    ]
+-- ---- where word k has elements of a list
 
-pub number_with-from_digits : (xs : List Bool) (n most : ℕ) → n < 2 ^ most → length xs ≤ most → ((q : ℕ) → q < most → digit n q ≡ element xs q) → n ≡ number_with xs
-number_with-from_digits xs n most small long same =
-    let more : 2 ^ length xs ≤ 2 ^ most = pow_mono long in
-    let below = number_of_below (length xs) (λ i. i) (element xs) (length xs) (λ i h passes. h) in
-    same_from_digits most n (number_with xs) small (omega (arith, below, more)) (λ q h. same q h ∙ sym (digit-number_with xs q))
-
--- where word k has elements of a list
 module _ (bits head len k : ℕ) (some : 0 < bits) (in_head : head < bits) where
   pub in_stretch : (j : ℕ) → j < len → (head + j) / bits ≡ k → (stretch_start bits head k ≤ j) × (j < stretch_end bits head len k)
   in_stretch j h e =
@@ -78,194 +64,236 @@ met_word bits head len j some h =
     let up : (head + j) / bits ≤ (head + len - 1) / bits = le-div ((head + j) / bits) (head + len - 1) bits some (omega (arith, parts)) in
     omega (arith, count, up)
 
--- lists turned round in their words
-pub length-turned : (turn : Bool) (bits head : ℕ) (xs : List Bool) → length (turned_in_words turn bits head xs) ≡ length xs
-length-turned true bits head xs = length-tabulate (length xs) (λ j. element xs (mirrored bits head (length xs) j))
-length-turned false bits head xs = refl
+-- ---- the digit that an element is
 
-pub element-turned : (bits head k : ℕ) (xs : List Bool) (j : ℕ) → (head + j) / bits ≡ k → j < length xs
-    → element (turned_in_words true bits head xs) j ≡ element xs (stretch_start bits head k + stretch_end bits head (length xs) k - 1 - j)
-element-turned bits head k xs j e h =
-    get_or-tabulate (length xs) (λ i. element xs (mirrored bits head (length xs) i)) j false h
-    ∙ ap (λ n. element xs (stretch_start bits head n + stretch_end bits head (length xs) n - 1 - j)) e
+-- where word k's part begins in the number
+abbrev pub part_place : Bool → ℕ → ℕ → ℕ → ℕ → ℕ
+part_place big bits head len k = if big then len - stretch_end bits head len k else stretch_start bits head k
 
--- the part of word k, shifted down: `w` has the list's digits where the word has them, and `v` is `w` shifted
-module _ (bits head k : ℕ) (at : ℕ → ℕ) (xs : List Bool) (w v : ℕ) (some : 0 < bits) (in_head : head < bits) (met : k < words_met bits head (length xs))
-    (is_word : (i : ℕ) → i < bits → digit w (at i) ≡ (nat_le head (k * bits + i) && element xs (k * bits + i - head))) (small : v < 2 ^ bits) where
-  rising_digit : IsSequential bits true at → (down p i : ℕ) → down ≡ shift_at bits true head (length xs) k → digit v p ≡ digit w i → i ≡ down + p → i < bits → digit v p ≡ element xs (stretch_start bits head k + p)
-  rising_digit law down p i is same e inside =
-      let bounds = met_bounds bits head (length xs) k some in_head met in
-      let back : k * bits + i - head ≡ stretch_start bits head k + p = omega (arith, bounds) in
-      same ∙ ap (digit w) (sym (law.positions i inside)) ∙ is_word i inside
-      ∙ rw (le-leb head (k * bits + i) (omega (arith, bounds))) (ap (element xs) back)
+-- how far up in its word's part an element lies
+abbrev pub part_step : Bool → ℕ → ℕ → ℕ → ℕ → ℕ → ℕ
+part_step rises bits head len k j = if rises then j - stretch_start bits head k else stretch_end bits head len k - 1 - j
 
-  rising : IsSequential bits true at → (down : ℕ) → down ≡ shift_at bits true head (length xs) k
-      → ((p : ℕ) → down + p < bits → digit v p ≡ digit w (down + p)) → ((p : ℕ) → p < bits → bits ≤ down + p → digit v p ≡ false)
-      → (p : ℕ) → digit v p ≡ (nat_lt (stretch_start bits head k + p) (stretch_end bits head (length xs) k) && element xs (stretch_start bits head k + p))
-  rising law down is moved high p =
-      let bounds = met_bounds bits head (length xs) k some in_head met in
-      elim (cases_lt (stretch_start bits head k + p) (stretch_end bits head (length xs) k)) [
-        | inl inside ↦ (
-            let within : down + p < bits = omega (arith, bounds) in
-            rw (lt-ltb (stretch_start bits head k + p) (stretch_end bits head (length xs) k) inside) (rising_digit law down p (down + p) is (moved p within) refl within))
-        | inr past ↦ (
-            rw (le-ltb (stretch_start bits head k + p) (stretch_end bits head (length xs) k) past) (elim (cases_lt p bits) [
-              | inr above ↦ digit_above v bits p small above
-              | inl below ↦ elim (cases_lt (down + p) bits) [
-                | inr out ↦ high p below out
-                | inl within ↦ (
-                    rising_digit law down p (down + p) is (moved p within) refl within
-                    ∙ get_or_past xs (stretch_start bits head k + p) false (omega (arith, bounds)))
-              ]
-            ]))
-      ]
+-- where word k's part begins in the word
+abbrev pub part_shift : Bool → ℕ → ℕ → ℕ → ℕ → ℕ
+part_shift rises bits head len k = if rises then stretch_start bits head k + head - k * bits else k * bits + bits - (head + stretch_end bits head len k)
 
-  falling_digit : IsSequential bits false at → (down p i : ℕ) → down ≡ shift_at bits false head (length xs) k → digit v p ≡ digit w (down + p) → i + down + p + 1 ≡ bits
-      → digit v p ≡ (nat_le head (k * bits + i) && element xs (k * bits + i - head))
-  falling_digit law down p i is same e =
-      let inside : i < bits = omega arith in
-      let back : down + p ≡ bits - 1 - i = omega arith in
-      same ∙ ap (digit w) (back ∙ sym (law.positions i inside)) ∙ is_word i inside
+module _ (bits head len : ℕ) (some : 0 < bits) (in_head : head < bits) where
+  -- an element's digit lies in its word's part of the number, and its position in the word's part of the word
+  module _ (j k : ℕ) (inside : j < len) (word : (head + j) / bits ≡ k) where
+    mirrored_is : mirrored bits head len j ≡ stretch_start bits head k + stretch_end bits head len k - 1 - j
+    mirrored_is = ap (λ n. stretch_start bits head n + stretch_end bits head len n - 1 - j) word
 
-  falling : IsSequential bits false at → (down : ℕ) → down ≡ shift_at bits false head (length xs) k
-      → ((p : ℕ) → down + p < bits → digit v p ≡ digit w (down + p)) → ((p : ℕ) → p < bits → bits ≤ down + p → digit v p ≡ false)
-      → (p : ℕ) → digit v p ≡ (nat_lt (stretch_start bits head k + p) (stretch_end bits head (length xs) k) && element (turned_in_words true bits head xs) (stretch_start bits head k + p))
-  falling law down is moved high p =
-      let bounds = met_bounds bits head (length xs) k some in_head met in
-      let start : ℕ = stretch_start bits head k in
-      let end : ℕ = stretch_end bits head (length xs) k in
-      elim (cases_lt (stretch_start bits head k + p) (stretch_end bits head (length xs) k)) [
-        | inl inside ↦ (
-            let within : down + p < bits = omega (arith, bounds) in
-            let i : ℕ = bits - 1 - (down + p) in
-            let back : k * bits + (bits - 1 - (down + p)) - head ≡ stretch_start bits head k + stretch_end bits head (length xs) k - 1 - (stretch_start bits head k + p) = omega (arith, bounds) in
-            rw (lt-ltb (stretch_start bits head k + p) (stretch_end bits head (length xs) k) inside) (
-            falling_digit law down p (bits - 1 - (down + p)) is (moved p within) (omega arith)
-            ∙ rw (le-leb head (k * bits + (bits - 1 - (down + p))) (omega (arith, bounds))) (ap (element xs) back)
-            ∙ sym (element-turned bits head k xs (stretch_start bits head k + p) (from_stretch bits head (length xs) k some in_head (stretch_start bits head k + p) (omega arith) inside) (omega (arith, inside)))))
-        | inr past ↦ (
-            rw (le-ltb (stretch_start bits head k + p) (stretch_end bits head (length xs) k) past) (elim (cases_lt p bits) [
-              | inr above ↦ digit_above v bits p small above
-              | inl below ↦ elim (cases_lt (down + p) bits) [
-                | inr out ↦ high p below out
-                | inl within ↦ (
-                    falling_digit law down p (bits - 1 - (down + p)) is (moved p within) (omega arith)
-                    ∙ rw (lt-leb head (k * bits + (bits - 1 - (down + p))) (omega (arith, bounds))) refl)
-              ]
-            ]))
-      ]
+    pub place_in_part : (big rises : Bool) → digit_place big bits rises head len j ≡ part_place big bits head len k + part_step rises bits head len k j
+    place_in_part false true = let b = in_stretch bits head len k some in_head j inside word in omega (arith, b)
+    place_in_part false false = let b = in_stretch bits head len k some in_head j inside word in mirrored_is ∙ omega (arith, b)
+    place_in_part true false = let b = in_stretch bits head len k some in_head j inside word in omega (arith, b, inside)
+    place_in_part true true = let b = in_stretch bits head len k some in_head j inside word in ap (λ m. len - 1 - m) mirrored_is ∙ omega (arith, b, inside)
 
-  pub part_digits : (rises : Bool) → IsSequential bits rises at → (down : ℕ) → down ≡ shift_at bits rises head (length xs) k
-      → ((p : ℕ) → down + p < bits → digit v p ≡ digit w (down + p)) → ((p : ℕ) → p < bits → bits ≤ down + p → digit v p ≡ false)
-      → (p : ℕ) → digit v p ≡ (nat_lt (stretch_start bits head k + p) (stretch_end bits head (length xs) k) && element (turned_in_words (not rises) bits head xs) (stretch_start bits head k + p))
-  part_digits true law down is moved high p = rising law down is moved high p
-  part_digits false law down is moved high p = falling law down is moved high p
+    pub position_in_part : (rises : Bool) → (position_of bits rises ((head + j) % bits) ≡ part_shift rises bits head len k + part_step rises bits head len k j) × (part_shift rises bits head len k + part_step rises bits head len k j < bits)
+    position_in_part rises =
+        let b = in_stretch bits head len k some in_head j inside word in
+        let parts = div-add-mod' (head + j) bits in
+        let small = mod_below (head + j) bits some in
+        let product : (head + j) / bits * bits ≡ k * bits = ap (λ n. n * bits) word in
+        position ((head + j) % bits) (omega (arith, parts, product)) small b.0 b.1 rises
+      where
+        position : (i : ℕ) → head + j ≡ k * bits + i → i < bits → stretch_start bits head k ≤ j → j < stretch_end bits head len k → (rises : Bool)
+            → (position_of bits rises i ≡ part_shift rises bits head len k + part_step rises bits head len k j) × (part_shift rises bits head len k + part_step rises bits head len k j < bits)
+        position i is small from upto true = (omega (arith, is), omega (arith, is, small))
+        position i is small from upto false = (omega (arith, is, small), omega (arith, is, small))
 
-pub small_part : (bits head len k most v : ℕ) (xs : List Bool) → v < 2 ^ bits → len ≤ most
-    → ((p : ℕ) → digit v p ≡ (nat_lt (stretch_start bits head k + p) (stretch_end bits head len k) && element xs (stretch_start bits head k + p))) → v < 2 ^ most
-small_part bits head len k most v xs small long digits =
-    small_from_digits v bits most small (λ p h. digits p ∙ rw (le-ltb (stretch_start bits head k + p) (stretch_end bits head len k) (omega (arith, long))) refl)
+    pub step_within : (big rises : Bool) → (part_place big bits head len k + part_step rises bits head len k j < len) × (part_step rises bits head len k j < stretch_end bits head len k - stretch_start bits head k)
+    step_within true true = let b = in_stretch bits head len k some in_head j inside word in (omega (arith, b, inside), omega (arith, b, inside))
+    step_within true false = let b = in_stretch bits head len k some in_head j inside word in (omega (arith, b, inside), omega (arith, b, inside))
+    step_within false true = let b = in_stretch bits head len k some in_head j inside word in (omega (arith, b, inside), omega (arith, b, inside))
+    step_within false false = let b = in_stretch bits head len k some in_head j inside word in (omega (arith, b, inside), omega (arith, b, inside))
 
--- a part in its place in the number: `v` is the part of word k, and `r` is `v` shifted up to that place
-module _ (bits head k most : ℕ) (xs : List Bool) (v r : ℕ) (some : 0 < bits) (in_head : head < bits) (met : k < words_met bits head (length xs)) where
-  little : (ys : List Bool) → length ys ≡ length xs → (up : ℕ) → up ≡ stretch_start bits head k
-      → ((p : ℕ) → digit v p ≡ (nat_lt (stretch_start bits head k + p) (stretch_end bits head (length xs) k) && element ys (stretch_start bits head k + p)))
-      → ((p : ℕ) → p < up → digit r p ≡ false) → ((p : ℕ) → up + p < most → digit r (up + p) ≡ digit v p)
-      → (q : ℕ) → q < most → digit r q ≡ (((head + q) / bits == k) && element ys q)
-  little ys long up is digits low moved q h =
-      elim (cases_lt q up) [
-        | inl below ↦ (
-            low q below
-            ∙ elim (cases_eq ((head + q) / bits) k) [
-              | inr differ ↦ sym (rw (ne_eqb ((head + q) / bits) k differ) refl)
-              | inl e ↦ elim (cases_lt q (length xs)) [
-                | inl inside ↦ absurd (let b = in_stretch bits head (length xs) k some in_head q inside e in omega (arith, b.0))
-                | inr past ↦ sym (and_right _ _ (get_or_past ys q false (omega (arith, long))))
-              ]
-            ])
-        | inr from ↦ (
-            let p : ℕ = q - up in
-            let e : q ≡ up + (q - up) = omega arith in
-            let there : stretch_start bits head k + (q - up) ≡ q = omega arith in
-            ap (digit r) e
-            ∙ moved (q - up) (omega arith)
-            ∙ digits (q - up)
-            ∙ rw there (elim (cases_lt q (stretch_end bits head (length xs) k)) [
-              | inl upto ↦ (
-                  let word = from_stretch bits head (length xs) k some in_head q (omega arith) upto in
-                  rw (lt-ltb q (stretch_end bits head (length xs) k) upto, eq-eqb ((head + q) / bits) k word) refl)
-              | inr past ↦ (
-                  rw (le-ltb q (stretch_end bits head (length xs) k) past) (elim (cases_eq ((head + q) / bits) k) [
-                    | inr differ ↦ sym (rw (ne_eqb ((head + q) / bits) k differ) refl)
-                    | inl same ↦ elim (cases_lt q (length xs)) [
-                      | inl inside ↦ absurd (let b = in_stretch bits head (length xs) k some in_head q inside same in omega (arith, b.1))
-                      | inr out ↦ sym (and_right _ _ (get_or_past ys q false (omega (arith, long))))
-                    ]
-                  ]))
-            ]))
-      ]
+    mirrored_back : (mirrored bits head len j < len) × (mirrored bits head len (mirrored bits head len j) ≡ j)
+    mirrored_back =
+        let b = in_stretch bits head len k some in_head j inside word in
+        let is = mirrored_is in
+        let same : (head + mirrored bits head len j) / bits ≡ k = from_stretch bits head len k some in_head (mirrored bits head len j) (omega (arith, b, is)) (omega (arith, b, is)) in (
+          omega (arith, b, is),
+          ap (λ n. stretch_start bits head n + stretch_end bits head len n - 1 - mirrored bits head len j) same ∙ omega (arith, b, is),
+        )
 
-  -- element j of the list turned one way is that in the mirrored place of the list turned the other way
-  other_way : (rises : Bool) (j i : ℕ) → stretch_start bits head k ≤ j → j < stretch_end bits head (length xs) k → i + j + 1 ≡ stretch_start bits head k + stretch_end bits head (length xs) k
-      → element (turned_in_words (not rises) bits head xs) i ≡ element (turned_in_words rises bits head xs) j
-  other_way true j i from upto e =
-      let back : i ≡ stretch_start bits head k + stretch_end bits head (length xs) k - 1 - j = omega (arith, e) in
-      ap (element xs) back ∙ sym (element-turned bits head k xs j (from_stretch bits head (length xs) k some in_head j from upto) (omega (arith, upto)))
-  other_way false j i from upto e =
-      let back : stretch_start bits head k + stretch_end bits head (length xs) k - 1 - i ≡ j = omega (arith, e) in
-      element-turned bits head k xs i (from_stretch bits head (length xs) k some in_head i (omega (arith, e)) (omega (arith, e))) (omega (arith, e, upto)) ∙ ap (element xs) back
+  -- the digits of different elements are different, and there is one for each
+  pub digit_places : (big rises : Bool) → IsOneToOne len (digit_place big bits rises head len)
+  digit_places big rises = record {
+    below = λ j h. below big rises j h;
+    apart = λ i j h_i h_j e. apart big rises i j h_i h_j e;
+  }
+    where
+      below : (big rises : Bool) (j : ℕ) → j < len → digit_place big bits rises head len j < len
+      below false true j h = h
+      below false false j h = (mirrored_back j ((head + j) / bits) h refl).0
+      below true false j h = omega (arith, h)
+      below true true j h = omega (arith, h)
 
-  large : (rises : Bool) → (up : ℕ) → up ≡ length xs - stretch_end bits head (length xs) k
-      → ((p : ℕ) → digit v p ≡ (nat_lt (stretch_start bits head k + p) (stretch_end bits head (length xs) k) && element (turned_in_words (not rises) bits head xs) (stretch_start bits head k + p)))
-      → ((p : ℕ) → p < up → digit r p ≡ false) → ((p : ℕ) → up + p < most → digit r (up + p) ≡ digit v p)
-      → (q : ℕ) → q < most → digit r q ≡ (((head + (length xs - 1 - q)) / bits == k) && element (be_bits bits rises head xs) q)
-  large rises up is digits low moved q h =
-      let ys : List Bool = turned_in_words rises bits head xs in
-      let long = length-turned rises bits head xs in
-      let longer = length-reverse (turned_in_words rises bits head xs) in
-      elim (cases_lt q (length xs)) [
-        | inr past ↦ (
-            let e : q ≡ up + (q - up) = omega arith in
-            ap (digit r) e
-            ∙ moved (q - up) (omega arith)
-            ∙ digits (q - up)
-            ∙ rw (le-ltb (stretch_start bits head k + (q - up)) (stretch_end bits head (length xs) k) (omega arith)) (sym (and_right _ _ (get_or_past (reverse (turned_in_words rises bits head xs)) q false (omega (arith, long, longer))))))
-        | inl inside ↦ (
-            let j : ℕ = length xs - 1 - q in
-            let there : element (be_bits bits rises head xs) q ≡ element (turned_in_words rises bits head xs) (length xs - 1 - q) = get_or-reverse (turned_in_words rises bits head xs) q false (omega (arith, long)) ∙ ap (λ n. element (turned_in_words rises bits head xs) (n - 1 - q)) long in
-            elim (cases_eq ((head + (length xs - 1 - q)) / bits) k) [
-              | inl same ↦ (
-                  let b = in_stretch bits head (length xs) k some in_head (length xs - 1 - q) (omega arith) same in
-                  let from : up ≤ q = omega (arith, b) in
-                  let e : q ≡ up + (q - up) = omega arith in
-                  rw (eq-eqb ((head + (length xs - 1 - q)) / bits) k same) (
-                  ap (digit r) e
-                  ∙ moved (q - up) (omega arith)
-                  ∙ digits (q - up)
-                  ∙ rw (lt-ltb (stretch_start bits head k + (q - up)) (stretch_end bits head (length xs) k) (omega (arith, b))) (other_way rises (length xs - 1 - q) (stretch_start bits head k + (q - up)) b.0 b.1 (omega (arith, b)))
-                  ∙ sym there))
-              | inr differ ↦ (
-                  rw (ne_eqb ((head + (length xs - 1 - q)) / bits) k differ) (elim (cases_lt q up) [
-                    | inl below ↦ low q below
-                    | inr from ↦ (
-                        let e : q ≡ up + (q - up) = omega arith in
-                        ap (digit r) e
-                        ∙ moved (q - up) (omega arith)
-                        ∙ digits (q - up)
-                        ∙ (elim (cases_lt (stretch_start bits head k + (q - up)) (stretch_end bits head (length xs) k)) [
-                          | inl upto ↦ absurd (differ (from_stretch bits head (length xs) k some in_head (length xs - 1 - q) (omega arith) (omega arith)))
-                          | inr out ↦ rw (le-ltb (stretch_start bits head k + (q - up)) (stretch_end bits head (length xs) k) out) refl
-                        ]))
-                  ]))
-            ])
-      ]
+      mirror_apart : (i j : ℕ) → i < len → j < len → mirrored bits head len i ≡ mirrored bits head len j → i ≡ j
+      mirror_apart i j h_i h_j e = sym (mirrored_back i ((head + i) / bits) h_i refl).1 ∙ ap (mirrored bits head len) e ∙ (mirrored_back j ((head + j) / bits) h_j refl).1
 
-  pub placed : (big rises : Bool) (up : ℕ) → up ≡ place_in big bits head (length xs) k
-      → ((p : ℕ) → digit v p ≡ (nat_lt (stretch_start bits head k + p) (stretch_end bits head (length xs) k) && element (le_bits bits rises head xs) (stretch_start bits head k + p)))
-      → ((p : ℕ) → p < up → digit r p ≡ false) → ((p : ℕ) → up + p < most → digit r (up + p) ≡ digit v p)
-      → (q : ℕ) → q < most → digit r q ≡ ((word_at big bits head (length xs) q == k) && element (field_bits big bits rises head xs) q)
-  placed true rises up is digits low moved q h = large rises up is digits low moved q h
-  placed false rises up is digits low moved q h = little (le_bits bits rises head xs) (length-turned (not rises) bits head xs) up is digits low moved q h
+      apart : (big rises : Bool) (i j : ℕ) → i < len → j < len → digit_place big bits rises head len i ≡ digit_place big bits rises head len j → i ≡ j
+      apart false true i j h_i h_j e = e
+      apart false false i j h_i h_j e = mirror_apart i j h_i h_j e
+      apart true false i j h_i h_j e = omega (arith, h_i, h_j, e)
+      apart true true i j h_i h_j e = mirror_apart i j h_i h_j (omega (arith, (mirrored_back i ((head + i) / bits) h_i refl).0, (mirrored_back j ((head + j) / bits) h_j refl).0, e))
+
+  -- the elements of one word are digits as they are digits of the word: as far apart, and in the same order
+  pub digits_in_one_word : (big rises : Bool) (i j : ℕ) → i < len → j < len → (head + i) / bits ≡ (head + j) / bits
+      → digit_place big bits rises head len i + position_of bits rises ((head + j) % bits) ≡ digit_place big bits rises head len j + position_of bits rises ((head + i) % bits)
+  digits_in_one_word big rises i j h_i h_j same =
+      let k = (head + j) / bits in
+      let place_i = place_in_part i k h_i same big rises in
+      let place_j = place_in_part j k h_j refl big rises in
+      let position_i = position_in_part i k h_i same rises in
+      let position_j = position_in_part j k h_j refl rises in
+      omega (arith, place_i, place_j, position_i.0, position_j.0)
+
+  -- the elements of an earlier word are lower digits little-endian, and higher ones big-endian
+  pub digits_of_earlier_word : (rises : Bool) (i j : ℕ) → i < len → j < len → (head + i) / bits < (head + j) / bits
+      → (digit_place false bits rises head len i < digit_place false bits rises head len j) × (digit_place true bits rises head len j < digit_place true bits rises head len i)
+  digits_of_earlier_word rises i j h_i h_j earlier =
+      let k = (head + i) / bits in
+      let l = (head + j) / bits in
+      let low_i = place_in_part i ((head + i) / bits) h_i refl false rises in
+      let low_j = place_in_part j ((head + j) / bits) h_j refl false rises in
+      let high_i = place_in_part i ((head + i) / bits) h_i refl true rises in
+      let high_j = place_in_part j ((head + j) / bits) h_j refl true rises in
+      let within_i = step_within i ((head + i) / bits) h_i refl false rises in
+      let within_j = step_within j ((head + j) / bits) h_j refl false rises in
+      let next : ((head + i) / bits + 1) * bits ≤ (head + j) / bits * bits = mul-le-mul_right bits (omega (arith, earlier)) in
+      let after : (head + i) / bits * bits + bits ≤ (head + j) / bits * bits = omega (arith, next) in
+      let b_i = in_stretch bits head len ((head + i) / bits) some in_head i h_i refl in
+      let b_j = in_stretch bits head len ((head + j) / bits) some in_head j h_j refl in
+      (omega (arith, after, low_i, low_j, within_i.1, within_j.1, b_i, b_j), omega (arith, after, high_i, high_j, within_i.1, within_j.1, b_i, b_j))
+
+-- ---- a word's part as a number
+
+-- a number has the elements of word k as its digits, from the lowest position on, and no digit past them
+pub record IsPart (rises : Bool) (bits head len k : ℕ) (bit : ℕ → Bool) (v : ℕ) : Type 0 where
+  pub digits : (j : ℕ) → j < len → (head + j) / bits ≡ k → digit v (part_step rises bits head len k j) ≡ bit j
+  pub past : (p : ℕ) → stretch_end bits head len k - stretch_start bits head k ≤ p → digit v p ≡ false
+
+-- a number has the elements of word k as those of its digits that they are in the number of the whole list, and no other
+pub record IsPlaced (big : Bool) (bits : ℕ) (rises : Bool) (head len k : ℕ) (bit : ℕ → Bool) (r : ℕ) : Type 0 where
+  pub digits : (j : ℕ) → j < len → digit r (digit_place big bits rises head len j) ≡ (((head + j) / bits == k) && bit j)
+  pub past : (q : ℕ) → len ≤ q → digit r q ≡ false
+
+-- the digits of v moved up in r, a number of at most so many digits
+pub record IsMovedUp (up most v r : ℕ) : Type 0 where
+  pub below : r < 2 ^ most
+  pub low : (p : ℕ) → p < up → digit r p ≡ false
+  pub moved : (p : ℕ) → up + p < most → digit r (up + p) ≡ digit v p
+
+-- the digits of w moved down in v, numbers of at most so many digits
+pub record IsMovedDown (down most w v : ℕ) : Type 0 where
+  pub below : v < 2 ^ most
+  pub moved : (p : ℕ) → down + p < most → digit v p ≡ digit w (down + p)
+  pub high : (p : ℕ) → p < most → most ≤ down + p → digit v p ≡ false
+
+module _ (bits head len k : ℕ) (bit : ℕ → Bool) (some : 0 < bits) (in_head : head < bits) (met : k < words_met bits head len) where
+  -- `w` has the elements where the word has them, and `v` is `w` moved down
+  module _ (at : ℕ → ℕ) (w : ℕ) (is_word : (i : ℕ) → i < bits → digit w (at i) ≡ (nat_le head (k * bits + i) && bit (k * bits + i - head))) where
+    at_element : (i j : ℕ) → i < bits → head + j ≡ k * bits + i → digit w (at i) ≡ bit j
+    at_element i j below is =
+        let back : k * bits + i - head ≡ j = omega (arith, is) in
+        is_word i below ∙ rw (le-leb head (k * bits + i) (omega (arith, is))) (ap bit back)
+
+    past_part : (rises : Bool) (p : ℕ) → IsSequential bits rises at → ((j : ℕ) → len ≤ j → bit j ≡ false) → stretch_end bits head len k - stretch_start bits head k ≤ p
+        → part_shift rises bits head len k + p < bits → digit w (part_shift rises bits head len k + p) ≡ false
+    past_part true p law none h within =
+        let bounds = met_bounds bits head len k some in_head met in
+        let i = part_shift true bits head len k + p in
+        ap (digit w) (sym (law.positions (part_shift true bits head len k + p) within))
+        ∙ is_word (part_shift true bits head len k + p) within
+        ∙ and_right _ _ (none (k * bits + (part_shift true bits head len k + p) - head) (omega (arith, bounds, h, within)))
+    past_part false p law none h within =
+        let bounds = met_bounds bits head len k some in_head met in
+        let back : part_shift false bits head len k + p ≡ bits - 1 - (bits - 1 - (part_shift false bits head len k + p)) = omega (arith, within) in
+        let inside : bits - 1 - (part_shift false bits head len k + p) < bits = omega (arith, some) in
+        ap (digit w) (back ∙ sym (law.positions (bits - 1 - (part_shift false bits head len k + p)) inside))
+        ∙ is_word (bits - 1 - (part_shift false bits head len k + p)) inside
+        ∙ rw (lt-leb head (k * bits + (bits - 1 - (part_shift false bits head len k + p))) (omega (arith, bounds, h, within))) refl
+
+    pub part_moved : (rises : Bool) (v : ℕ) → IsSequential bits rises at → ((j : ℕ) → len ≤ j → bit j ≡ false) → IsMovedDown (part_shift rises bits head len k) bits w v → IsPart rises bits head len k bit v
+    part_moved rises v law none down = record {
+      digits = λ j h word.
+          let lies = position_in_part bits head len some in_head j k h word rises in
+          let parts = div-add-mod' (head + j) bits in
+          let product : (head + j) / bits * bits ≡ k * bits = ap (λ n. n * bits) word in
+          let small = mod_below (head + j) bits some in
+          down.moved (part_step rises bits head len k j) lies.1
+          ∙ ap (digit w) (sym (law.positions ((head + j) % bits) small ∙ lies.0))
+          ∙ at_element ((head + j) % bits) j small (omega (arith, parts, product));
+      past = λ p h. elim (cases_lt p bits) [
+        | inr above ↦ digit_above v bits p down.below above
+        | inl below ↦ elim (cases_lt (part_shift rises bits head len k + p) bits) [
+          | inr out ↦ down.high p below out
+          | inl within ↦ down.moved p within ∙ past_part rises p law none h within
+        ]
+      ];
+    }
+
+  -- the element of word k that is digit q
+  element_at : (big rises : Bool) (q : ℕ) → part_place big bits head len k ≤ q → q - part_place big bits head len k < stretch_end bits head len k - stretch_start bits head k
+      → (i : ℕ) × (i < len) × ((head + i) / bits ≡ k) × (digit_place big bits rises head len i ≡ q)
+  element_at big rises q from near = there rises
+    where
+      named : (rises : Bool) (i : ℕ) → stretch_start bits head k ≤ i → i < stretch_end bits head len k → part_place big bits head len k + part_step rises bits head len k i ≡ q
+          → (i : ℕ) × (i < len) × ((head + i) / bits ≡ k) × (digit_place big bits rises head len i ≡ q)
+      named rises i from_start upto is =
+          let word = from_stretch bits head len k some in_head i from_start upto in
+          let h : i < len = omega (arith, upto) in
+          (i, h, word, place_in_part bits head len some in_head i k h word big rises ∙ is)
+
+      there : (rises : Bool) → (i : ℕ) × (i < len) × ((head + i) / bits ≡ k) × (digit_place big bits rises head len i ≡ q)
+      there true = named true (stretch_start bits head k + (q - part_place big bits head len k)) (omega arith) (omega (arith, near)) (omega (arith, from))
+      there false = named false (stretch_end bits head len k - 1 - (q - part_place big bits head len k)) (omega (arith, near)) (omega (arith, near)) (omega (arith, from, near))
+
+  pub part_placed : (big rises : Bool) (most v r : ℕ) → len ≤ most → IsPart rises bits head len k bit v → IsMovedUp (part_place big bits head len k) most v r → IsPlaced big bits rises head len k bit r
+  part_placed big rises most v r long part up = record {
+    digits = λ j h. elim (cases_eq ((head + j) / bits) k) [
+      | inl same ↦ (
+          let within = step_within bits head len some in_head j k h same big rises in
+          rw (eq-eqb ((head + j) / bits) k same) (
+          ap (digit r) (place_in_part bits head len some in_head j k h same big rises)
+          ∙ up.moved (part_step rises bits head len k j) (omega (arith, within, long))
+          ∙ part.digits j h same))
+      | inr differ ↦ (
+          let law = digit_places bits head len some in_head big rises in
+          rw (ne_eqb ((head + j) / bits) k differ) (elsewhere (digit_place big bits rises head len j) (law.below j h)
+          (λ from near. let i = element_at big rises (digit_place big bits rises head len j) from near in differ (ap (λ n. (head + n) / bits) (sym (law.apart i.0 j i.1 h i.3)) ∙ i.2))))
+    ];
+    past = λ q h. elim (cases_lt q most) [
+      | inr above ↦ digit_above r most q up.below above
+      | inl within ↦ (
+          let room = place_room big in
+          past_at q (omega (arith, h, room)) within (omega (arith, h, room)))
+    ];
+  }
+    where
+      place_room : (big : Bool) → part_place big bits head len k + (stretch_end bits head len k - stretch_start bits head k) ≤ len
+      place_room true = let bounds = met_bounds bits head len k some in_head met in omega (arith, bounds)
+      place_room false = let bounds = met_bounds bits head len k some in_head met in omega (arith, bounds)
+
+      past_at : (q : ℕ) → part_place big bits head len k ≤ q → q < most → stretch_end bits head len k - stretch_start bits head k ≤ q - part_place big bits head len k → digit r q ≡ false
+      past_at q from within far =
+          let e : q ≡ part_place big bits head len k + (q - part_place big bits head len k) = omega (arith, from) in
+          ap (digit r) e ∙ up.moved (q - part_place big bits head len k) (omega (arith, from, within)) ∙ part.past (q - part_place big bits head len k) far
+
+      elsewhere : (q : ℕ) → q < len → (part_place big bits head len k ≤ q → q - part_place big bits head len k < stretch_end bits head len k - stretch_start bits head k → ⊥) → digit r q ≡ false
+      elsewhere q h apart =
+          elim (cases_lt q (part_place big bits head len k)) [
+            | inl below ↦ up.low q below
+            | inr from ↦ elim (cases_lt (q - part_place big bits head len k) (stretch_end bits head len k - stretch_start bits head k)) [
+              | inl near ↦ absurd (apart from near)
+              | inr far ↦ past_at q from (omega (arith, h, long)) far
+            ]
+          ]
+
+-- ---- all words
 
 -- one word more
 pub more_words : (word k : ℕ) (e a b c : Bool) → a ≡ (nat_lt word k && e) → b ≡ ((word == k) && e) → c ≡ (a || b) → c ≡ (nat_lt word (k + 1) && e)
@@ -284,44 +312,38 @@ more_words word k e a b c is_a is_b is_c =
 pub no_words : (word : ℕ) (e : Bool) → false ≡ (nat_lt word 0 && e)
 no_words word e = rw (le-ltb word 0 (omega arith)) refl
 
-pub length-field : (big : Bool) (bits : ℕ) (rises : Bool) (head : ℕ) (xs : List Bool) → length (field_bits big bits rises head xs) ≡ length xs
-length-field true bits rises head xs = length-reverse (turned_in_words rises bits head xs) ∙ length-turned rises bits head xs
-length-field false bits rises head xs = length-turned (not rises) bits head xs
+-- a number with the elements of every word is the list's
+pub all_words : (big rises : Bool) (bits head : ℕ) (xs : List Bool) (n most : ℕ) → 0 < bits → head < bits → n < 2 ^ most
+    → ((j : ℕ) → j < length xs → digit n (digit_place big bits rises head (length xs) j) ≡ (nat_lt ((head + j) / bits) (words_met bits head (length xs)) && element xs j))
+    → ((q : ℕ) → length xs ≤ q → digit n q ≡ false) → n ≡ field_number big bits rises head xs
+all_words big rises bits head xs n most some in_head small digits past =
+    number_of-from_digits (length xs) (digit_place big bits rises head (length xs)) (element xs) n (digit_places bits head (length xs) some in_head big rises) (small_from_digits n most (length xs) small past)
+    (λ j h. digits j h ∙ rw (lt-ltb ((head + j) / bits) (words_met bits head (length xs)) (met_word bits head (length xs) j some h)) refl)
 
-met_word_at : (big : Bool) (bits head len q : ℕ) → 0 < bits → q < len → word_at big bits head len q < words_met bits head len
-met_word_at true bits head len q some h = met_word bits head len (len - 1 - q) some (omega arith)
-met_word_at false bits head len q some h = met_word bits head len q some h
+-- ---- the digits of a list's number
 
--- all words
-pub all_words : (big rises : Bool) (bits head : ℕ) (xs : List Bool) (n most : ℕ) → 0 < bits → n < 2 ^ most → length xs ≤ most
-    → ((q : ℕ) → q < most → digit n q ≡ (nat_lt (word_at big bits head (length xs) q) (words_met bits head (length xs)) && element (field_bits big bits rises head xs) q))
-    → n ≡ number_with (field_bits big bits rises head xs)
-all_words big rises bits head xs n most some small long digits =
-    let same = length-field big bits rises head xs in
-    number_with-from_digits (field_bits big bits rises head xs) n most small (omega (arith, same)) (λ q h.
-    digits q h
-    ∙ elim (cases_lt q (length xs)) [
-      | inl inside ↦ (rw (lt-ltb (word_at big bits head (length xs) q) (words_met bits head (length xs)) (met_word_at big bits head (length xs) q some inside)) refl)
-      | inr past ↦ (
-          let out : element (field_bits big bits rises head xs) q ≡ false = get_or_past (field_bits big bits rises head xs) q false (omega (arith, same)) in
-          and_right _ _ out ∙ sym out)
-    ])
+module _ (bits head n : ℕ) (xs : List Bool) (some : 0 < bits) (in_head : head < bits) where
+  pub field_digit : (big rises : Bool) → n ≡ field_number big bits rises head xs → (j : ℕ) → j < length xs → digit n (digit_place big bits rises head (length xs) j) ≡ element xs j
+  field_digit big rises is j h =
+      ap (λ m. digit m (digit_place big bits rises head (length xs) j)) is
+      ∙ digit-number_of_at (length xs) (digit_place big bits rises head (length xs)) (element xs) j (digit_places bits head (length xs) some in_head big rises) h
+
+  pub field_past : (big rises : Bool) → n ≡ field_number big bits rises head xs → (j : ℕ) → length xs ≤ j → digit n j ≡ false
+  field_past big rises is j h =
+      let law = digit_places bits head (length xs) some in_head big rises in
+      ap (λ m. digit m j) is ∙ digit_above (field_number big bits rises head xs) (length xs) j (number_of_below (length xs) (digit_place big bits rises head (length xs)) (element xs) (length xs) (λ i inside passes. law.below i inside)) h
+
+  pub le_rising : (rises : Bool) → n ≡ field_number false bits rises head xs → rises ≡ true → (j : ℕ) → j < length xs → digit n j ≡ element xs j
+  le_rising true is e j h = field_digit false true is j h
+  le_rising false is e j h = absurd cc
+
+  pub be_falling : (rises : Bool) → n ≡ field_number true bits rises head xs → rises ≡ false → (j : ℕ) → j < length xs → digit n j ≡ element xs (length xs - 1 - j)
+  be_falling false is e j h =
+      let back : length xs - 1 - (length xs - 1 - j) ≡ j = omega (arith, h) in
+      ap (digit n) (sym back) ∙ field_digit true false is (length xs - 1 - j) (omega (arith, h))
+  be_falling true is e j h = absurd cc
 
 -- an option that is not absent
 pub some_unless : {A : Type 0} (o : Option A) → (IsNone o → ⊥) → IsSome o
 some_unless None h = absurd (h refl)
 some_unless (Some x) h = refl
-
--- the digits of the number of a list that is turned round or not
-pub field_past : (big : Bool) (bits : ℕ) (rises : Bool) (head n : ℕ) (xs : List Bool) → n ≡ number_with (field_bits big bits rises head xs) → (j : ℕ) → length xs ≤ j → digit n j ≡ false
-field_past big bits rises head n xs is j h =
-    ap (λ m. digit m j) is ∙ digit-number_with (field_bits big bits rises head xs) j
-    ∙ get_or_past (field_bits big bits rises head xs) j false (let same = length-field big bits rises head xs in omega (arith, same))
-
-pub le_rising : (bits : ℕ) (rises : Bool) (head n : ℕ) (xs : List Bool) → n ≡ number_with (le_bits bits rises head xs) → rises ≡ true → (j : ℕ) → digit n j ≡ element xs j
-le_rising bits true head n xs is e j = ap (λ m. digit m j) is ∙ digit-number_with xs j
-le_rising bits false head n xs is e j = absurd cc
-
-pub be_falling : (bits : ℕ) (rises : Bool) (head n : ℕ) (xs : List Bool) → n ≡ number_with (be_bits bits rises head xs) → rises ≡ false → (j : ℕ) → j < length xs → digit n j ≡ element xs (length xs - 1 - j)
-be_falling bits false head n xs is e j h = ap (λ m. digit m j) is ∙ digit-number_with (reverse xs) j ∙ get_or-reverse xs j false h
-be_falling bits true head n xs is e j h = absurd cc

@@ -1,7 +1,7 @@
+pub mod ByteNumbers
 pub mod CountLemmas
 mod EqualLemmas
 pub mod FieldLemmas
-pub mod FieldPartLemmas
 pub mod FieldStoreLemmas
 pub mod FindLemmas
 mod IterLemmas

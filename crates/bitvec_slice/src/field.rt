@@ -12,10 +12,8 @@ ghost use Rattle.bitvec.specs.Digit.{digit};
 ghost use Rattle.bitvec.specs.Place.{words_met};
 ghost use Rattle.bitvec.specs.Slot.{slot_of, EditsPart};
 ghost use Rattle.bitvec.specs.Span.{Fits, element};
-ghost use Rattle.bitvec_slice.specs.Field.{IsSequential, stretch_start, stretch_end, shift_at};
-ghost use Rattle.bitvec_slice.specs.Field.{place_in, word_at, le_bits, be_bits, field_bits};
-ghost use Rattle.bitvec_slice.specs.Field.{le_list, be_list, field_list, number_with};
-ghost use Rattle.bitvec_slice.specs.Field.{lowest_digits, HasParts};
+ghost use Rattle.bitvec_slice.specs.Field.{IsSequential, stretch_start, stretch_end};
+ghost use Rattle.bitvec_slice.specs.Field.{digit_place, field_number, field_list};
 
 use crate::slice::{BitSlice, BitSliceMut};
 use bitvec::mem::BitRegister;
@@ -79,7 +77,10 @@ fn stretch<R: BitRegister, O>(span: BitSpan<R, O>, k: usize) -> (usize, usize)
 // How far up in its word the least digit of the `k`-th word's part lies.
 fn shift<R: BitRegister, O: Sequential<R>>(span: BitSpan<R, O>, k: usize) -> u8
     requires { k < words_met R.BITS (span_of span).head (span_of span).len }
-    ensures value { result ≡ shift_at R.BITS O.RISES (span_of span).head (span_of span).len k }
+    ensures value { result ≡ (if O.RISES
+        then stretch_start R.BITS (span_of span).head k + (span_of span).head - k * R.BITS
+        else k * R.BITS + R.BITS - ((span_of span).head
+        + stretch_end R.BITS (span_of span).head (span_of span).len k)) }
     ensures below { result < R.BITS }
 {
     let width = usize::from(R::BITS);
@@ -97,7 +98,9 @@ fn shift<R: BitRegister, O: Sequential<R>>(span: BitSpan<R, O>, k: usize) -> u8
 fn place<R: BitRegister, O, N: BitRegister>(span: BitSpan<R, O>, k: usize, big: bool) -> u8
     requires met { k < words_met R.BITS (span_of span).head (span_of span).len }
     requires small { (span_of span).len ≤ N.BITS }
-    ensures value { result ≡ place_in big R.BITS (span_of span).head (span_of span).len k }
+    ensures value { result ≡ (if big
+        then (span_of span).len - stretch_end R.BITS (span_of span).head (span_of span).len k
+        else stretch_start R.BITS (span_of span).head k) }
     ensures below { result < N.BITS }
 {
     let (start, end) = stretch(span, k);
@@ -112,12 +115,13 @@ fn place<R: BitRegister, O, N: BitRegister>(span: BitSpan<R, O>, k: usize, big: 
 fn load_part<R: BitRegister, O: Sequential<R>>(span: BitSpan<R, O>, memory: &[R], k: usize) -> R
     requires fits { Fits R.BITS (span_of span) (length memory.now) }
     requires met { k < words_met R.BITS (span_of span).head (span_of span).len }
-    ensures { (p : ℕ) → digit (R.number result) p
-        ≡ (nat_lt (stretch_start R.BITS (span_of span).head k + p)
-        (stretch_end R.BITS (span_of span).head (span_of span).len k)
-        && element (le_bits R.BITS O.RISES (span_of span).head
-        (list_by span O.at_of memory.now))
-        (stretch_start R.BITS (span_of span).head k + p)) }
+    ensures digits { (j : ℕ) → j < (span_of span).len → ((span_of span).head + j) / R.BITS ≡ k
+        → digit (R.number result) (if O.RISES
+        then j - stretch_start R.BITS (span_of span).head k
+        else stretch_end R.BITS (span_of span).head (span_of span).len k - 1 - j)
+        ≡ element (list_by span O.at_of memory.now) j }
+    ensures past { (p : ℕ) → stretch_end R.BITS (span_of span).head (span_of span).len k
+        - stretch_start R.BITS (span_of span).head k ≤ p → digit (R.number result) p ≡ false }
 {
     span.part(memory, k)
         .load_value()
@@ -134,10 +138,11 @@ fn load_digits<R: BitRegister, O: Sequential<R>, N: BitRegister>(
     requires fits { Fits R.BITS (span_of span) (length memory.now) }
     requires met { k < words_met R.BITS (span_of span).head (span_of span).len }
     requires small { (span_of span).len ≤ N.BITS }
-    ensures { (q : ℕ) → q < N.BITS → digit (N.number result) q
-        ≡ ((word_at big R.BITS (span_of span).head (span_of span).len q == k)
-        && element (field_bits big R.BITS O.RISES (span_of span).head
-        (list_by span O.at_of memory.now)) q) }
+    ensures digits { (j : ℕ) → j < (span_of span).len → digit (N.number result)
+        (digit_place big R.BITS O.RISES (span_of span).head (span_of span).len j)
+        ≡ ((((span_of span).head + j) / R.BITS == k)
+        && element (list_by span O.at_of memory.now) j) }
+    ensures past { (q : ℕ) → (span_of span).len ≤ q → digit (N.number result) q ≡ false }
 {
     let part = load_part(span, memory, k).to_u128();
     N::from_u128(part)
@@ -153,11 +158,8 @@ fn load<R: BitRegister, O: Sequential<R>, N: BitRegister>(
 ) -> N
     requires fits { Fits R.BITS (span_of span) (length memory.now) }
     requires small { (span_of span).len ≤ N.BITS }
-    ensures number { N.number result
-        ≡ number_with (field_bits big R.BITS O.RISES (span_of span).head
-        (list_by span O.at_of memory.now)) }
-    ensures parts { HasParts big R.BITS O.RISES (span_of span) (map R.number memory.now)
-        (N.number result) }
+    ensures { N.number result ≡ field_number big R.BITS O.RISES (span_of span).head
+        (list_by span O.at_of memory.now) }
 {
     let mut number = N::ZERO;
     for k in 0..span.elements() {
@@ -177,8 +179,8 @@ fn word_digits<R: BitRegister, O: Sequential<R>, N: BitRegister>(
     requires small { (span_of span).len ≤ N.BITS }
     ensures { (j : ℕ) → j < (span_of span).len → ((span_of span).head + j) / R.BITS ≡ k
         → digit (R.number result) (O.at_of (((span_of span).head + j) % R.BITS))
-        ≡ element (field_list big R.BITS O.RISES (span_of span).head
-        (lowest_digits (span_of span).len (N.number value))) j }
+        ≡ digit (N.number value)
+        (digit_place big R.BITS O.RISES (span_of span).head (span_of span).len j) }
 {
     let digits = value.shr(place::<R, O, N>(span, k, big)).to_u128();
     let part = digits & R::ALL.to_u128();
@@ -215,12 +217,10 @@ fn store<R: BitRegister, O: Sequential<R>, N: BitRegister>(
     requires small { length (list_by span O.at_of memory.old) ≤ N.BITS }
     ensures stored { Becomes span O.at_of memory.old memory.new
         (field_list big R.BITS O.RISES (span_of span).head
-        (lowest_digits (length (list_by span O.at_of memory.old)) (N.number value))) }
-    ensures loaded { number_with (field_bits big R.BITS O.RISES (span_of span).head
-        (list_by span O.at_of memory.new))
+        (length (list_by span O.at_of memory.old)) (N.number value)) }
+    ensures loaded { field_number big R.BITS O.RISES (span_of span).head
+        (list_by span O.at_of memory.new)
         ≡ N.number value % 2 ^ length (list_by span O.at_of memory.old) }
-    ensures parts { HasParts big R.BITS O.RISES (span_of span) (map R.number memory.new)
-        (N.number value) }
 {
     for k in 0..span.elements() {
         let word = word_digits(span, k, value, big);
@@ -237,9 +237,10 @@ impl<'a, R: BitRegister, O: Sequential<R>> BitSlice<'a, R, O> {
     pub fn load_le<N: BitRegister>(&self) -> N
         requires { slice_len self.now ≤ N.BITS }
         ensures number { N.number result
-            ≡ number_with (le_bits R.BITS O.RISES (slice_span self.now).head (bits_of self.now)) }
-        ensures parts { HasParts false R.BITS O.RISES (slice_span self.now)
-            (map R.number (slice_memory self.now)) (N.number result) }
+            ≡ field_number false R.BITS O.RISES (slice_span self.now).head (bits_of self.now) }
+        ensures digits { (j : ℕ) → j < length (bits_of self.now) → digit (N.number result)
+            (digit_place false R.BITS O.RISES (slice_span self.now).head (length (bits_of self.now)) j)
+            ≡ element (bits_of self.now) j }
         ensures rising { O.RISES ≡ true → (j : ℕ) → j < length (bits_of self.now)
             → digit (N.number result) j ≡ element (bits_of self.now) j }
         ensures past { (j : ℕ) → length (bits_of self.now) ≤ j
@@ -254,9 +255,10 @@ impl<'a, R: BitRegister, O: Sequential<R>> BitSlice<'a, R, O> {
     pub fn load_be<N: BitRegister>(&self) -> N
         requires { slice_len self.now ≤ N.BITS }
         ensures number { N.number result
-            ≡ number_with (be_bits R.BITS O.RISES (slice_span self.now).head (bits_of self.now)) }
-        ensures parts { HasParts true R.BITS O.RISES (slice_span self.now)
-            (map R.number (slice_memory self.now)) (N.number result) }
+            ≡ field_number true R.BITS O.RISES (slice_span self.now).head (bits_of self.now) }
+        ensures digits { (j : ℕ) → j < length (bits_of self.now) → digit (N.number result)
+            (digit_place true R.BITS O.RISES (slice_span self.now).head (length (bits_of self.now)) j)
+            ≡ element (bits_of self.now) j }
         ensures falling { O.RISES ≡ false → (j : ℕ) → j < length (bits_of self.now)
             → digit (N.number result) j
             ≡ element (bits_of self.now) (length (bits_of self.now) - 1 - j) }
@@ -276,9 +278,10 @@ impl<'a, R: BitRegister, O: Sequential<R>> BitSliceMut<'a, R, O> {
     pub fn load_le<N: BitRegister>(&self) -> N
         requires { lent_len self.now ≤ N.BITS }
         ensures number { N.number result
-            ≡ number_with (le_bits R.BITS O.RISES (lent_span self.now).head (lent_bits self.now)) }
-        ensures parts { HasParts false R.BITS O.RISES (lent_span self.now) (lent_words self.now)
-            (N.number result) }
+            ≡ field_number false R.BITS O.RISES (lent_span self.now).head (lent_bits self.now) }
+        ensures digits { (j : ℕ) → j < length (lent_bits self.now) → digit (N.number result)
+            (digit_place false R.BITS O.RISES (lent_span self.now).head (length (lent_bits self.now)) j)
+            ≡ element (lent_bits self.now) j }
         ensures rising { O.RISES ≡ true → (j : ℕ) → j < length (lent_bits self.now)
             → digit (N.number result) j ≡ element (lent_bits self.now) j }
         ensures past { (j : ℕ) → length (lent_bits self.now) ≤ j
@@ -292,9 +295,10 @@ impl<'a, R: BitRegister, O: Sequential<R>> BitSliceMut<'a, R, O> {
     pub fn load_be<N: BitRegister>(&self) -> N
         requires { lent_len self.now ≤ N.BITS }
         ensures number { N.number result
-            ≡ number_with (be_bits R.BITS O.RISES (lent_span self.now).head (lent_bits self.now)) }
-        ensures parts { HasParts true R.BITS O.RISES (lent_span self.now) (lent_words self.now)
-            (N.number result) }
+            ≡ field_number true R.BITS O.RISES (lent_span self.now).head (lent_bits self.now) }
+        ensures digits { (j : ℕ) → j < length (lent_bits self.now) → digit (N.number result)
+            (digit_place true R.BITS O.RISES (lent_span self.now).head (length (lent_bits self.now)) j)
+            ≡ element (lent_bits self.now) j }
         ensures falling { O.RISES ≡ false → (j : ℕ) → j < length (lent_bits self.now)
             → digit (N.number result) j
             ≡ element (lent_bits self.now) (length (lent_bits self.now) - 1 - j) }
@@ -310,12 +314,10 @@ impl<'a, R: BitRegister, O: Sequential<R>> BitSliceMut<'a, R, O> {
     pub fn store_le<N: BitRegister>(&mut self, value: N)
         requires { lent_len self.old ≤ N.BITS }
         ensures stored { BecomesBits self.old self.new
-            (le_list R.BITS O.RISES (lent_span self.old).head
-            (lowest_digits (length (lent_bits self.old)) (N.number value))) }
-        ensures loaded { number_with (le_bits R.BITS O.RISES (lent_span self.new).head
-            (lent_bits self.new)) ≡ N.number value % 2 ^ length (lent_bits self.old) }
-        ensures parts { HasParts false R.BITS O.RISES (lent_span self.new) (lent_words self.new)
-            (N.number value) }
+            (field_list false R.BITS O.RISES (lent_span self.old).head
+            (length (lent_bits self.old)) (N.number value)) }
+        ensures loaded { field_number false R.BITS O.RISES (lent_span self.new).head
+            (lent_bits self.new) ≡ N.number value % 2 ^ length (lent_bits self.old) }
     {
         let span = self.span();
         let memory = &mut *self.memory;
@@ -328,12 +330,10 @@ impl<'a, R: BitRegister, O: Sequential<R>> BitSliceMut<'a, R, O> {
     pub fn store_be<N: BitRegister>(&mut self, value: N)
         requires { lent_len self.old ≤ N.BITS }
         ensures stored { BecomesBits self.old self.new
-            (be_list R.BITS O.RISES (lent_span self.old).head
-            (lowest_digits (length (lent_bits self.old)) (N.number value))) }
-        ensures loaded { number_with (be_bits R.BITS O.RISES (lent_span self.new).head
-            (lent_bits self.new)) ≡ N.number value % 2 ^ length (lent_bits self.old) }
-        ensures parts { HasParts true R.BITS O.RISES (lent_span self.new) (lent_words self.new)
-            (N.number value) }
+            (field_list true R.BITS O.RISES (lent_span self.old).head
+            (length (lent_bits self.old)) (N.number value)) }
+        ensures loaded { field_number true R.BITS O.RISES (lent_span self.new).head
+            (lent_bits self.new) ≡ N.number value % 2 ^ length (lent_bits self.old) }
     {
         let span = self.span();
         let memory = &mut *self.memory;

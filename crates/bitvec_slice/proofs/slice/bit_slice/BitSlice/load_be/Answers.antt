@@ -1,7 +1,7 @@
 use Rattle.std.proofs.Common.{true, map, arith}
 use Rattle.bitvec.proofs.PartLemmas.{length-list_of}
 use Rattle.bitvec_slice.specs.BitSlice.{slice_memory, slice_span, bits_of}
-use Rattle.bitvec_slice.proofs.FieldLemmas.{field_past, be_falling}
+use Rattle.bitvec_slice.proofs.FieldLemmas.{field_digit, field_past, be_falling}
 use Rattle.bitvec_slice.proofs.slice.bit_slice.BitSlice.load_be.Goals as goal
 
 pub load-requires-clause-small : goal.load-requires-clause-small
@@ -9,12 +9,20 @@ load-requires-clause-small g c =
     let slice = c.args.self.now in
     omega (arith, c.requires, length-list_of g.R.BitRegister.BITS g.O.BitAt.at_of (slice_span slice) (map g.R.BitRegister.number (slice_memory slice)))
 
+pub returns-clause-digits : goal.returns-clause-digits
+returns-clause-digits g c =
+    let slice = c.args.self.now in
+    let eight = g.met.R.BitRegister.width_at_least_8 in
+    field_digit g.R.BitRegister.BITS (slice_span slice).head (g.N.BitRegister.number c.load.result) (bits_of slice) (omega (arith, eight)) (omega (arith, slice.span.in_word, eight)) true g.O.Sequential.RISES c.load.ensures
+
 pub returns-clause-falling : goal.returns-clause-falling
 returns-clause-falling g c =
     let slice = c.args.self.now in
-    be_falling g.R.BitRegister.BITS g.O.Sequential.RISES (slice_span slice).head (g.N.BitRegister.number c.load.result) (bits_of slice) c.load.ensures.number
+    let eight = g.met.R.BitRegister.width_at_least_8 in
+    be_falling g.R.BitRegister.BITS (slice_span slice).head (g.N.BitRegister.number c.load.result) (bits_of slice) (omega (arith, eight)) (omega (arith, slice.span.in_word, eight)) g.O.Sequential.RISES c.load.ensures
 
 pub returns-clause-past : goal.returns-clause-past
 returns-clause-past g c =
     let slice = c.args.self.now in
-    field_past true g.R.BitRegister.BITS g.O.Sequential.RISES (slice_span slice).head (g.N.BitRegister.number c.load.result) (bits_of slice) c.load.ensures.number
+    let eight = g.met.R.BitRegister.width_at_least_8 in
+    field_past g.R.BitRegister.BITS (slice_span slice).head (g.N.BitRegister.number c.load.result) (bits_of slice) (omega (arith, eight)) (omega (arith, slice.span.in_word, eight)) true g.O.Sequential.RISES c.load.ensures

@@ -1,8 +1,8 @@
-use Rattle.std.proofs.Common.{map, length, refl, sym, arith}
+use Rattle.std.proofs.Common.{false, map, length, refl, sym, arith}
 use Rattle.bitvec.specs.BitSpan.{span_of}
 use Rattle.bitvec.specs.Span.{Span, list_of}
 use Rattle.bitvec_slice.specs.BitSliceMut.{lent_span, lent_words}
-use Rattle.bitvec_slice.specs.Field.{le_list, lowest_digits}
+use Rattle.bitvec_slice.specs.Field.{field_list}
 use Rattle.bitvec_slice.proofs.SpanEdits.{edit-named, len-is}
 use Rattle.bitvec_slice.proofs.slice.bit_slice_mut.BitSliceMut.store_le.Goals as goal
 
@@ -20,8 +20,7 @@ returns-clause-stored g c =
     let old = lent_words c.args.self.now in
     let new = map g.R.BitRegister.number c.store.new.memory in
     let value = g.N.BitRegister.number c.args.value in
-    let digits = λ (s : Span). lowest_digits (length (list_of width at s old)) value in
-    let bits = λ (s : Span). le_list width g.O.Sequential.RISES s.head (digits s) in
+    let bits = λ (s : Span). field_list false width g.O.Sequential.RISES s.head (length (list_of width at s old)) value in
     let span = lent_span c.args.self.now in
     let edit = edit-named width at (span_of c.span-span.result) span old new bits c.span-span.ensures c.store.ensures.stored in
     (edit.list, refl, refl, edit)
