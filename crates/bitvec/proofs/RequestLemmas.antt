@@ -48,7 +48,8 @@ one_reply number bits at view spans old request reply is n other found =
 -- the request names a span, and its command's step through that span gets the reply, and makes the
 -- memory `new` of `old`
 pub record IsRequestStep {S W : Type 0} (number : W → ℕ) (bits : ℕ) (at : ℕ → ℕ) (view : S → Span)
-    (spans : List S) (old : List ℕ) (request : Request W) (reply : Reply ℕ) (new : List ℕ) : Type 0 where
+    (spans : List S) (old : List ℕ) (request : Request W) (reply : Reply ℕ)
+    (new : List ℕ) : Type 0 where
   pub named : S
   pub is_named : slice_get spans request.span ≡ Some named
   pub step : IsStep number bits at (view named) old request.command reply new

@@ -86,16 +86,26 @@ module _ {S W : Type 0} (number : W → ℕ) (bits : ℕ) (at : ℕ → ℕ) (vi
       same_from_indices bits at (slice_index here k) (slice_index there k) law below other_below (λ i in_word.
       sym (bit_of-word bits at here k i in_word) ∙ same_bit fits (k * bits + i) ∙ bit_of-word bits at there k i in_word)
 
+  same_memory : All (λ span. Fits bits (view span) (length old)) spans → IsOneToOne bits at
+      → All (λ word. word < 2 ^ bits) here → All (λ word. word < 2 ^ bits) there → here ≡ there
+  same_memory fits law below other_below =
+      let long : length here ≡ length there =
+      run.placed.as_many_words ∙ sym other_run.placed.as_many_words in
+      same_lists here there long (λ k d h.
+      let within : k < length there = omega (arith, h, long) in
+      get_or_default here k d 0 h
+      ∙ same_number fits law k (below k 0 h) (other_below k 0 within)
+      ∙ sym (get_or_default there k d 0 within))
+
 -- the law, of lists of numbers
 pub same_runs : {W : Type 0} (number : W → ℕ) (bits : ℕ) (at : ℕ → ℕ) → IsOneToOne bits at → OrderBetweenSpansDoesNotMatter number bits at
-same_runs number bits at law spans old here there requests other_requests replies other_replies fits below other_below same run other_run =
-    let long : length here ≡ length there = run.placed.as_many_words ∙ sym other_run.placed.as_many_words in (
-      replies_of_numbers number bits at (λ (x : Span). x) spans old here there requests other_requests replies other_replies same run other_run,
-      same_lists here there long (λ k d h.
-          let within : k < length there = omega (arith, h, long) in
-          get_or_default here k d 0 h
-          ∙ same_number number bits at (λ (x : Span). x) spans old here there requests other_requests replies other_replies same run other_run fits law k (below k 0 h) (other_below k 0 within)
-          ∙ sym (get_or_default there k d 0 within)),
+same_runs number bits at law = λ spans old here there requests other_requests replies other_replies
+    fits below other_below same run other_run.
+    let view : Span → Span = λ x. x in (
+      replies_of_numbers number bits at view spans old here there requests other_requests
+          replies other_replies same run other_run,
+      same_memory number bits at view spans old here there requests other_requests
+          replies other_replies same run other_run fits law below other_below,
     )
 
 -- memories of words below a limit are the same where the words have the same numbers

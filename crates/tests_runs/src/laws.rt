@@ -87,8 +87,8 @@ fn run_turned<R: BitRegister, O: BitOrder<R>, O2: BitOrder<R>>(
         (own_replies s requests.now (map (reply_number R.number) replies.new))
         (own_replies s other_requests.now (map (reply_number R.number) other_replies.new)) }
     ensures same_lists { AllZip (λ span other. list_of R.BITS O.at_of (span_of span)
-        (map R.number here.new) ≡ list_of R.BITS O2.at_of (span_of other) (map R.number there.new))
-        spans.now other_spans.now }
+        (map R.number here.new) ≡ list_of R.BITS O2.at_of (span_of other)
+        (map R.number there.new)) spans.now other_spans.now }
 {
     turned_orders::<R, O, O2>();
     run(spans, here, requests, replies);

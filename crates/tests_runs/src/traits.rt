@@ -148,19 +148,22 @@ fn copied_refusal<R>(refusal: &BitSpanError<R>) -> Result<BitSpanError<R>, Alloc
 // the same.
 
 fn equal_commands<R: Eq>(here: &Command<R>, there: &Command<R>) -> bool
-    ensures { ((a b : R) → IsTrue (R.eq a b) ↔ (a ≡ b)) → (IsTrue result ↔ (here.now ≡ there.now)) }
+    ensures { ((a b : R) → IsTrue (R.eq a b) ↔ (a ≡ b))
+        → (IsTrue result ↔ (here.now ≡ there.now)) }
 {
     *here == *there
 }
 
 fn equal_requests<R: Eq>(here: &Request<R>, there: &Request<R>) -> bool
-    ensures { ((a b : R) → IsTrue (R.eq a b) ↔ (a ≡ b)) → (IsTrue result ↔ (here.now ≡ there.now)) }
+    ensures { ((a b : R) → IsTrue (R.eq a b) ↔ (a ≡ b))
+        → (IsTrue result ↔ (here.now ≡ there.now)) }
 {
     *here == *there
 }
 
 fn equal_replies<R: Eq>(here: &Reply<R>, there: &Reply<R>) -> bool
-    ensures { ((a b : R) → IsTrue (R.eq a b) ↔ (a ≡ b)) → (IsTrue result ↔ (here.now ≡ there.now)) }
+    ensures { ((a b : R) → IsTrue (R.eq a b) ↔ (a ≡ b))
+        → (IsTrue result ↔ (here.now ≡ there.now)) }
 {
     *here == *there
 }

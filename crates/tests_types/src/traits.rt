@@ -205,7 +205,8 @@ fn default_numbers<R: BitRegister>() -> (BitIdx<R>, BitEnd<R>, BitPos<R>, BitMas
 // A fault is its parts.
 
 fn equal_faults<R: BitRegister>(here: OrderFault<R>, there: OrderFault<R>) -> bool
-    ensures { ((a b : R) → IsTrue (R.eq a b) ↔ (a ≡ b)) → (IsTrue result ↔ (here ≡ there)) }
+    ensures { ((a b : R) → IsTrue (R.eq a b) ↔ (a ≡ b))
+        → (IsTrue result ↔ (here ≡ there)) }
 {
     here == there
 }

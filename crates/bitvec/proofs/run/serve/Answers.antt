@@ -16,7 +16,8 @@ returns-then-request-spans g c =
     run-one _ _ _ span_of spans _ _ _ _ can
     (record {
       named = named;
-      is_named = slice_get_read spans _ c.args.request.span named refl (omega arith) c.index-spans-request.is;
+      is_named = slice_get_read spans _ c.args.request.span named refl
+          (omega arith) c.index-spans-request.is;
       step = c.step.ensures;
     })
 

@@ -29,6 +29,11 @@ returns g c = λ span is.
     let edit = becomes-same bits at (span_of named) old mid _ (with_filled xs 0 named.len true) (sym (filled_whole xs named.len true (length-list_of bits at (span_of named) old))) c.fill.ensures in
     rw (← same)
     (run-more number bits at span_of spans old mid _ _ c.args.requests.now _ _
-    (run-one number bits at span_of spans named old mid (record { span = 0; command = Fill 0 named.len true }) Done can (is ∙ ap (λ s. Some s) (sym same))
-    (step-fill number bits at (span_of named) old mid 0 named.len true (omega arith) (omega arith) edit))
+    (run-one number bits at span_of spans old mid
+    (record { span = 0; command = Fill 0 named.len true }) Done can (record {
+      named = named;
+      is_named = is ∙ ap (λ s. Some s) (sym same);
+      step = step-fill number bits at (span_of named) old mid 0 named.len true
+          (omega arith) (omega arith) edit;
+    }))
     c.run.ensures)
