@@ -1,5 +1,5 @@
 -- The number of whole bytes is the one that std reads from them.
-use Rattle.std.proofs.Common.{◌≡◌, ℕ, zero, suc, ◌+◌, ◌-◌, ◌*◌, ◌/◌, ◌%◌, ◌^◌, ◌<◌, ◌≤◌, true, false, List, length, sym, ap, ◌∙◌, refl, inl, inr, arith}
+use Rattle.std.proofs.Common.{◌≡◌, ℕ, zero, suc, ◌+◌, ◌-◌, ◌*◌, ◌/◌, ◌%◌, ◌^◌, ◌<◌, ◌≤◌, true, false, Bool, List, length, sym, ap, ◌∙◌, refl, inl, inr, arith}
 use Rattle.std.specs.Prelude.{slice_index}
 use Rattle.std.specs.Int.{byte_worth, sum_through}
 use Rattle.std.proofs.lemmas.Bool.{cases_lt}
@@ -124,3 +124,11 @@ module _ (n : ℕ) (bs : List ℕ) (long : length bs ≡ suc n) (bytes : (i : �
       ∙ ap (λ k. digit (slice_index bs k) ((length (memory_bits 8 (λ i. 7 - i) bs) - 1 - j) % 8)) row
       ∙ ap (digit (slice_index bs (j / 8))) index
       ∙ sym (get_or-memory_bits 8 (λ i. 7 - i) bs j false (omega (arith, h, many, product)))))
+
+  -- what a slice of the bytes is loaded as
+  module _ (loaded head : ℕ) (xs : List Bool) (start : head ≡ 0) where
+    pub loaded_low_bytes : loaded ≡ field_number false 8 true head xs → xs ≡ memory_bits 8 (λ i. i) bs → loaded ≡ sum_through (λ i. byte_worth i (slice_index bs i)) n
+    loaded_low_bytes is bits = is ∙ (λ i. field_number false 8 true (start i) (bits i)) ∙ number_of_low_bytes
+
+    pub loaded_high_bytes : loaded ≡ field_number true 8 false head xs → xs ≡ memory_bits 8 (λ i. 7 - i) bs → loaded ≡ sum_through (λ i. byte_worth (n - i) (slice_index bs i)) n
+    loaded_high_bytes is bits = is ∙ (λ i. field_number true 8 false (start i) (bits i)) ∙ number_of_high_bytes
