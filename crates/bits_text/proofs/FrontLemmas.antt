@@ -1,12 +1,13 @@
 -- Fronts of texts, behind an old text.
-use Rattle.std.proofs.Common.{◌≡◌, ℕ, ◌+◌, ◌<◌, inl, inr, List, ◌∷◌, ◌++◌, length, get_or, map, take, drop, take_all, sym, subst, ap, ◌∙◌, append_assoc, append-nil, if◌then◌else◌, arith}
+use Rattle.std.proofs.Common.{◌≡◌, ℕ, ◌+◌, inl, inr, List, ◌∷◌, ◌++◌, length, get_or, map, take, drop, take_all, sym, subst, ap, ◌∙◌, append_assoc, append-nil, if◌then◌else◌, arith}
 use Rattle.std.proofs.Math.Seq.{take-append_seam, take-append-add}
-use Rattle.std.specs.Prelude.{Result, Ok, Err, is_ok, OnErr}
+use Rattle.std.specs.Prelude.{Result, Ok, Err, is_ok, OnErr, Some, slice_get}
 use Rattle.std.specs.List.{flat_map}
 use Rattle.std.proofs.lemmas.Bool.{cases_lt}
 use Rattle.std.proofs.lemmas.Grind.{flat_map-append}
 use Rattle.std.proofs.lemmas.List.{take-append-le, take-append-drop, drop_more}
 use Rattle.std.proofs.lemmas.List.Folds.{flat_map-map}
+use Rattle.std.proofs.lemmas.Option.{slice_get_within, get_or_from_slice_get}
 use Rattle.std.proofs.lemmas.Result.{on_err_weaker}
 use Rattle.bits_text.specs.Words.{AppendsFront, hexadecimal, memory_text}
 
@@ -42,9 +43,22 @@ pub first_refused : {R : Type 0} (number : R → ℕ) (first : R) (rest memory :
 first_refused number first rest memory old new whole front =
     subst (λ m. AppendsFront old new (memory_text (map number m))) (sym whole) (AppendsFront-part old new (hexadecimal (number first)) _ front)
 
+-- behind an old text stand the first word and some others, each of these after a comma
+pub record AreWritten {R : Type 0} (number : R → ℕ) (first : R) (others : List R)
+    (old now : List ℕ) : Type 0 where
+  pub mid : List ℕ
+  pub begun : mid ≡ old ++ hexadecimal (number first)
+  pub followed : now ≡ mid ++ flat_map (λ w. 44 ∷ hexadecimal (number w)) others
+
 -- a word after others is refused
-pub next_refused : {R : Type 0} (number : R → ℕ) (first : R) (rest memory : List R) (k : ℕ) (word : R) (old mid now new : List ℕ) → memory ≡ first ∷ rest → k < length rest → word ≡ get_or rest k word → mid ≡ old ++ hexadecimal (number first) → now ≡ mid ++ flat_map (λ w. 44 ∷ hexadecimal (number w)) (take k rest) → AppendsFront now new (44 ∷ hexadecimal (number word)) → AppendsFront old new (memory_text (map number memory))
-next_refused number first rest memory k word old mid now new whole place read begun written front =
+pub next_refused : {R : Type 0} (number : R → ℕ) (first : R) (rest : List R) (k : ℕ) (word : R)
+    (old now new : List ℕ) → slice_get rest k ≡ Some word
+    → AreWritten number first (take k rest) old now
+    → AppendsFront now new (44 ∷ hexadecimal (number word))
+    → AppendsFront old new (memory_text (map number (first ∷ rest)))
+next_refused number first rest k word old now new is written front =
+    let place = slice_get_within rest k word is in
+    let read : word ≡ get_or rest k word = sym (get_or_from_slice_get rest k word word is) in
     let text = λ (w : _). 44 ∷ hexadecimal (number w) in
     let split : take k rest ++ (word ∷ drop (k + 1) rest) ≡ rest =
     ap (λ r. take k rest ++ r) (ap (λ w. w ∷ drop (k + 1) rest) read ∙ sym (drop_more rest k word place)) ∙ take-append-drop k rest in
@@ -52,6 +66,8 @@ next_refused number first rest memory k word old mid now new whole place read be
     sym (flat_map-append text (take k rest) (word ∷ drop (k + 1) rest)) ∙ ap (flat_map text) split in
     let others : flat_map text rest ≡ flat_map (λ m. 44 ∷ hexadecimal m) (map number rest) = sym (flat_map-map (λ m. 44 ∷ hexadecimal m) number rest) in
     let one = AppendsFront-part now new (text word) (flat_map text (drop (k + 1) rest)) front in
-    let two = AppendsFront-behind mid now new (flat_map text (take k rest)) _ written one in
-    let three = AppendsFront-behind old mid new (hexadecimal (number first)) _ begun two in
-    subst (λ m. AppendsFront old new (memory_text (map number m))) (sym whole) (subst (λ t. AppendsFront old new (hexadecimal (number first) ++ t)) (joined ∙ others) three)
+    let mid = written.mid in
+    let before = flat_map text (take k rest) in
+    let two = AppendsFront-behind mid now new before _ written.followed one in
+    let three = AppendsFront-behind old mid new (hexadecimal (number first)) _ written.begun two in
+    subst (λ t. AppendsFront old new (hexadecimal (number first) ++ t)) (joined ∙ others) three

@@ -40,13 +40,29 @@ first_of P [] x k place here before = absurd (omega (arith, place.0))
 first_of P (y ∷ ys) x zero place here before = subst P place.1 here
 first_of P (y ∷ ys) x (suc k) place here before = before (omega arith)
 
+-- each of some texts is a word, and the words have their numbers
+pub record AreWords {R : Type 0} (bits : ℕ) (number : R → ℕ) (texts : List (List ℕ))
+    (words : List R) : Type 0 where
+  pub read : All (IsWordText bits) texts
+  pub same : map number words ≡ map (digits_value 16) texts
+
 -- a word more
-pub words_more : {X R : Type 0} (bits : ℕ) (number : R → ℕ) (now : X → List ℕ) (ys : List X) (y : X) (ws vs : List R) (w : R) → All (IsWordText bits) (map now ys) → map number ws ≡ map (digits_value 16) (map now ys) → IsWordText bits (now y) → number w ≡ digits_value 16 (now y) → vs ≡ ws ++ w ∷ [] → All (IsWordText bits) (map now (ys ++ y ∷ [])) × (map number vs ≡ map (digits_value 16) (map now (ys ++ y ∷ [])))
-words_more bits number now ys y ws vs w all same here is more =
+pub words_more : {X R : Type 0} (bits : ℕ) (number : R → ℕ) (now : X → List ℕ) (ys : List X) (y : X)
+    (ws : List R) (w : R) → AreWords bits number (map now ys) ws
+    → IsWordText bits (now y) → number w ≡ digits_value 16 (now y)
+    → AreWords bits number (map now (ys ++ y ∷ [])) (ws ++ w ∷ [])
+words_more bits number now ys y ws w all here is =
     let e : map now (ys ++ y ∷ []) ≡ map now ys ++ now y ∷ [] = map-append now ys (y ∷ []) in
-    let a : map number vs ≡ map number ws ++ number w ∷ [] = ap (map number) more ∙ map-append number ws (w ∷ []) in
+    let a : map number (ws ++ w ∷ []) ≡ map number ws ++ number w ∷ [] =
+    map-append number ws (w ∷ []) in
     let b : map (digits_value 16) (map now (ys ++ y ∷ [])) ≡ map (digits_value 16) (map now ys) ++ digits_value 16 (now y) ∷ [] = ap (map (digits_value 16)) e ∙ map-append (digits_value 16) (map now ys) (now y ∷ []) in
-    (All-same (IsWordText bits) _ _ e (All-push (IsWordText bits) (map now ys) (now y) all here), cc)
+    let same = all.same in
+    record {
+      read =
+          All-same (IsWordText bits) _ _ e
+          (All-push (IsWordText bits) (map now ys) (now y) all.read here);
+      same = cc;
+    }
 
 -- nor is a number that is too large
 pub too_large : (bits : ℕ) (text : List ℕ) (n : ℕ) → n ≡ digits_value 16 text → 2 ^ bits ≤ n → IsWordText bits text → ⊥

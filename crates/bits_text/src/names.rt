@@ -14,7 +14,8 @@ pub trait Call {
 
     // What an answer says of the call, of the register's name and of the order's positions. A call
     // that promises nothing leaves this as it is.
-    ghost answers: { Self → List ℕ → (ℕ → ℕ) → Self.Answer → Type 0 } = { λ _ _ _ _. ⊤ };
+    ghost answers: { Self → List ℕ → (ℕ → ℕ) → Self.Answer
+        → Type 0 } = { λ _ _ _ _. ⊤ };
 
     /// The answer.
     fn at<R: BitRegister, O: BitOrder<R>>(&self) -> Self::Answer

@@ -1,16 +1,10 @@
 -- Steps through spans and runs of requests, by plain numbers.
-use Rattle.std.proofs.Common.{◌≡◌, ℕ, ◌+◌, ◌<◌, ◌≤◌, List, [], ◌∷◌, length, get_or, take, take_all, sym, subst, arith}
+use Rattle.std.proofs.Common.{◌≡◌, ℕ, ◌<◌, ◌≤◌, List, [], ◌∷◌, ◌++◌, length, get_or, take, take_all, subst, arith}
 use Rattle.std.proofs.lemmas.Int.{ints}
-use Rattle.std.specs.Prelude.{slice_set}
-use Rattle.std.proofs.lemmas.List.{take_more, take_more_set, map_push}
+use Rattle.std.proofs.lemmas.List.{map_push}
 use Rattle.std.proofs.lemmas.List.Elements.{All-append}
 use Rattle.bitvec.proofs.AppendedRuns.{run-more}
-use Rattle.bitvec.proofs.CommandLemmas.{step-same}
-use Rattle.bitvec.specs.Laws.{AreSameCommands, IsSameNumber}
-use Rattle.bitvec.specs.Run.{CanRun, IsStep, IsRun}
-use Rattle.bitvec.specs.Span.{Span}
-use Rattle.bitvec.specs.declared.run.command.Command.{Command}
-use Rattle.bitvec.specs.declared.run.command.Reply.{Reply}
+use Rattle.bitvec.specs.Run.{CanRun, IsRun}
 use Rattle.bitvec_c.specs.Plain.{plain_span, AllInside, AllApart, plain_request, reply_of, IsPlainReply, IsPlainRun}
 use Rattle.bitvec_c.specs.declared.plain.PlainSpan.{PlainSpan}
 use Rattle.bitvec_c.specs.declared.plain.PlainRequest.{PlainRequest}
@@ -24,13 +18,6 @@ can_run_plain bits spans words some inside apart = (
   apart,
 )
 
--- a step by other names of the span, the command and the reply
-pub step_as : {W : Type 0} (number : W → ℕ) (bits : ℕ) (at : ℕ → ℕ) (s t : Span) (old new : List ℕ) (c : Command W) (d : Command ℕ) (r q : Reply ℕ)
-    → s ≡ t → AreSameCommands number (λ n. n) IsSameNumber c d → q ≡ r → IsStep number bits at s old c r new → IsStep (λ n. n) bits at t old d q new
-step_as number bits at s t old new c d r q spans commands replies is =
-    let plain = step-same number (λ n. n) bits at s old new c d r commands is in
-    rw (← spans, replies) plain
-
 -- a run of one request, by plain numbers
 pub one_plain : (bits : ℕ) (at : ℕ → ℕ) (spans : List PlainSpan) (old new : List ℕ) (request : PlainRequest) (reply : PlainReply)
     → IsRun (λ n. n) bits at (plain_span bits) spans old (plain_request bits request ∷ []) (reply_of reply ∷ []) new → IsPlainReply reply
@@ -41,13 +28,17 @@ one_plain bits at spans old new request reply run plain = record {
 }
 
 -- one request more is run
-pub plain_more : (bits : ℕ) (at : ℕ → ℕ) (spans : List PlainSpan) (old mid new : List ℕ) (requests : List PlainRequest) (replies : List PlainReply) (n : ℕ) (none : PlainRequest) (reply : PlainReply)
-    → n < length requests → n < length replies → IsPlainRun bits at spans old (take n requests) (take n replies) mid
-    → IsPlainRun bits at spans mid (get_or requests n none ∷ []) (reply ∷ []) new
-    → IsPlainRun bits at spans old (take (n + 1) requests) (take (n + 1) (slice_set replies n reply)) new
-plain_more bits at spans old mid new requests replies n none reply h k so_far last = record {
-  run = rw (take_more requests n none h, take_more_set replies n reply k, map_push, map_push) (run-more (λ n. n) bits at (plain_span bits) spans old mid new _ _ _ _ so_far.run last.run);
-  plain = rw (take_more_set replies n reply k) (All-append IsPlainReply (take n replies) (reply ∷ []) so_far.plain last.plain);
+pub plain_more : (bits : ℕ) (at : ℕ → ℕ) (spans : List PlainSpan) (old mid new : List ℕ)
+    (requests : List PlainRequest) (replies : List PlainReply)
+    (request : PlainRequest) (reply : PlainReply)
+    → IsPlainRun bits at spans old requests replies mid
+    → IsPlainRun bits at spans mid (request ∷ []) (reply ∷ []) new
+    → IsPlainRun bits at spans old (requests ++ request ∷ []) (replies ++ reply ∷ []) new
+plain_more bits at spans old mid new requests replies request reply so_far last = record {
+  run =
+      rw (map_push, map_push)
+      (run-more (λ n. n) bits at (plain_span bits) spans old mid new _ _ _ _ so_far.run last.run);
+  plain = All-append IsPlainReply replies (reply ∷ []) so_far.plain last.plain;
 }
 
 -- all requests are run

@@ -56,7 +56,8 @@ fn are_used(words: &[u64], at: usize, count: usize) -> bool
 fn mark(words: &mut [u64], at: usize, count: usize, used: bool)
     requires short { length words.old * 64 ≤ region_max_bits }
     requires inside { at + count ≤ length words.old * 64 }
-    ensures blocks { blocks_of words.new ≡ with_filled (blocks_of words.old) at (at + count) used }
+    ensures blocks { blocks_of words.new
+        ≡ with_filled (blocks_of words.old) at (at + count) used }
     ensures words { length words.new ≡ length words.old }
 {
     let mut blocks = BitSliceMut::new_unchecked(span_of_all(words.len()), words);

@@ -103,21 +103,36 @@ pub record StoresField (at : ℕ → ℕ) (start len number s : ℕ) (request : 
   pub is_store : command ≡ Store 0 (shifted_number at start len number)
 
 -- four spans are the fields of a header, and four requests store its numbers, one through each
-pub record StoresHeader {S : Type 0} (view : S → Span) (a b c d : S) (at : ℕ → ℕ) (header : Header) (r0 r1 r2 r3 : Request ℕ) : Type 0 where
+pub record StoresHeader {S : Type 0} (view : S → Span) (spans : List S) (at : ℕ → ℕ)
+    (header : Header) (requests : List (Request ℕ)) : Type 0 where
+  pub a : S
+  pub b : S
+  pub c : S
+  pub d : S
+  pub are_spans : spans ≡ a ∷ b ∷ c ∷ d ∷ []
   pub is_version : view a ≡ field_span 0 4
   pub is_class : view b ≡ field_span 4 6
   pub is_flags : view c ≡ field_span 10 6
   pub is_length : view d ≡ field_span 16 16
+  pub r0 : Request ℕ
+  pub r1 : Request ℕ
+  pub r2 : Request ℕ
+  pub r3 : Request ℕ
+  pub are_requests : requests ≡ r0 ∷ r1 ∷ r2 ∷ r3 ∷ []
   pub version : StoresField at 0 4 header.version 0 r0
   pub class : StoresField at 4 6 header.class 1 r1
   pub flags : StoresField at 10 6 header.flags 2 r2
   pub length : StoresField at 16 16 header.length 3 r3
 
 -- a run of these writes the header
-pub header-written : {S : Type 0} (view : S → Span) (a b c d : S) (at : ℕ → ℕ) (header : Header) (r0 r1 r2 r3 : Request ℕ) → StoresHeader view a b c d at header r0 r1 r2 r3
-    → (before after : List ℕ) (replies : List (Reply ℕ)) → IsRun (λ n. n) 32 at view (a ∷ b ∷ c ∷ d ∷ []) (map (λ w. w) before) (r0 ∷ r1 ∷ r2 ∷ r3 ∷ []) replies (map (λ w. w) after)
+pub header-written : {S : Type 0} (view : S → Span) (spans : List S) (at : ℕ → ℕ) (header : Header)
+    (requests : List (Request ℕ)) → StoresHeader view spans at header requests
+    → (before after : List ℕ) (replies : List (Reply ℕ))
+    → IsRun (λ n. n) 32 at view spans (map (λ w. w) before) requests replies (map (λ w. w) after)
     → HasHeader at header after
-header-written view a b c d at header r0 r1 r2 r3 all before after replies ran =
+header-written view spans at header requests all before after replies ran =
+    let es = all.are_spans in
+    let er = all.are_requests in
     let t0 = all.version.is_request in
     let t1 = all.class.is_request in
     let t2 = all.flags.is_request in
@@ -127,10 +142,18 @@ header-written view a b c d at header r0 r1 r2 r3 all before after replies ran =
     let s2 = all.flags.is_store in
     let s3 = all.length.is_store in
     record {
-      version = stored-by_run view _ at before after _ replies ran 0 0 4 _ a refl all.is_version (rw (t0, t1, t2, t3, s0) refl) (omega arith) (omega arith);
-      class = stored-by_run view _ at before after _ replies ran 1 4 6 _ b refl all.is_class (rw (t0, t1, t2, t3, s1) refl) (omega arith) (omega arith);
-      flags = stored-by_run view _ at before after _ replies ran 2 10 6 _ c refl all.is_flags (rw (t0, t1, t2, t3, s2) refl) (omega arith) (omega arith);
-      length = stored-by_run view _ at before after _ replies ran 3 16 16 _ d refl all.is_length (rw (t0, t1, t2, t3, s3) refl) (omega arith) (omega arith);
+      version =
+          stored-by_run view _ at before after _ replies ran 0 0 4 _ all.a (rw es refl)
+          all.is_version (rw (er, t0, t1, t2, t3, s0) refl) (omega arith) (omega arith);
+      class =
+          stored-by_run view _ at before after _ replies ran 1 4 6 _ all.b (rw es refl)
+          all.is_class (rw (er, t0, t1, t2, t3, s1) refl) (omega arith) (omega arith);
+      flags =
+          stored-by_run view _ at before after _ replies ran 2 10 6 _ all.c (rw es refl)
+          all.is_flags (rw (er, t0, t1, t2, t3, s2) refl) (omega arith) (omega arith);
+      length =
+          stored-by_run view _ at before after _ replies ran 3 16 16 _ all.d (rw es refl)
+          all.is_length (rw (er, t0, t1, t2, t3, s3) refl) (omega arith) (omega arith);
     }
 
 pub header_same : (one other : Header) → one.version ≡ other.version → one.class ≡ other.class → one.flags ≡ other.flags → one.length ≡ other.length → one ≡ other

@@ -66,7 +66,8 @@ impl Field {
     pub fn put<O: BitOrder<u32>>(self, memory: &mut [u32], number: u32)
         requires { 1 ≤ length memory.old }
         ensures written { HasNumber O.at_of self.start self.len number memory.new }
-        ensures others { (place : ℕ) → (place < self.start) ⊎ (self.start + self.len ≤ place)
+        ensures others { (place : ℕ)
+            → (place < self.start) ⊎ (self.start + self.len ≤ place)
             → bit_of 32 O.at_of memory.new place ≡ bit_of 32 O.at_of memory.old place }
         ensures words { length memory.new ≡ length memory.old }
     {

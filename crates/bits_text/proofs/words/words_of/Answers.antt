@@ -1,4 +1,4 @@
-use Rattle.std.proofs.Common.{◌≡◌, ◌<◌, ◌^◌, ◌≤◌, inr, true, false, lit<, rules}
+use Rattle.std.proofs.Common.{◌≡◌, ◌<◌, ◌^◌, ◌≤◌, map, ap, ◌∙◌, inr, true, false, lit<, rules}
 use Rattle.std.specs.Prelude.{codes}
 use Rattle.std.proofs.lemmas.Iterator.Consumers.{YieldsList-turn, YieldsList-end, YieldsList-at}
 use Rattle.std.proofs.lemmas.Iterator.Splits.{YieldsList-from_str_split}
@@ -32,14 +32,17 @@ loop-word-preserved g c =
     let n = c.in-Some-number.ensures in
     let small : c.in-Some-number.n < 2 ^ g.R.BitRegister.BITS =
     fits c.in-Some-number.n g.R.BitRegister.BITS (λ l. let none : true ≡ false = c.in-Some-from_u128.ensures.refused.1 l in cc) in
-    let more = words_more g.R.BitRegister.BITS g.R.BitRegister.number (λ x. x.now) c.loop-word.yielded c.in-Some.word c.loop-word.words.items c.push.new.self.items c.in-Some-from_u128.word i.read i.same (n.0.0, rw n.1 at small) (rw n.1 at c.in-Some-from_u128.ensures.made) c.in_ok-push.ensures.items in
+    let more = words_more g.R.BitRegister.BITS g.R.BitRegister.number (λ x. x.now)
+    c.loop-word.yielded c.in-Some.word c.loop-word.words.items c.in-Some-from_u128.word
+    (record { read = i.read; same = i.same }) (n.0.0, rw n.1 at small)
+    (rw n.1 at c.in-Some-from_u128.ensures.made) in
     let s = c.split-word-items.ensures in
     let road = YieldsList-at c.into_iter-word-iterator.ensures.into_iter_gives (YieldsList-from_str_split {s = c.split-word-items.result} 44 c.args.text.now (lit< tt) s.text s.has_more s.pattern) in
     let place = YieldsList-turn road c.loop-word.yielded _ c.loop-word.yielded_by _ _ c.in-Some.word c.in-Some.is c.next.ensures.steps in
     record {
-      read = more.0;
+      read = more.read;
       begun = λ _. first_of (IsWordText g.R.BitRegister.BITS) (pieces c.args.text.now) c.in-Some.word.now _ place (n.0.0, rw n.1 at small) i.begun;
-      same = more.1;
+      same = ap (map g.R.BitRegister.number) c.in_ok-push.ensures.items ∙ more.same;
     }
 
 pub returns-clause-ok : goal.returns-clause-ok

@@ -1,4 +1,5 @@
-use Rattle.std.proofs.Common.{◌≡◌, ◌<◌, ◌++◌, length, string_bytes, rules, arith}
+use Rattle.std.proofs.Common.{◌≡◌, ◌++◌, string_bytes, refl, rules, arith}
+use Rattle.std.proofs.lemmas.Option.{slice_get_read}
 use Rattle.bits_text.specs.Words.{hexadecimal}
 use Rattle.bits_text.proofs.WordLemmas.{text_whole}
 use Rattle.bits_text.proofs.FrontLemmas.{first_refused, next_refused, on_err}
@@ -14,8 +15,18 @@ returns-in_err-write_next-clause-err g c =
     let number = g.R.BitRegister.number in
     let begun : string_bytes c.write_number.new.text ≡ string_bytes c.args.text.now ++ hexadecimal (number c.in-Some.first.now) = search rules in
     let front = rw c.to_u128-in-loop-word.ensures.number at c.in_err-write_next.ensures.err in
-    let place : c.loop-word.word-index < length c.in-Some.rest.now = omega arith in
-    on_err c.from_residual-in_err-write_next.result (next_refused number c.in-Some.first.now c.in-Some.rest.now c.args.memory.now c.loop-word.word-index c.word-item.result _ _ _ _ c.in-Some.ensures.cases.0 place c.word-item.is begun c.loop-word.invariant front)
+    let first = c.in-Some.first.now in
+    let rest = c.in-Some.rest.now in
+    let k = c.loop-word.word-index in
+    let word = c.word-item.result in
+    let is = slice_get_read rest _ k word refl (omega arith) c.word-item.is in
+    let refused = next_refused number first rest k word (string_bytes c.args.text.now) _ _ is
+    (record {
+      mid = string_bytes c.write_number.new.text;
+      begun = begun;
+      followed = c.loop-word.invariant;
+    }) front in
+    on_err c.from_residual-in_err-write_next.result (rw c.in-Some.ensures.cases.0 refused)
 
 pub returns-clause-ok : goal.returns-clause-ok
 returns-clause-ok g c =

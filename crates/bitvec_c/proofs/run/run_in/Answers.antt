@@ -1,4 +1,5 @@
-use Rattle.std.proofs.Common.{◌≡◌, ℕ, length, map, subst, arith}
+use Rattle.std.proofs.Common.{◌≡◌, ℕ, length, map, take, subst, arith}
+use Rattle.std.proofs.lemmas.List.{take_more, take_more_set}
 use Rattle.bitvec.specs.Run.{CanRun}
 use Rattle.bitvec_c.specs.Plain.{plain_span}
 use Rattle.bitvec_c.specs.declared.plain.PlainRequest.{PlainRequest}
@@ -9,8 +10,14 @@ pub loop-n-preserved : goal.loop-n-preserved
 loop-n-preserved g c =
     let number = g.R.BitRegister.number in
     let none : PlainRequest = record { span = 0; a = 0; b = 0; count = 0; number = 0; command = 0 } in
-    plain_more g.R.BitRegister.BITS g.O.BitAt.at_of c.args.spans.now (map number c.args.memory.now) (map number c.loop-n.memory) (map number c.serve.new.memory) c.args.requests.now c.loop-n.replies c.loop-n.n none c.serve.result
-    (omega arith) (omega arith) c.loop-n.invariant c.serve.ensures
+    let requests = c.args.requests.now in
+    let replies = c.loop-n.replies in
+    let n = c.loop-n.n in
+    let reply = c.serve.result in
+    rw (take_more requests n none (omega arith), take_more_set replies n reply (omega arith))
+    (plain_more g.R.BitRegister.BITS g.O.BitAt.at_of c.args.spans.now (map number c.args.memory.now)
+    (map number c.loop-n.memory) (map number c.serve.new.memory) (take n requests) (take n replies)
+    _ reply c.loop-n.invariant c.serve.ensures)
 
 pub serve-requires-clause-can_run : goal.serve-requires-clause-can_run
 serve-requires-clause-can_run g c =

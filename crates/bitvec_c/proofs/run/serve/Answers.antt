@@ -3,13 +3,14 @@ use Rattle.std.proofs.lemmas.List.{length-map}
 use Rattle.std.proofs.lemmas.Option.{slice_get-get_or}
 use Rattle.bitvec.specs.BitSpan.{span_of}
 use Rattle.bitvec.specs.Commands.{reply_number}
-use Rattle.bitvec.specs.Run.{CanRun, IsRun}
+use Rattle.bitvec.specs.Run.{CanRun, IsRun, IsStep}
 use Rattle.bitvec.specs.Span.{Span, Fits}
 use Rattle.bitvec.specs.declared.run.command.Reply.{Reply}
+use Rattle.bitvec.proofs.CommandLemmas.{step-same}
 use Rattle.bitvec.proofs.RequestLemmas.{run-one, run-no_span}
 use Rattle.bitvec_c.specs.Plain.{plain_span, plain_command, plain_request, reply_of}
 use Rattle.bitvec_c.specs.declared.plain.PlainSpan.{PlainSpan}
-use Rattle.bitvec_c.proofs.RunLemmas.{step_as, one_plain}
+use Rattle.bitvec_c.proofs.RunLemmas.{one_plain}
 use Rattle.bitvec_c.proofs.run.serve.Goals as goal
 
 pub span-own-requires : goal.span-own-requires
@@ -33,8 +34,14 @@ returns-then-request-spans g c =
     let old = map number c.args.memory.now in
     let new = map number c.step.new.memory in
     let can = subst (λ (n : ℕ). CanRun width (plain_span width) spans n) (sym (length-map c.args.memory.now number)) c.requires.can_run in
-    let stepped = step_as number width g.O.BitAt.at_of (span_of c.span-own.result) (plain_span width named) old new c.command_of-command.result (plain_command width request)
-    (reply_number number c.step.result) (reply_of c.plain_reply.result) c.span-own.ensures.span c.command_of-command.ensures c.plain_reply.ensures.reply c.step.ensures in
+    let at = g.O.BitAt.at_of in
+    let command = plain_command width request in
+    let plain = step-same number (λ n. n) width at (span_of c.span-own.result) old new
+    c.command_of-command.result command (reply_number number c.step.result)
+    c.command_of-command.ensures c.step.ensures in
+    let reply = reply_of c.plain_reply.result in
+    let stepped : IsStep (λ n. n) width at (plain_span width named) old command reply new =
+    rw (← c.span-own.ensures.span, c.plain_reply.ensures.reply) plain in
     one_plain width g.O.BitAt.at_of spans old new request c.plain_reply.result
     (run-one (λ n. n) width g.O.BitAt.at_of (plain_span width) spans old new (plain_request width request) (reply_of c.plain_reply.result) can
     (record { named = named; is_named = slice_get-get_or spans request.span none (omega arith); step = stepped }))
