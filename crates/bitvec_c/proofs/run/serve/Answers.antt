@@ -36,8 +36,12 @@ returns-then-request-spans g c =
     let stepped = step_as number width g.O.BitAt.at_of (span_of c.span-own.result) (plain_span width named) old new c.command_of-command.result (plain_command width request)
     (reply_number number c.step.result) (reply_of c.plain_reply.result) c.span-own.ensures.span c.command_of-command.ensures c.plain_reply.ensures.reply c.step.ensures in
     one_plain width g.O.BitAt.at_of spans old new request c.plain_reply.result
-    (run-one (λ n. n) width g.O.BitAt.at_of (plain_span width) spans old new (plain_request width request) (reply_of c.plain_reply.result) can
-    (record { named = named; is_named = slice_get-get_or spans request.span none (omega arith); step = stepped }))
+    (run-one (λ n. n) width g.O.BitAt.at_of (plain_span width) spans old new (plain_request width request)
+    (reply_of c.plain_reply.result) can (record {
+      named = named;
+      is_named = slice_get-get_or spans request.span none (omega arith);
+      step = stepped;
+    }))
     c.plain_reply.ensures.plain
 
 pub returns-else-request-spans : goal.returns-else-request-spans
