@@ -43,8 +43,12 @@ returns-then-request-spans g c =
     let stepped : IsStep (λ n. n) width at (plain_span width named) old command reply new =
     rw (← c.span-own.ensures.span, c.plain_reply.ensures.reply) plain in
     one_plain width g.O.BitAt.at_of spans old new request c.plain_reply.result
-    (run-one (λ n. n) width g.O.BitAt.at_of (plain_span width) spans old new (plain_request width request) (reply_of c.plain_reply.result) can
-    (record { named = named; is_named = slice_get-get_or spans request.span none (omega arith); step = stepped }))
+    (run-one (λ n. n) width g.O.BitAt.at_of (plain_span width) spans old new (plain_request width request)
+    (reply_of c.plain_reply.result) can (record {
+      named = named;
+      is_named = slice_get-get_or spans request.span none (omega arith);
+      step = stepped;
+    }))
     c.plain_reply.ensures.plain
 
 pub returns-else-request-spans : goal.returns-else-request-spans
