@@ -1,5 +1,5 @@
 -- Spans of one memory, by their numbers.
-use Rattle.std.proofs.Common.{◌≡◌, ℕ, ◌+◌, ◌<◌, List, length, map, get_or, sym, ap, ◌∙◌, subst, arith, inl, inr}
+use Rattle.std.proofs.Common.{◌≡◌, ℕ, ◌+◌, ◌<◌, ◌≤◌, List, length, map, get_or, sym, ap, ◌∙◌, subst, arith, inl, inr}
 use Rattle.std.specs.Prelude.{All, slice_set}
 use Rattle.std.proofs.Math.ListN.{length-set}
 use Rattle.std.proofs.Math.Seq.{ext_get_or}
@@ -29,24 +29,45 @@ valid_at bits intervals valid s d inside =
     let long = length-map intervals interval_span in
     subst (λ x. IsSpan bits x) (get_or-map interval_span intervals s d no_span inside) (valid s no_span (omega (arith, long)))
 
+-- two lists are of one length, and their first `count` elements stand for the same spans
+pub record HaveSameSpans {S T : Type 0} (view : S → Span) (other_view : T → Span)
+    (xs : List S) (ys : List T) (count : ℕ) : Type 0 where
+  pub same : (j : ℕ) → j < count
+      → get_or (map view xs) j no_span ≡ get_or (map other_view ys) j no_span
+  pub many : length xs ≡ length ys
+
 -- one more interval has the numbers of its span
-pub more_views : {S T : Type 0} (view : S → Span) (other_view : T → Span) (xs : List S) (ys : List T) (i : ℕ) (new : S) (found : T)
-    → i < length xs → i < length ys → view new ≡ other_view (get_or ys i found)
-    → ((j : ℕ) → j < i → get_or (map view xs) j no_span ≡ get_or (map other_view ys) j no_span)
-    → (j : ℕ) → j < i + 1 → get_or (map view (slice_set xs i new)) j no_span ≡ get_or (map other_view ys) j no_span
-more_views view other_view xs ys i new found in_xs in_ys is before j below =
+pub more_views : {S T : Type 0} (view : S → Span) (other_view : T → Span)
+    (xs : List S) (ys : List T) (i : ℕ) (new : S) (found : T)
+    → i < length ys → view new ≡ other_view (get_or ys i found)
+    → HaveSameSpans view other_view xs ys i
+    → HaveSameSpans view other_view (slice_set xs i new) ys (i + 1)
+more_views view other_view xs ys i new found in_ys is before =
     let long = length-set xs i new in
-    elim (cases_eq j i) [
-      | inl e ↦ rw e (get_or-map view (slice_set xs i new) i new no_span (omega (arith, long, in_xs)) ∙ ap view (get_or-set_same xs i new new in_xs) ∙ is ∙ sym (get_or-map other_view ys i found no_span in_ys))
-      | inr differ ↦ (
-          let less : j < i = omega arith in
-          get_or-map view (slice_set xs i new) j new no_span (omega (arith, long, in_xs)) ∙ ap view (get_or-set_other xs i j new new differ) ∙ sym (get_or-map view xs j new no_span (omega (arith, in_xs))) ∙ before j less)
-    ]
+    let in_xs : i < length xs = omega (arith, in_ys, before.many) in
+    record {
+      same = λ j below. elim (cases_eq j i) [
+        | inl e ↦ rw e
+            (get_or-map view (slice_set xs i new) i new no_span (omega (arith, long, in_xs))
+            ∙ ap view (get_or-set_same xs i new new in_xs)
+            ∙ is
+            ∙ sym (get_or-map other_view ys i found no_span in_ys))
+        | inr differ ↦ (
+            let less : j < i = omega arith in
+            get_or-map view (slice_set xs i new) j new no_span (omega (arith, long, in_xs))
+            ∙ ap view (get_or-set_other xs i j new new differ)
+            ∙ sym (get_or-map view xs j new no_span (omega (arith, in_xs)))
+            ∙ before.same j less)
+      ];
+      many = long ∙ before.many;
+    }
 
 -- all of them do
-pub all_same : {S T : Type 0} (view : S → Span) (other_view : T → Span) (xs : List S) (ys : List T) → length xs ≡ length ys
-    → ((j : ℕ) → j < length xs → get_or (map view xs) j no_span ≡ get_or (map other_view ys) j no_span) → map view xs ≡ map other_view ys
-all_same view other_view xs ys long same =
+pub all_same : {S T : Type 0} (view : S → Span) (other_view : T → Span)
+    (xs : List S) (ys : List T) (count : ℕ) → length ys ≤ count
+    → HaveSameSpans view other_view xs ys count → map view xs ≡ map other_view ys
+all_same view other_view xs ys count all before =
     let here = length-map xs view in
     let there = length-map ys other_view in
-    ext_get_or no_span (map view xs) (map other_view ys) (here ∙ long ∙ sym there) (λ j h. same j (omega (arith, here, h)))
+    ext_get_or no_span (map view xs) (map other_view ys) (here ∙ before.many ∙ sym there)
+    (λ j h. before.same j (omega (arith, here, h, all, before.many)))

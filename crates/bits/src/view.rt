@@ -166,7 +166,8 @@ impl<'a, R: BitRegister, O: BitOrder<R>, const N: usize> Parts<'a, R, O, N> {
     pub fn set(&mut self, part: usize, i: usize, bit: bool)
         requires part { part < N }
         requires inside { i < (part_span self.old part).len }
-        ensures reference { (lent_memory self.new).ghost_name ≡ (lent_memory self.old).ghost_name }
+        ensures reference { (lent_memory self.new).ghost_name
+            ≡ (lent_memory self.old).ghost_name }
         ensures spans { part_spans self.new ≡ part_spans self.old }
         ensures edited { part_list self.new part ≡ slice_set (part_list self.old part) i bit }
         ensures kept { (s : ℕ) → s ≢ part → part_list self.new s ≡ part_list self.old s }
@@ -186,7 +187,8 @@ impl<'a, R: BitRegister, O: BitOrder<R>, const N: usize> Parts<'a, R, O, N> {
         requires part { part < N }
         requires ordered { from ≤ to }
         requires inside { to ≤ (part_span self.old part).len }
-        ensures reference { (lent_memory self.new).ghost_name ≡ (lent_memory self.old).ghost_name }
+        ensures reference { (lent_memory self.new).ghost_name
+            ≡ (lent_memory self.old).ghost_name }
         ensures spans { part_spans self.new ≡ part_spans self.old }
         ensures edited { part_list self.new part
             ≡ with_filled (part_list self.old part) from to bit }

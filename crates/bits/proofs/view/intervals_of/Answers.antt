@@ -1,5 +1,4 @@
-use Rattle.std.proofs.Common.{rules, ◌<◌, length, ◌∙◌, arith}
-use Rattle.std.proofs.Math.ListN.{length-set}
+use Rattle.std.proofs.Common.{rules, ◌<◌, length, arith}
 use Rattle.bitvec.specs.BitSpan.{span_of}
 use Rattle.bits.specs.Interval.{interval_span}
 use Rattle.bits.proofs.IntervalLemmas.{more_views, all_same}
@@ -8,8 +7,10 @@ use Rattle.bits.proofs.view.intervals_of.Goals as goal
 pub loop-i-preserved : goal.loop-i-preserved
 loop-i-preserved g c =
     let inside : c.loop-i.i < length c.args.spans.now = search rules in
-    (more_views interval_span span_of c.loop-i.intervals c.args.spans.now c.loop-i.i _ c.index-spans-i.result (omega (arith, inside, c.loop-i.invariant.1)) inside (search rules) c.loop-i.invariant.0, length-set c.loop-i.intervals c.loop-i.i _ ∙ c.loop-i.invariant.1)
+    more_views interval_span span_of c.loop-i.intervals c.args.spans.now c.loop-i.i _
+    c.index-spans-i.result inside (search rules) c.loop-i.invariant
 
 pub returns : goal.returns
 returns g c =
-    all_same interval_span span_of c.loop-i.intervals c.args.spans.now c.loop-i.invariant.1 (λ j h. c.loop-i.invariant.0 j (search (rules, c.loop-i.invariant.1)))
+    all_same interval_span span_of c.loop-i.intervals c.args.spans.now c.loop-i.i
+    (omega (arith, c.loop-i-test.false)) c.loop-i.invariant
