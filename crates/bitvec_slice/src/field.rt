@@ -234,6 +234,9 @@ impl<'a, R: BitRegister, O: Sequential<R>> BitSlice<'a, R, O> {
     /// The number whose digits the bits are: those of one word in the word's own order, and those
     /// of the first word lowest. Requires no more bits than the number type has digits; the digits
     /// past the bits are zero.
+    ///
+    /// Under `Lsb0` the number of whole bytes is the one that std's `from_le_bytes` gives. Costs by
+    /// words.
     pub fn load_le<N: BitRegister>(&self) -> N
         requires { slice_len self.now ≤ N.BITS }
         ensures number { N.number result
@@ -252,6 +255,9 @@ impl<'a, R: BitRegister, O: Sequential<R>> BitSlice<'a, R, O> {
     /// The number whose digits the bits are: those of one word in the word's own order, and those
     /// of the first word highest. Requires no more bits than the number type has digits; the digits
     /// past the bits are zero.
+    ///
+    /// Under `Msb0` the number of whole bytes is the one that std's `from_be_bytes` gives. Costs by
+    /// words.
     pub fn load_be<N: BitRegister>(&self) -> N
         requires { slice_len self.now ≤ N.BITS }
         ensures number { N.number result
