@@ -2,8 +2,8 @@
 
 ghost use Rattle.std.specs.Prelude.{◌≡◌, ◌⊎◌};
 
-use crate::lines::fault::Fault;
-use crate::lines::text;
+use bits_text::lines::fault::Fault;
+use bits_text::lines::text;
 use std::alloc::Allocator;
 use std::io::Write;
 

@@ -2,7 +2,6 @@
 #![tactic(auto)]
 
 mod answer;
-mod lines;
 #[cfg(test)]
 mod tests;
 pub mod view;

@@ -1,4 +1,4 @@
-//! The program's lines and statuses, views of disjoint parts, and orders that no crate of the layer
+//! The program's statuses and writes, views of disjoint parts, and orders that no crate of the layer
 //! knows of.
 
 mod calls;

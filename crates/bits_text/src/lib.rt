@@ -1,8 +1,9 @@
-//! What the programs read and write as text: numbers, places, memories, and the names of registers
-//! and orders.
+//! What the programs read and write as text: numbers, places, memories, the names of registers and
+//! orders, and the lines of the program `bits`.
 #![tactic(auto)]
 
 pub mod hilo;
+pub mod lines;
 pub mod names;
 pub mod number;
 pub mod places;

@@ -4,8 +4,7 @@ ghost use Rattle.std.specs.Prelude.{length};
 ghost use Rattle.bitvec.specs.BitSpan.{span_of};
 ghost use Rattle.bitvec.specs.Span.{Fits};
 
-use bits_text::number::place;
-use bits_text::places::pointer_at;
+use crate::spans::span_at;
 use bits_text::words::words_of;
 use bitvec::mem::BitRegister;
 use bitvec::order::BitOrder;
@@ -14,14 +13,15 @@ use std::alloc::{AllocError, Allocator};
 
 mod edits;
 mod items;
-mod lists;
+mod made;
 mod partial;
 mod shown;
 
 /// Writes the answer to a question of a domain, and tells whether the words ask one.
 ///
 /// The kinds are `domain`, `back`, `mixed`, `bit_domain`, `domain_mut` and `text` of a span's
-/// domain, and `partial` of one part of a word.
+/// domain, `partial` of one part of a word, `region` of a region that is made of a span's parts and
+/// other words, and `default` of the domains of no span.
 pub fn write_answer<'a, R: BitRegister, O: BitOrder<R>, A: Allocator>(
     text: &mut String<&'a A>,
     alloc: &'a A,
@@ -31,7 +31,13 @@ pub fn write_answer<'a, R: BitRegister, O: BitOrder<R>, A: Allocator>(
     let [memory, details @ ..] = words else {
         return Ok(false);
     };
+    if kind == "default" {
+        return made::write_default::<R, O, &'a A>(text, memory);
+    }
     match words_of::<R, A>(alloc, memory)? {
+        Some(memory) if kind == "region" => {
+            made::write_region::<R, O, A>(text, alloc, &memory, details)
+        }
         Some(mut memory) if kind == "partial" => {
             partial::write_answer::<R, O, &'a A>(text, &mut memory, details)
         }
@@ -97,12 +103,4 @@ fn write_items<R: BitRegister, O: BitOrder<R>, A: Allocator>(
         _ => return Ok(false),
     }
     Ok(true)
-}
-
-// The span of so many bits from a place on; `None` where there is none, or where the texts are no
-// numbers.
-fn span_at<R: BitRegister, O>(start: &str, len: &str) -> Option<BitSpan<R, O>> {
-    let start = place(start)?;
-    let len = place(len)?;
-    BitSpan::from_bitptr(pointer_at(start), len as usize).ok()
 }

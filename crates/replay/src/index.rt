@@ -4,13 +4,13 @@ use crate::shown::{write_forms, write_two};
 use bits_text::number::number;
 use bitvec::index::{BitEnd, BitIdx, BitMask, BitPos, BitSel, Limits, MaskLimits};
 use bitvec::mem::BitRegister;
-use bitvec::order::BitOrder;
+use bitvec::order::{BitOrder, Lsb0};
 use bitvec::ptr::span::BitSpan;
 use std::alloc::{AllocError, Allocator};
 use std::fmt::{self, Write as _};
 
 /// Writes the library's answer to a question of a kind, and tells whether it is one.
-pub fn write_answer<R: BitRegister, O: BitOrder<R>, A: Allocator>(
+pub fn write_answer<R: BitRegister, A: Allocator>(
     text: &mut String<A>,
     kind: &str,
     words: &[&str],
@@ -19,7 +19,7 @@ pub fn write_answer<R: BitRegister, O: BitOrder<R>, A: Allocator>(
         [shown] if kind == "index_text" => write_texts::<R, A>(text, shown),
         [start] => write_two(text, step_of::<R>(kind, start)),
         [start, far] if kind == "offset" => write_two(text, offset_of::<R>(start, far)),
-        [start, far] => write_two(text, words_met::<R, O>(kind, start, far)),
+        [start, far] => write_two(text, words_met::<R>(kind, start, far)),
         _ => Ok(false),
     }
 }
@@ -67,8 +67,8 @@ pub fn index_at<R: BitRegister>(text: &str) -> Option<BitIdx<R>> {
     }
 }
 
-// The end of a text.
-fn end_at<R: BitRegister>(text: &str) -> Option<BitEnd<R>> {
+/// The end of a text.
+pub fn end_at<R: BitRegister>(text: &str) -> Option<BitEnd<R>> {
     match text.parse::<u8>() {
         Ok(n) => BitEnd::new(n),
         Err(_) => None,
@@ -95,27 +95,20 @@ fn offset_of<R: BitRegister>(start: &str, by: &str) -> Option<(isize, u8)> {
 
 // The words that a range of bits meets, and its end in the last: from an index on, from an end on,
 // or as a span.
-fn words_met<R: BitRegister, O: BitOrder<R>>(
-    kind: &str,
-    start: &str,
-    len: &str,
-) -> Option<(usize, u8)> {
+fn words_met<R: BitRegister>(kind: &str, start: &str, len: &str) -> Option<(usize, u8)> {
     let len = len.parse::<usize>().ok()?;
     let (elements, tail) = match kind {
         "span" => index_at::<R>(start)?.span(len),
         "end_span" => end_at::<R>(start)?.span(len),
-        "elements" => words_of_span::<R, O>(start, len)?,
+        "elements" => words_of_span::<R>(start, len)?,
         _ => return None,
     };
     Some((elements, tail.into_inner()))
 }
 
 // The words that a span meets, and its end in the last.
-fn words_of_span<R: BitRegister, O: BitOrder<R>>(
-    start: &str,
-    len: usize,
-) -> Option<(usize, BitEnd<R>)> {
-    let span: BitSpan<R, O> = BitSpan::new(0, index_at(start)?, len).ok()?;
+fn words_of_span<R: BitRegister>(start: &str, len: usize) -> Option<(usize, BitEnd<R>)> {
+    let span: BitSpan<R, Lsb0> = BitSpan::new(0, index_at(start)?, len).ok()?;
     Some((span.elements(), span.tail()))
 }
 

@@ -1,9 +1,11 @@
 //! Questions of one memory: a bit read, written or replaced, two bits exchanged, a range of bits
 //! copied.
 
-ghost use Rattle.std.specs.Prelude.{IfSome};
+ghost use Rattle.std.specs.Prelude.{◌≤◌, ◌≤ℤ◌, ◌+ℤ◌, pos, IfSome, IsTrue};
+ghost use Rattle.std.specs.Int.{int_div_euclid};
 ghost use Rattle.bitvec.specs.BitPtr.{ptr_of};
-ghost use Rattle.bitvec.specs.Steps.{IsIn, RangeIsIn};
+ghost use Rattle.bitvec.specs.Place.{place_of, region_max_bits};
+ghost use Rattle.bitvec.specs.Steps.{IsIn, RangeIsIn, AreApart};
 
 use bits_text::number::place;
 use bits_text::places::pointer_at;
@@ -11,12 +13,13 @@ use bits_text::words::{words_of, write_words};
 use bitvec::mem::BitRegister;
 use bitvec::order::BitOrder;
 use bitvec::ptr::single::BitPtr;
+use bitvec::ptr::span::BitSpan;
 use std::alloc::{AllocError, Allocator};
 use std::fmt::Write as _;
 
 /// Writes the answer to a question of a memory, and tells whether the words ask one.
 ///
-/// The kinds are `read`, `write`, `replace`, `swap` and `copy`.
+/// The kinds are `read`, `write`, `replace`, `swap` and `copy`; a copy may name its call last.
 pub fn write_answer<'a, R: BitRegister, O: BitOrder<R>, A: Allocator>(
     text: &mut String<&'a A>,
     alloc: &'a A,
@@ -83,14 +86,52 @@ fn done<R: BitRegister, O: BitOrder<R>>(
         }
         [at, with] => done_at::<R, O>(kind, at, with, memory),
         [from, to, count] if kind == "copy" => {
-            let count = place(count)?;
-            let from = range_start::<R, O>(memory.len(), from, count)?;
-            let to = range_start::<R, O>(memory.len(), to, count)?;
-            from.copy_within(memory, to, count as usize);
-            Some(Outcome::Memory)
+            copied::<R, O>("copy_within", from, to, place(count)?, memory)
+        }
+        [from, to, count, name] if kind == "copy" => {
+            copied::<R, O>(name, from, to, place(count)?, memory)
         }
         _ => None,
     }
+}
+
+// Copies so many bits from a place on to those from another place on, by the call of a name.
+fn copied<R: BitRegister, O: BitOrder<R>>(
+    name: &str,
+    from: &str,
+    to: &str,
+    count: u64,
+    memory: &mut [R],
+) -> Option<Outcome> {
+    let from = range_start::<R, O>(memory.len(), from, count)?;
+    let to = range_start::<R, O>(memory.len(), to, count)?;
+    match name {
+        "copy_within" => from.copy_within(memory, to, count as usize),
+        "copy_from_within" => to.copy_from_within(memory, from, count as usize),
+        "copy_within_nonoverlapping" if are_apart(from, to, count as usize) => {
+            from.copy_within_nonoverlapping(memory, to, count as usize)
+        }
+        _ => return None,
+    }
+    Some(Outcome::Memory)
+}
+
+// Whether so many bits from two pointers on are two spans that have no bit in common.
+fn are_apart<R: BitRegister, O>(from: BitPtr<R, O>, to: BitPtr<R, O>, count: usize) -> bool
+    ensures short { IsTrue result → count ≤ region_max_bits }
+    ensures from_low { IsTrue result → int_div_euclid (place_of R.BITS (ptr_of from) +ℤ pos count)
+        (pos R.BITS) ≤ℤ isize.MAX }
+    ensures to_low { IsTrue result → int_div_euclid (place_of R.BITS (ptr_of to) +ℤ pos count)
+        (pos R.BITS) ≤ℤ isize.MAX }
+    ensures apart { IsTrue result → AreApart R.BITS (ptr_of from) (ptr_of to) count }
+{
+    let Ok(here) = BitSpan::from_bitptr(from, count) else {
+        return false;
+    };
+    let Ok(there) = BitSpan::from_bitptr(to, count) else {
+        return false;
+    };
+    here.is_disjoint(&there)
 }
 
 // Does the access of a kind at a place, with a bit or with another place.

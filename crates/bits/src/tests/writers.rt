@@ -1,6 +1,6 @@
 //! Writers that take little at a time or fail, and what the program prints through them.
 
-use super::calls::{FIRST, USAGE, words};
+use super::calls::{FIRST, calls, words};
 use super::refusing::{Plan, Refusing};
 use crate::answer::answer;
 use std::alloc::{AllocError, Global};
@@ -49,21 +49,6 @@ impl Write for Slow {
         self.flushes = self.flushes.saturating_add(1);
         Ok(())
     }
-}
-
-// Calls with their statuses and texts: several lines, one, a fault and the usage line.
-fn calls() -> [(&'static str, u8, &'static str); 5] {
-    [
-        (FIRST, 0, "head 0 10\ntail 1 4\ntotal 2\n"),
-        ("mask hilo u8 - 3", 0, "01110000\n"),
-        (
-            "run lsb0 u8 0 0+4 0:load:0,0:read:4",
-            0,
-            "word 0\npast end\nmemory 0\n",
-        ),
-        ("run lsb0 u8 0 0+4,3+4 -", 2, "fault: spans overlap\n"),
-        ("verify", 2, USAGE),
-    ]
 }
 
 // The status with which a line ends through a writer, whether that has taken just the text, and how

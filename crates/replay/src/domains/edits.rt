@@ -4,7 +4,7 @@ ghost use Rattle.std.specs.Prelude.{length};
 ghost use Rattle.bitvec.specs.BitSpan.{span_of};
 ghost use Rattle.bitvec.specs.Span.{Fits};
 
-use crate::domains::lists::{end_list, write_value};
+use crate::lists::{end_list, write_value};
 use bits_text::number::number;
 use bits_text::words::write_words;
 use bitvec::domain::{DomainMut, PartialElementMut};

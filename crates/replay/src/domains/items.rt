@@ -6,7 +6,7 @@ ghost use Rattle.bitvec.specs.Domain.{domain_parts};
 ghost use Rattle.bitvec.specs.BitSpan.{span_of};
 ghost use Rattle.bitvec.specs.Span.{Fits};
 
-use crate::domains::lists::{begin_item, end_list, write_value};
+use crate::lists::{begin_item, end_list, write_value};
 use bitvec::domain::{BitDomain, BitWords, Domain, PartialElement};
 use bitvec::mem::BitRegister;
 use bitvec::order::BitOrder;

@@ -49,16 +49,25 @@ impl<'a, R: BitRegister, O: BitOrder<R>> fmt::Display for Shown<'a, R, O> {
     }
 }
 
-// Writes a domain in the form of a name, and tells whether there is such a form.
+// Writes a domain in the form of a name, and under a width, which it does not follow, where the name
+// begins with one, as `>20x`; tells whether there is such a form.
 pub(super) fn write_shown<R: BitRegister, O: BitOrder<R>, A: Allocator>(
     text: &mut String<A>,
     domain: Domain<R, O>,
     name: &str,
 ) -> Result<bool, AllocError> {
+    let (is_wide, name) = match name.strip_prefix(">20") {
+        Some(name) => (true, name),
+        None => (false, name),
+    };
     let Some(form) = Form::of_name(name) else {
         return Ok(false);
     };
     let shown = Shown { domain, form };
-    write!(text, "{shown}")?;
+    if is_wide {
+        write!(text, "{shown:>20}")?;
+    } else {
+        write!(text, "{shown}")?;
+    }
     Ok(true)
 }

@@ -1,7 +1,0 @@
-use Rattle.std.proofs.Common.{◌&&◌, not, ap}
-use Rattle.bitvec_ptr.specs.Place.{index_of}
-use Rattle.tests_pointers.proofs.SetLemmas.{sets_combined}
-use Rattle.tests_pointers.proofs.combinations.difference.Goals as goal
-
-pub returns : goal.returns
-returns c = sets_combined (λ t s. t && not s) c.combine_to.new.target c.args.set c.args.other _ (ap (index_of 64) c.bit_at-first.ensures) c.combine_to.ensures.bits

@@ -1,5 +1,0 @@
-use Rattle.tests_runs.proofs.SameRunLemmas.{same_runs}
-use Rattle.tests_runs.proofs.laws.order_between_spans_does_not_matter.Goals as goal
-
-pub returns : goal.returns
-returns g c = same_runs g.R.BitRegister.number g.R.BitRegister.BITS g.O.BitAt.at_of g.met.O.BitOrder.one_to_one

@@ -1,0 +1,15 @@
+//! Bit slices, by the names that a user writes.
+#![tactic(auto)]
+
+#[cfg(test)]
+mod bytes;
+#[cfg(test)]
+mod callers;
+#[cfg(test)]
+mod examples;
+#[cfg(test)]
+mod lists;
+#[cfg(test)]
+mod moves;
+#[cfg(test)]
+mod traits;
