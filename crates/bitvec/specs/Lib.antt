@@ -4,6 +4,7 @@ pub mod Run
 pub mod Words
 pub use Rattle.bitvec_mem.specs.Digit
 pub use Rattle.bitvec_mem.specs.Numeral
+pub use Rattle.bitvec_mem.specs.Ones
 pub use Rattle.bitvec_mem.specs.SameDigits
 pub use Rattle.bitvec_order.specs.Index
 pub use Rattle.bitvec_order.specs.Masks

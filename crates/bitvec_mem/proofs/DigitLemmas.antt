@@ -210,7 +210,7 @@ one_digit k n small h =
     at p only q lt (inl e) = ap (digit n) e ∙ only.passes ∙ sym (digit-pow_same p) ∙ ap (digit (2 ^ p)) (sym e)
     at p only q lt (inr ne) = only.alone q lt ne ∙ sym (digit-pow_other p q ne)
 
-true_not_false : true ≡ false → ⊥
+pub true_not_false : true ≡ false → ⊥
 true_not_false e = cc
 
 and-false : (b : Bool) → (b && false) ≡ false

@@ -8,8 +8,10 @@ ghost use Rattle.std.specs.Prelude.{IfSome, refl};
 ghost use Rattle.std.specs.Ordering.{nat_cmp};
 ghost use Rattle.bitvec_mem.specs.Digit.{digit, exclusive_or, count_below};
 
+mod ones;
 mod registers;
 
+pub use self::ones::{highest_one, lowest_one};
 use std::alloc::AllocError;
 use std::fmt::Debug;
 use std::hash::Hash;

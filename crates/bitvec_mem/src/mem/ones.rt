@@ -1,0 +1,50 @@
+//! The lowest and the highest digit of a word that is one.
+
+ghost use Rattle.std.specs.Prelude.{MatchOption};
+ghost use Rattle.bitvec_mem.specs.Ones.{HasNoOne, IsLowestOne, IsHighestOne};
+
+use crate::mem::BitRegister;
+
+/// The position of the lowest digit of a word that is one, and `None` where none is.
+///
+/// Constant time. Our own: the Rust crate calls `trailing_zeros` of the word.
+///
+/// # Examples
+///
+/// ```
+/// assert_eq!(rt; lowest_one(0x28u8), Some(3));
+/// assert_eq!(rt; lowest_one(0x00u8), None);
+/// ```
+#[inline(always)]
+pub fn lowest_one<R: BitRegister>(word: R) -> Option<u8>
+    ensures { MatchOption result (HasNoOne R.BITS (R.number word))
+        (IsLowestOne R.BITS (R.number word)) }
+{
+    let number = word.to_u128();
+    if number == 0 {
+        return None;
+    }
+    Some(number.trailing_zeros() as u8)
+}
+
+/// The position of the highest digit of a word that is one, and `None` where none is.
+///
+/// Constant time. Our own: the Rust crate calls `leading_zeros` of the word.
+///
+/// # Examples
+///
+/// ```
+/// assert_eq!(rt; highest_one(0x28u8), Some(5));
+/// assert_eq!(rt; highest_one(0x00u8), None);
+/// ```
+#[inline(always)]
+pub fn highest_one<R: BitRegister>(word: R) -> Option<u8>
+    ensures { MatchOption result (HasNoOne R.BITS (R.number word))
+        (IsHighestOne R.BITS (R.number word)) }
+{
+    let number = word.to_u128();
+    if number == 0 {
+        return None;
+    }
+    Some((127 - number.leading_zeros()) as u8)
+}
