@@ -53,21 +53,31 @@ fn comes_before<R: BitRegister, O>(span: BitSpan<R, O>, next: BitSpan<R, O>) -> 
     span.is_empty() || span.to_bitptr_range().end() <= next.to_bitptr()
 }
 
-// Whether no two spans have a bit in common, by one pass that tests each with the last one before
-// it that has bits; `None` where a span that has bits starts before that one.
-fn neighbours_apart<R: BitRegister, O>(spans: &[BitSpan<R, O>]) -> Option<bool>
-    ensures { IfSome result (λ apart. IsTrue apart
-        ↔ AllPairs (λ a b. AreDisjoint R.BITS (span_of a) (span_of b)) spans.now) }
+// Whether the spans lie within so many words and no two have a bit in common, by one pass that
+// tests each with the last one before it that has bits; `None` where a span that has bits starts
+// before that one.
+fn rising_can_run<R: BitRegister, O>(spans: &[BitSpan<R, O>], words: usize) -> Option<bool>
+    ensures { IfSome result (λ can. IsTrue can ↔ CanRun R.BITS span_of spans.now words) }
 {
+    if spans.is_empty() {
+        return Some(true);
+    }
+    if !spans[0].fits(words) {
+        return Some(false);
+    }
     let mut last = 0;
     for i in 1..spans.len() {
         let (before, span) = (spans[last], spans[i]);
-        if !before.is_disjoint(&span) {
+        if !span.fits(words) {
             return Some(false);
         }
         if !span.is_empty() {
             if !comes_before(before, span) {
-                return None;
+                return if before.is_disjoint(&span) {
+                    None
+                } else {
+                    Some(false)
+                };
             }
             last = i;
         }
@@ -94,11 +104,10 @@ fn neighbours_apart<R: BitRegister, O>(spans: &[BitSpan<R, O>]) -> Option<bool>
 pub fn can_run<R: BitRegister, O>(spans: &[BitSpan<R, O>], words: usize) -> bool
     ensures { IsTrue result ↔ CanRun R.BITS span_of spans.now words }
 {
-    let apart = match neighbours_apart(spans) {
-        Some(apart) => apart,
-        None => are_apart(spans),
-    };
-    apart && spans.iter().all(|span| span.fits(words))
+    match rising_can_run(spans, words) {
+        Some(can) => can,
+        None => are_apart(spans) && spans.iter().all(|span| span.fits(words)),
+    }
 }
 
 // The number of a span's first bit in its memory; the word's distance from word 0 counts.
