@@ -4,6 +4,7 @@ pub mod CommandLemmas
 pub mod CutLemmas
 pub mod LaterLemmas
 pub mod LawLemmas
+pub mod OrderLemmas
 pub mod PutLemmas
 pub mod ReplyLemmas
 pub mod RequestLemmas

@@ -1,5 +1,5 @@
 -- One request: a step on the span that it names, or none.
-use Rattle.std.proofs.Common.{◌≡◌, ◌≢◌, ℕ, zero, suc, ◌≤◌, List, [], ◌∷◌, length, get_or, arith, sym, ◌∙◌, ap, Some, refl, subst, inl, inr}
+use Rattle.std.proofs.Common.{◌≡◌, ◌≢◌, ℕ, zero, suc, ◌≤◌, List, [], ◌∷◌, length, arith, sym, ◌∙◌, ap, Some, refl, subst, inl, inr}
 use Rattle.std.specs.Prelude.{slice_get, take, AllPairs}
 use Rattle.std.proofs.lemmas.Bool.{cases_order, cases_eq, eq-eqb, ne_eqb}
 use Rattle.std.proofs.lemmas.Option.{none-some, same_Some, get_or_from_slice_get, slice_get_within, slice_get_past}

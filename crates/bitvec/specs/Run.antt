@@ -1,7 +1,9 @@
 -- Runs of requests through spans of one memory: each span's list goes its own way. `bits` is the width of a word, `at`
 -- takes an index in a word to its position in the number, `number` gives the number of a word, and a memory is the list of
 -- its words' numbers.
-use Rattle.std.specs.Prelude.{ℕ, ℤ, pos, ◌≤ℤ◌, ◌≡◌, Bool, List, length, take, slice_get, Option, Some, None, All, AllPairs}
+use Rattle.std.specs.Prelude.{ℕ, ℤ, pos, nat_abs, ◌+◌, ◌*◌, ◌≤◌, ◌≤ℤ◌, ◌≡◌, Bool, List, length, take, slice_get, Option, Some, None, All, AllPairs}
+use Rattle.std.specs.List.{range_with_len}
+use Rattle.std.specs.List.Sorted.{IsPermutation}
 use Rattle.bitvec_ptr.specs.Memory.{bit_of}
 use Rattle.bitvec_domain.specs.Span.{Span, Fits, Covers, AreDisjoint, BecomesList, list_of}
 use Rattle.bitvec.specs.declared.run.command.Command.{Command}
@@ -13,6 +15,24 @@ use Rattle.bitvec.specs.Commands.{outcome, reply_in, list_in, alone, own_command
 -- all spans lie within so many words, and no two have a place in common; `view` gives a span's numbers
 abbrev pub CanRun : {S : Type 0} → ℕ → (S → Span) → List S → ℕ → Type 0
 CanRun bits view spans words = All (λ span. Fits bits (view span) words) spans × AllPairs (λ a b. AreDisjoint bits (view a) (view b)) spans
+
+-- the numbers of an element of a list, or those of no bits at place 0 where there is none
+abbrev pub numbers_of : {S : Type 0} → (S → Span) → Option S → Span
+numbers_of view None = record { word = pos 0; head = 0; len = 0 }
+numbers_of view (Some span) = view span
+
+-- the numbers of the span at an index
+abbrev pub span_in : {S : Type 0} → (S → Span) → List S → ℕ → Span
+span_in view spans i = numbers_of view (slice_get spans i)
+
+-- the number in a memory of the first bit of the span at an index, which lies in the memory
+abbrev pub start_in : {S : Type 0} → ℕ → (S → Span) → List S → ℕ → ℕ
+start_in bits view spans i = nat_abs (span_in view spans i).word * bits + (span_in view spans i).head
+
+-- A list of numbers is those of the spans, each once, in an order in which the numbers of their first bits rise.
+pub record IsRising {S : Type 0} (bits : ℕ) (view : S → Span) (spans : List S) (order : List ℕ) : Type 0 where
+  pub each : IsPermutation (range_with_len 0 (length spans)) order
+  pub rises : AllPairs (λ i j. start_in bits view spans i ≤ start_in bits view spans j) order
 
 -- One command through a span of a memory: the reply is the command's own, and the span's list becomes the one that the
 -- command leaves, with all else as before.

@@ -4,12 +4,13 @@
 //! what they give on that list alone. All of it is our own.
 
 ghost use Rattle.std.specs.Prelude.{◌≡◌, ℕ, pos, ◌+ℤ◌, ◌≤ℤ◌, ◌⊎◌, ◌↔◌, IsTrue, IfSome, All};
+ghost use Rattle.std.specs.Prelude.{nat_abs, ◌+◌, ◌*◌};
 ghost use Rattle.std.specs.Prelude.{AllPairs, List, [], ◌∷◌, length, map};
 ghost use Rattle.bitvec_ptr.specs.Place.{place_at};
 ghost use Rattle.bitvec_domain.specs.Span.{AreDisjoint};
 ghost use Rattle.bitvec_domain.specs.BitSpan.{span_of};
 ghost use Rattle.bitvec.specs.Commands.{reply_number};
-ghost use Rattle.bitvec.specs.Run.{CanRun, IsRun};
+ghost use Rattle.bitvec.specs.Run.{CanRun, IsRun, IsRising, start_in};
 
 use crate::mem::BitRegister;
 use crate::order::BitOrder;
@@ -52,21 +53,31 @@ fn comes_before<R: BitRegister, O>(span: BitSpan<R, O>, next: BitSpan<R, O>) -> 
     span.is_empty() || span.to_bitptr_range().end() <= next.to_bitptr()
 }
 
-// Whether no two spans have a bit in common, by one pass that tests each with the last one before
-// it that has bits; `None` where a span that has bits starts before that one.
-fn neighbours_apart<R: BitRegister, O>(spans: &[BitSpan<R, O>]) -> Option<bool>
-    ensures { IfSome result (λ apart. IsTrue apart
-        ↔ AllPairs (λ a b. AreDisjoint R.BITS (span_of a) (span_of b)) spans.now) }
+// Whether the spans lie within so many words and no two have a bit in common, by one pass that
+// tests each with the last one before it that has bits; `None` where a span that has bits starts
+// before that one.
+fn rising_can_run<R: BitRegister, O>(spans: &[BitSpan<R, O>], words: usize) -> Option<bool>
+    ensures { IfSome result (λ can. IsTrue can ↔ CanRun R.BITS span_of spans.now words) }
 {
+    if spans.is_empty() {
+        return Some(true);
+    }
+    if !spans[0].fits(words) {
+        return Some(false);
+    }
     let mut last = 0;
     for i in 1..spans.len() {
         let (before, span) = (spans[last], spans[i]);
-        if !before.is_disjoint(&span) {
+        if !span.fits(words) {
             return Some(false);
         }
         if !span.is_empty() {
             if !comes_before(before, span) {
-                return None;
+                return if before.is_disjoint(&span) {
+                    None
+                } else {
+                    Some(false)
+                };
             }
             last = i;
         }
@@ -78,8 +89,8 @@ fn neighbours_apart<R: BitRegister, O>(spans: &[BitSpan<R, O>]) -> Option<bool>
 /// test of [`run`].
 ///
 /// Spans whose places rise, each that has bits behind the one before it that has, take one pass,
-/// and so do those that meet a neighbour in it; spans in no order are tested each with each. Our
-/// own.
+/// and so do those that meet a neighbour in it; spans in no order are tested each with each, which
+/// [`can_run_in`] spares who has room for a number for each. Our own.
 ///
 /// # Examples
 ///
@@ -93,11 +104,91 @@ fn neighbours_apart<R: BitRegister, O>(spans: &[BitSpan<R, O>]) -> Option<bool>
 pub fn can_run<R: BitRegister, O>(spans: &[BitSpan<R, O>], words: usize) -> bool
     ensures { IsTrue result ↔ CanRun R.BITS span_of spans.now words }
 {
-    let apart = match neighbours_apart(spans) {
-        Some(apart) => apart,
-        None => are_apart(spans),
-    };
-    apart && spans.iter().all(|span| span.fits(words))
+    match rising_can_run(spans, words) {
+        Some(can) => can,
+        None => are_apart(spans) && spans.iter().all(|span| span.fits(words)),
+    }
+}
+
+// The number of a span's first bit in its memory; the word's distance from word 0 counts.
+fn start<R: BitRegister, O>(span: BitSpan<R, O>) -> u128
+    ensures { result ≡ nat_abs (span_of span).word * R.BITS + (span_of span).head }
+{
+    let head = span.head().into_inner();
+    span.address().unsigned_abs() as u128 * u128::from(R::BITS) + u128::from(head)
+}
+
+// The number of the first bit of a span of a list, and 0 where there is no such span.
+fn start_of<R: BitRegister, O>(spans: &[BitSpan<R, O>], i: usize) -> u128
+    ensures { result ≡ start_in R.BITS span_of spans.now i }
+{
+    if i < spans.len() { start(spans[i]) } else { 0 }
+}
+
+// Puts the numbers of the spans in an order in which their first bits rise.
+fn sort_places<R: BitRegister, O>(spans: &[BitSpan<R, O>], order: &mut [usize])
+    requires { length order.old ≡ length spans.now }
+    ensures { IsRising R.BITS span_of spans.now order.new }
+{
+    for i in 0..order.len() {
+        order[i] = i;
+    }
+    order.sort_unstable_by_key(|i| start_of(spans, *i));
+}
+
+// Whether no two spans have a bit in common, by one pass in an order in which their places rise:
+// each is tested with the last one before it that has bits.
+fn sorted_apart<R: BitRegister, O>(spans: &[BitSpan<R, O>], order: &[usize]) -> bool
+    requires rising { IsRising R.BITS span_of spans.now order.now }
+    requires fit { All (λ span. pos 0 ≤ℤ (span_of span).word) spans.now }
+    ensures { IsTrue result ↔ AllPairs (λ a b. AreDisjoint R.BITS (span_of a) (span_of b))
+        spans.now }
+{
+    let mut last = 0;
+    for i in 1..order.len() {
+        let (lower, upper) = (order[last], order[i]);
+        let (before, span) = (spans[lower], spans[upper]);
+        if !before.is_disjoint(&span) {
+            return false;
+        }
+        if !span.is_empty() {
+            last = i;
+        }
+    }
+    true
+}
+
+/// The answer of [`can_run`], found in time n log n for n spans whatever their order, with room for
+/// a number for each.
+///
+/// Where it is true, the room holds the numbers of the spans, each once, in an order in which their
+/// first bits rise; where some span does not fit, the room stays as it is. Our own.
+///
+/// # Examples
+///
+/// ```
+/// let low: BitSpan<u8, Lsb0> = BitSpan::new(0, BitIdx::new_unchecked(0), 3).unwrap();
+/// let high = BitSpan::new(0, BitIdx::new_unchecked(3), 5).unwrap();
+/// let mut order = [0; 2];
+/// assert!(rt; can_run_in(&[high, low], 1, &mut order));
+/// assert_eq!(rt; order, [1, 0]);
+/// assert!(rt; !can_run_in(&[high, high], 1, &mut order));
+/// ```
+pub fn can_run_in<R: BitRegister, O>(
+    spans: &[BitSpan<R, O>],
+    words: usize,
+    order: &mut [usize],
+) -> bool
+    requires { length order.old ≡ length spans.now }
+    ensures answer { IsTrue result ↔ CanRun R.BITS span_of spans.now words }
+    ensures order { IsTrue result → IsRising R.BITS span_of spans.now order.new }
+    ensures len { length order.new ≡ length order.old }
+{
+    if !spans.iter().all(|span| span.fits(words)) {
+        return false;
+    }
+    sort_places(spans, order);
+    sorted_apart(spans, order)
 }
 
 // Serves one request.

@@ -5,7 +5,7 @@ use bitvec::index::BitIdx;
 use bitvec::mem::BitRegister;
 use bitvec::order::{BitOrder, Lsb0, Msb0};
 use bitvec::ptr::span::{BitSpan, BitSpanError};
-use bitvec::run::{Command, Reply, Request, can_run, run, step};
+use bitvec::run::{Command, Reply, Request, can_run, can_run_in, run, step};
 use std::marker::PhantomData;
 use std::test::Fail;
 
@@ -235,6 +235,16 @@ fn spans_that_can_run(rt: HostRuntime) {
     assert!(rt; can_run(&[low, high], 1));
     assert!(rt; !can_run(&[low, high], 0));
     assert!(rt; !can_run(&[low, low], 1));
+}
+
+#[test]
+fn spans_in_no_order(rt: HostRuntime) {
+    let low: BitSpan<u8, Lsb0> = BitSpan::new(0, BitIdx::new_unchecked(0), 3).unwrap();
+    let high = BitSpan::new(0, BitIdx::new_unchecked(3), 5).unwrap();
+    let mut order = [0; 2];
+    assert!(rt; can_run_in(&[high, low], 1, &mut order));
+    assert_eq!(rt; order, [1, 0]);
+    assert!(rt; !can_run_in(&[high, high], 1, &mut order));
 }
 
 #[test]

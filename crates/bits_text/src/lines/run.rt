@@ -8,7 +8,7 @@ use crate::words::{words_of, write_words};
 use bitvec::mem::BitRegister;
 use bitvec::order::BitOrder;
 use bitvec::ptr::span::BitSpan;
-use bitvec::run::{Command, Reply, Request, can_run, run};
+use bitvec::run::{Command, Reply, Request, can_run_in, run};
 use std::alloc::{AllocError, Allocator};
 use std::fmt::Write as _;
 
@@ -66,7 +66,8 @@ fn served<'a, R: BitRegister, O: BitOrder<R>, A: Allocator>(
     if !spans.iter().all(|span| span.fits(memory.len())) {
         return Err(Fault::line(alloc, &"span does not fit"));
     }
-    if !can_run(spans, memory.len()) {
+    let mut order = vec![in alloc; 0usize; spans.len()]?;
+    if !can_run_in(spans, memory.len(), &mut order) {
         return Err(Fault::line(alloc, &"spans overlap"));
     }
     let mut replies = vec![in alloc; Reply::NoSpan; requests.len()]?;

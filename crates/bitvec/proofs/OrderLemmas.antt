@@ -1,0 +1,153 @@
+-- Spans taken in another order: relations of each two of them, and the last one with bits in an order in which places rise.
+use Rattle.std.proofs.Common.{◌≡◌, ℕ, negsuc, ◌*◌, ℤ, pos, ◌+◌, ◌<◌, ◌≤◌, ◌+ℤ◌, ◌≤ℤ◌, ◌<ℤ◌, ◌⊎◌, List, length, get_or, [], ◌∷◌, zero-add, refl, sym, ◌∙◌, subst, ap, inl, inr, arith}
+use Rattle.std.specs.Prelude.{nat_abs, map, All, AllPairs, swap}
+use Rattle.std.specs.List.{range_with_len}
+use Rattle.std.specs.List.Sorted.{IsPermutation, IsNonDecreasingBy}
+use Rattle.std.proofs.lemmas.Bool.{cases_eq, cases_lt}
+use Rattle.std.proofs.lemmas.Int.{ints, by_lt_z}
+use Rattle.std.proofs.lemmas.List.{get_or_default}
+use Rattle.std.proofs.lemmas.List.Edits.{length-swap, swapped_from_swap}
+use Rattle.std.proofs.lemmas.List.FromFn.{fill_by_all, length-range_with_len, get_or-range_with_len}
+use Rattle.std.proofs.lemmas.List.Sorted.{IsPermutation-keeps, All-permutation, IsPermutation-sym}
+use Rattle.std.proofs.lemmas.Option.{slice_get_read}
+use Rattle.bitvec_ptr.specs.Place.{place_at}
+use Rattle.bitvec_domain.specs.Span.{Span, AreDisjoint}
+use Rattle.bitvec_domain.proofs.DisjointLemmas.{disjoint-sym}
+use Rattle.bitvec.specs.Run.{span_in, numbers_of}
+use Rattle.bitvec.proofs.RisingLemmas.{ComesBefore}
+
+-- each two elements at different indices are related
+abbrev pub EachTwo : {X : Type 0} → (X → X → Type 0) → List X → Type 0
+EachTwo {X} R xs = (a b : ℕ) (d : X) → (a ≡ b → ⊥) → a < length xs → b < length xs → R (get_or xs a d) (get_or xs b d)
+
+pub each_two_from_pairs : {X : Type 0} (R : X → X → Type 0) → ((x y : X) → R x y → R y x) → (xs : List X) → AllPairs R xs → EachTwo R xs
+each_two_from_pairs R turns xs all a b d differ low high =
+    elim (cases_lt a b) [
+      | inl below ↦ all a b d below high
+      | inr above ↦ turns (get_or xs b d) (get_or xs a d) (all b a d (omega arith) low)
+    ]
+
+pub pairs_from_each_two : {X : Type 0} (R : X → X → Type 0) (xs : List X) → EachTwo R xs → AllPairs R xs
+pairs_from_each_two R xs all a b d below high = all a b d (λ e. omega arith) (omega arith) high
+
+-- an exchange of indices i and j brings what stood at k to m
+abbrev pub Brings : ℕ → ℕ → ℕ → ℕ → Type 0
+Brings i j k m = ((m ≡ i) × (k ≡ j)) ⊎ (((m ≡ j) × (k ≡ i)) ⊎ ((m ≡ i → ⊥) × (m ≡ j → ⊥) × (k ≡ m)))
+
+pub brings-differ : (i j k l a b : ℕ) → Brings i j k a → Brings i j l b → (a ≡ b → ⊥) → k ≡ l → ⊥
+brings-differ i j k l a b (inl (p, q)) (inl (s, t)) differ same = differ (omega arith)
+brings-differ i j k l a b (inl (p, q)) (inr (inl (s, t))) differ same = differ (omega arith)
+brings-differ i j k l a b (inl (p, q)) (inr (inr (s, t, u))) differ same = t (omega arith)
+brings-differ i j k l a b (inr (inl (p, q))) (inl (s, t)) differ same = differ (omega arith)
+brings-differ i j k l a b (inr (inl (p, q))) (inr (inl (s, t))) differ same = differ (omega arith)
+brings-differ i j k l a b (inr (inl (p, q))) (inr (inr (s, t, u))) differ same = s (omega arith)
+brings-differ i j k l a b (inr (inr (p, q, r))) (inl (s, t)) differ same = q (omega arith)
+brings-differ i j k l a b (inr (inr (p, q, r))) (inr (inl (s, t))) differ same = p (omega arith)
+brings-differ i j k l a b (inr (inr (p, q, r))) (inr (inr (s, t, u))) differ same = differ (omega arith)
+
+-- what an exchange brings to m
+pub brought : {X : Type 0} (xs : List X) (i j m : ℕ) (d : X) → i < length xs → j < length xs → m < length xs
+    → (k : ℕ) × (k < length xs) × (get_or (swap xs i j) m d ≡ get_or xs k d) × Brings i j k m
+brought xs i j m d in_i in_j within =
+    let moved = swapped_from_swap xs (swap xs i j) i j d in_i in_j refl in
+    elim (cases_eq m i) [
+      | inl e ↦ (j, in_j, ap (λ n. get_or (swap xs i j) n d) e ∙ moved.0, inl (e, refl))
+      | inr not_i ↦ elim (cases_eq m j) [
+        | inl e ↦ (i, in_i, ap (λ n. get_or (swap xs i j) n d) e ∙ moved.1, inr (inl (e, refl)))
+        | inr not_j ↦ (m, within, moved.2 m not_i not_j, inr (inr (not_i, not_j, refl)))
+      ]
+    ]
+
+pub each_two_swap : {X : Type 0} (R : X → X → Type 0) (xs : List X) (i j : ℕ) → i < length xs → j < length xs → EachTwo R xs → EachTwo R (swap xs i j)
+each_two_swap R xs i j in_i in_j all a b d differ low high =
+    let long = length-swap xs i j in
+    let p = brought xs i j a d in_i in_j (omega arith) in
+    let q = brought xs i j b d in_i in_j (omega arith) in
+    subst (λ x. R x (get_or (swap xs i j) b d)) (sym p.2)
+    (subst (λ y. R (get_or xs p.0 d) y) (sym q.2)
+    (all p.0 q.0 d (brings-differ i j p.0 q.0 a b p.3 q.3 differ) p.1 q.1))
+
+-- where a relation goes either way, so it is among the same elements in another order
+pub pairs_in_order : {X : Type 0} (R : X → X → Type 0) → ((x y : X) → R x y → R y x) → (xs ys : List X) → IsPermutation xs ys → AllPairs R xs → AllPairs R ys
+pairs_in_order R turns xs ys moved all =
+    pairs_from_each_two R ys
+    (IsPermutation-keeps xs (EachTwo R) (each_two_from_pairs R turns xs all) (λ l i j in_i in_j h. each_two_swap R l i j in_i in_j h) ys moved)
+
+-- the span at an index that is there
+pub span_in-at : {S : Type 0} (view : S → Span) (xs : List S) (i : ℕ) (d : S) → i < length xs → span_in view xs i ≡ view (get_or xs i d)
+span_in-at view xs i d within =
+    ap (numbers_of view) (slice_get_read xs (length xs) i (get_or xs i d) refl within (get_or_default xs i d (get_or xs i d) within))
+
+pub span_in-range : {S : Type 0} (view : S → Span) (xs : List S) (i : ℕ) (d : S) (e : ℕ) → i < length xs
+    → span_in view xs (get_or (range_with_len 0 (length xs)) i e) ≡ view (get_or xs i d)
+span_in-range view xs i d e within =
+    ap (λ n. span_in view xs n) (get_or-range_with_len 0 (length xs) i e within ∙ zero-add i) ∙ span_in-at view xs i d within
+
+-- a relation of spans, by the spans' numbers
+pub pairs_by_number : {S : Type 0} (R : Span → Span → Type 0) (view : S → Span) (xs : List S)
+    → AllPairs (λ a b. R (view a) (view b)) xs → AllPairs (λ i j. R (span_in view xs i) (span_in view xs j)) (range_with_len 0 (length xs))
+pairs_by_number R view [] all i j d below high = absurd (omega arith)
+pairs_by_number R view (x ∷ rest) all i j d below high =
+    let long = length-range_with_len 0 (length (x ∷ rest)) in
+    let within : j < length (x ∷ rest) = omega (arith, high, long) in
+    subst (λ s. R s (span_in view (x ∷ rest) (get_or (range_with_len 0 (length (x ∷ rest))) j d))) (sym (span_in-range view (x ∷ rest) i x d (omega (arith, below, within))))
+    (subst (λ s. R (view (get_or (x ∷ rest) i x)) s) (sym (span_in-range view (x ∷ rest) j x d within)) (all i j x below within))
+
+pub pairs_from_number : {S : Type 0} (R : Span → Span → Type 0) (view : S → Span) (xs : List S)
+    → AllPairs (λ i j. R (span_in view xs i) (span_in view xs j)) (range_with_len 0 (length xs)) → AllPairs (λ a b. R (view a) (view b)) xs
+pairs_from_number R view xs all i j d below high =
+    let long = length-range_with_len 0 (length xs) in
+    subst (λ s. R s (view (get_or xs j d))) (span_in-range view xs i d 0 (omega arith))
+    (subst (λ s. R (span_in view xs (get_or (range_with_len 0 (length xs)) i 0)) s) (span_in-range view xs j d 0 high)
+    (all i j 0 below (omega arith)))
+
+-- the span at an index that was read
+pub span_in-read : {S : Type 0} (view : S → Span) (xs : List S) (i : ℕ) (x : S) → i < length xs → x ≡ get_or xs i x → span_in view xs i ≡ view x
+span_in-read view xs i x within is = ap (numbers_of view) (slice_get_read xs (length xs) i x refl within is)
+
+-- spans that are apart are so in another order, and back
+pub apart_along : {S : Type 0} (bits : ℕ) (view : S → Span) (spans : List S) (order : List ℕ) → IsPermutation (range_with_len 0 (length spans)) order
+    → AllPairs (λ a b. AreDisjoint bits (view a) (view b)) spans → AllPairs (λ i j. AreDisjoint bits (span_in view spans i) (span_in view spans j)) order
+apart_along bits view spans order moved apart =
+    pairs_in_order (λ i j. AreDisjoint bits (span_in view spans i) (span_in view spans j)) (λ i j. disjoint-sym bits (span_in view spans i) (span_in view spans j))
+    (range_with_len 0 (length spans)) order moved (pairs_by_number (AreDisjoint bits) view spans apart)
+
+pub apart_back : {S : Type 0} (bits : ℕ) (view : S → Span) (spans : List S) (order : List ℕ) → IsPermutation (range_with_len 0 (length spans)) order
+    → AllPairs (λ i j. AreDisjoint bits (span_in view spans i) (span_in view spans j)) order → AllPairs (λ a b. AreDisjoint bits (view a) (view b)) spans
+apart_back bits view spans order moved apart =
+    pairs_from_number (AreDisjoint bits) view spans
+    (pairs_in_order (λ i j. AreDisjoint bits (span_in view spans i) (span_in view spans j)) (λ i j. disjoint-sym bits (span_in view spans i) (span_in view spans j))
+    order (range_with_len 0 (length spans)) (IsPermutation-sym (range_with_len 0 (length spans)) order moved) apart)
+
+-- a list that holds at each index the index
+pub each_itself : (xs : List ℕ) → map (λ x. x) xs ≡ xs
+each_itself [] = refl
+each_itself (x ∷ xs) = ap (λ ys. x ∷ ys) (each_itself xs)
+
+pub numbered : (xs : List ℕ) (n : ℕ) → length xs ≡ n → ((k : ℕ) → k < n → get_or xs k 0 ≡ k) → xs ≡ range_with_len 0 n
+numbered xs n long is = fill_by_all (λ k. k) xs n 0 long is ∙ each_itself (range_with_len 0 n)
+
+-- the numbers of an order are those of elements
+pub below_in_order : (n : ℕ) (order : List ℕ) → IsPermutation (range_with_len 0 n) order → All (λ i. i < n) order
+below_in_order n order moved =
+    let long = length-range_with_len 0 n in
+    All-permutation (λ i. i < n) (range_with_len 0 n) order moved (λ k d h. rw (get_or-range_with_len 0 n k d (omega arith)) (omega arith))
+
+-- a list along which a number does not fall
+pub rises_from_sort : (key : ℕ → ℕ) (xs : List ℕ) → IsNonDecreasingBy key xs → AllPairs (λ x y. key x ≤ key y) xs
+rises_from_sort key xs sorted i j d below high = sorted i j d (omega arith) high
+
+-- two places from word 0 on, by their numbers
+pub le_by_number : (bits i j : ℕ) (a b : ℤ) → pos 0 ≤ℤ a → pos 0 ≤ℤ b → nat_abs a * bits + i ≤ nat_abs b * bits + j → place_at bits a i ≤ℤ place_at bits b j
+le_by_number bits i j (pos m) (pos n) low_a low_b h = omega (arith, ints, h)
+le_by_number bits i j (pos m) (negsuc n) low_a low_b h = absurd (omega (arith, ints, low_b))
+le_by_number bits i j (negsuc m) b low_a low_b h = absurd (omega (arith, ints, low_a))
+
+-- of two disjoint spans of which the second has bits and starts no lower, the first comes before it
+pub before_from_disjoint : (bits : ℕ) (a b : Span) → place_at bits a.word a.head ≤ℤ place_at bits b.word b.head → AreDisjoint bits a b → 0 < b.len → ComesBefore bits a b
+before_from_disjoint bits a b rises apart some =
+    let p = place_at bits a.word a.head in
+    let q = place_at bits b.word b.head in
+    by_lt_z q (p +ℤ pos a.len)
+    (λ (inside : q <ℤ (p +ℤ pos a.len)). absurd (apart q (rises, inside) (omega (arith, ints), omega (arith, ints, some))))
+    (λ (past : (p +ℤ pos a.len) ≤ℤ q). inr past)
