@@ -1,7 +1,7 @@
 -- Numbers in lists of bits, by the words' parts.
-use Rattle.std.proofs.Common.{◌≡◌, ℕ, ◌+◌, ◌-◌, ◌*◌, ◌/◌, ◌%◌, ◌^◌, ◌<◌, ◌≤◌, ◌==◌, ◌&&◌, ◌||◌, Bool, true, false, nat_le, nat_lt, if◌then◌else◌, List, length, refl, sym, ap, ◌∙◌, inl, inr, arith}
+use Rattle.std.proofs.Common.{◌≡◌, ℕ, ◌+◌, ◌-◌, ◌*◌, ◌/◌, ◌%◌, ◌^◌, ◌<◌, ◌≤◌, ◌==◌, ◌&&◌, ◌||◌, Bool, true, false, nat_lt, if◌then◌else◌, List, length, refl, sym, ap, ◌∙◌, inl, inr, arith}
 use Rattle.std.specs.Prelude.{Option, Some, None, IsSome, IsNone}
-use Rattle.std.proofs.lemmas.Bool.{cases_eq, cases_lt, cases_order, and_right, lt-ltb, le-ltb, le-leb, lt-leb, eq-eqb, ne_eqb}
+use Rattle.std.proofs.lemmas.Bool.{cases_eq, cases_lt, cases_order, lt-ltb, le-ltb, eq-eqb, ne_eqb}
 use Rattle.std.proofs.lemmas.Nat.{div-add-mod', mod_below, div-mul-add, pow_pos, le-div}
 use Rattle.std.proofs.Math.Nat.{mod-lt, mul-le-mul_right}
 use Rattle.std.proofs.Math.Pow.{pow_mono}
@@ -194,47 +194,27 @@ pub record IsMovedDown (down most w v : ℕ) : Type 0 where
   pub high : (p : ℕ) → p < most → most ≤ down + p → digit v p ≡ false
 
 module _ (bits head len k : ℕ) (bit : ℕ → Bool) (some : 0 < bits) (in_head : head < bits) (met : k < words_met bits head len) where
-  -- `w` has the elements where the word has them, and `v` is `w` moved down
-  module _ (at : ℕ → ℕ) (w : ℕ) (is_word : (i : ℕ) → i < bits → digit w (at i) ≡ (nat_le head (k * bits + i) && bit (k * bits + i - head))) where
-    at_element : (i j : ℕ) → i < bits → head + j ≡ k * bits + i → digit w (at i) ≡ bit j
-    at_element i j below is =
-        let back : k * bits + i - head ≡ j = omega (arith, is) in
-        is_word i below ∙ rw (le-leb head (k * bits + i) (omega (arith, is))) (ap bit back)
-
-    past_part : (rises : Bool) (p : ℕ) → IsSequential bits rises at → ((j : ℕ) → len ≤ j → bit j ≡ false) → stretch_end bits head len k - stretch_start bits head k ≤ p
-        → part_shift rises bits head len k + p < bits → digit w (part_shift rises bits head len k + p) ≡ false
-    past_part true p law none h within =
-        let bounds = met_bounds bits head len k some in_head met in
-        let i = part_shift true bits head len k + p in
-        ap (digit w) (sym (law.positions (part_shift true bits head len k + p) within))
-        ∙ is_word (part_shift true bits head len k + p) within
-        ∙ and_right _ _ (none (k * bits + (part_shift true bits head len k + p) - head) (omega (arith, bounds, h, within)))
-    past_part false p law none h within =
-        let bounds = met_bounds bits head len k some in_head met in
-        let back : part_shift false bits head len k + p ≡ bits - 1 - (bits - 1 - (part_shift false bits head len k + p)) = omega (arith, within) in
-        let inside : bits - 1 - (part_shift false bits head len k + p) < bits = omega (arith, some) in
-        ap (digit w) (back ∙ sym (law.positions (bits - 1 - (part_shift false bits head len k + p)) inside))
-        ∙ is_word (bits - 1 - (part_shift false bits head len k + p)) inside
-        ∙ rw (lt-leb head (k * bits + (bits - 1 - (part_shift false bits head len k + p))) (omega (arith, bounds, h, within))) refl
-
-    pub part_moved : (rises : Bool) (v : ℕ) → IsSequential bits rises at → ((j : ℕ) → len ≤ j → bit j ≡ false) → IsMovedDown (part_shift rises bits head len k) bits w v → IsPart rises bits head len k bit v
-    part_moved rises v law none down = record {
-      digits = λ j h word.
-          let lies = position_in_part bits head len some in_head j k h word rises in
-          let parts = div-add-mod' (head + j) bits in
-          let product : (head + j) / bits * bits ≡ k * bits = ap (λ n. n * bits) word in
-          let small = mod_below (head + j) bits some in
-          down.moved (part_step rises bits head len k j) lies.1
-          ∙ ap (digit w) (sym (law.positions ((head + j) % bits) small ∙ lies.0))
-          ∙ at_element ((head + j) % bits) j small (omega (arith, parts, product));
-      past = λ p h. elim (cases_lt p bits) [
-        | inr above ↦ digit_above v bits p down.below above
-        | inl below ↦ elim (cases_lt (part_shift rises bits head len k + p) bits) [
-          | inr out ↦ down.high p below out
-          | inl within ↦ down.moved p within ∙ past_part rises p law none h within
-        ]
-      ];
-    }
+  -- `w` has the elements where the word has them, `v` is `w` moved down, and `r` has the digits of `v` that are the part's
+  pub part_cut : (at : ℕ → ℕ) (w v r : ℕ) (rises : Bool) → IsSequential bits rises at
+      → ((j : ℕ) → j < len → (head + j) / bits ≡ k → digit w (at ((head + j) % bits)) ≡ bit j)
+      → IsMovedDown (part_shift rises bits head len k) bits w v → r < 2 ^ bits
+      → ((p : ℕ) → p < bits → digit r p ≡ (nat_lt p (stretch_end bits head len k - stretch_start bits head k) && digit v p)) → IsPart rises bits head len k bit r
+  part_cut at w v r rises law is_word down small cut = record {
+    digits = λ j h word.
+        let lies = position_in_part bits head len some in_head j k h word rises in
+        let within = step_within bits head len some in_head j k h word false rises in
+        let inside = mod_below (head + j) bits some in
+        let step = part_step rises bits head len k j in
+        cut (part_step rises bits head len k j) (omega (arith, lies.1))
+        ∙ rw (lt-ltb (part_step rises bits head len k j) (stretch_end bits head len k - stretch_start bits head k) within.1) (
+        down.moved (part_step rises bits head len k j) lies.1
+        ∙ ap (digit w) (sym (law.positions ((head + j) % bits) inside ∙ lies.0))
+        ∙ is_word j h word);
+    past = λ p h. elim (cases_lt p bits) [
+      | inr above ↦ digit_above r bits p small above
+      | inl below ↦ cut p below ∙ rw (le-ltb p (stretch_end bits head len k - stretch_start bits head k) h) refl
+    ];
+  }
 
   -- the element of word k that is digit q
   element_at : (big rises : Bool) (q : ℕ) → part_place big bits head len k ≤ q → q - part_place big bits head len k < stretch_end bits head len k - stretch_start bits head k
@@ -319,6 +299,31 @@ pub all_words : (big rises : Bool) (bits head : ℕ) (xs : List Bool) (n most : 
 all_words big rises bits head xs n most some in_head small digits past =
     number_of-from_digits (length xs) (digit_place big bits rises head (length xs)) (element xs) n (digit_places bits head (length xs) some in_head big rises) (small_from_digits n most (length xs) small past)
     (λ j h. digits j h ∙ rw (lt-ltb ((head + j) / bits) (words_met bits head (length xs)) (met_word bits head (length xs) j some h)) refl)
+
+-- the number of a list that meets one word or two
+module _ (big rises : Bool) (bits head : ℕ) (xs : List Bool) (most : ℕ) (some : 0 < bits) (in_head : head < bits) where
+  first_word : (a j : ℕ) → j < length xs → IsPlaced big bits rises head (length xs) 0 (element xs) a
+      → digit a (digit_place big bits rises head (length xs) j) ≡ (nat_lt ((head + j) / bits) 1 && element xs j)
+  first_word a j h placed = more_words ((head + j) / bits) 0 (element xs j) false _ _ (no_words ((head + j) / bits) (element xs j)) (placed.digits j h) refl
+
+  pub one_word : (n : ℕ) → n < 2 ^ most → words_met bits head (length xs) ≡ 1 → IsPlaced big bits rises head (length xs) 0 (element xs) n → n ≡ field_number big bits rises head xs
+  one_word n small one placed =
+      all_words big rises bits head xs n most some in_head small
+      (λ j h. first_word n j h placed ∙ ap (λ m. nat_lt ((head + j) / bits) m && element xs j) (sym one)) placed.past
+
+  pub two_words : (a b n : ℕ) → n < 2 ^ most → length xs ≤ most → ((q : ℕ) → q < most → digit n q ≡ (digit a q || digit b q)) → words_met bits head (length xs) ≡ 2
+      → IsPlaced big bits rises head (length xs) 0 (element xs) a → IsPlaced big bits rises head (length xs) 1 (element xs) b → n ≡ field_number big bits rises head xs
+  two_words a b n small long joined two first second =
+      let law = digit_places bits head (length xs) some in_head big rises in
+      all_words big rises bits head xs n most some in_head small
+      (λ j h.
+      let place = digit_place big bits rises head (length xs) j in
+      more_words ((head + j) / bits) 1 (element xs j) _ _ _ (first_word a j h first) (second.digits j h) (joined place (omega (arith, law.below j h, long)))
+      ∙ ap (λ m. nat_lt ((head + j) / bits) m && element xs j) (sym two))
+      (λ q h. elim (cases_lt q most) [
+        | inr above ↦ digit_above n most q small above
+        | inl below ↦ joined q below ∙ rw (first.past q h, second.past q h) refl
+      ])
 
 -- ---- the digits of a list's number
 

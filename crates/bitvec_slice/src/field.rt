@@ -51,6 +51,7 @@ impl<R: BitRegister> Sequential<R> for Msb0 {
 }
 
 // How many bits lie before the `k`-th word that a span meets, from the first bit of the first word.
+#[inline(always)]
 fn before<R: BitRegister, O>(span: BitSpan<R, O>, k: usize) -> usize
     requires { k < words_met R.BITS (span_of span).head (span_of span).len }
     ensures value { result ≡ k * R.BITS }
@@ -60,6 +61,7 @@ fn before<R: BitRegister, O>(span: BitSpan<R, O>, k: usize) -> usize
 }
 
 // The numbers of the bits that the `k`-th word has of a span: the first, and one past the last.
+#[inline(always)]
 fn stretch<R: BitRegister, O>(span: BitSpan<R, O>, k: usize) -> (usize, usize)
     requires { k < words_met R.BITS (span_of span).head (span_of span).len }
     ensures start { result.0 ≡ stretch_start R.BITS (span_of span).head k }
@@ -75,6 +77,7 @@ fn stretch<R: BitRegister, O>(span: BitSpan<R, O>, k: usize) -> (usize, usize)
 }
 
 // How far up in its word the least digit of the `k`-th word's part lies.
+#[inline(always)]
 fn shift<R: BitRegister, O: Sequential<R>>(span: BitSpan<R, O>, k: usize) -> u8
     requires { k < words_met R.BITS (span_of span).head (span_of span).len }
     ensures value { result ≡ (if O.RISES
@@ -83,18 +86,18 @@ fn shift<R: BitRegister, O: Sequential<R>>(span: BitSpan<R, O>, k: usize) -> u8
         + stretch_end R.BITS (span_of span).head (span_of span).len k)) }
     ensures below { result < R.BITS }
 {
-    let width = usize::from(R::BITS);
-    let head = usize::from(span.head().into_inner());
-    let before = before(span, k);
-    let (start, end) = stretch(span, k);
     if O::RISES {
-        (start + head - before) as u8
+        if k == 0 { span.head().into_inner() } else { 0 }
     } else {
-        (before + width - (head + end)) as u8
+        let width = usize::from(R::BITS);
+        let head = usize::from(span.head().into_inner());
+        let (_, end) = stretch(span, k);
+        (before(span, k) + width - (head + end)) as u8
     }
 }
 
 // How far up in a number the part of the `k`-th word lies.
+#[inline(always)]
 fn place<R: BitRegister, O, N: BitRegister>(span: BitSpan<R, O>, k: usize, big: bool) -> u8
     requires met { k < words_met R.BITS (span_of span).head (span_of span).len }
     requires small { (span_of span).len ≤ N.BITS }
@@ -111,7 +114,30 @@ fn place<R: BitRegister, O, N: BitRegister>(span: BitSpan<R, O>, k: usize, big: 
     }
 }
 
+// The number whose lowest `count` digits are one, and whose others are zero.
+#[inline(always)]
+fn low_ones<R: BitRegister>(count: usize) -> R
+    requires some { 0 < count }
+    requires within { count ≤ R.BITS }
+    ensures { (p : ℕ) → p < R.BITS → digit (R.number result) p ≡ nat_lt p count }
+{
+    R::ALL.shr(R::BITS - count as u8)
+}
+
+// The `k`-th word that a span meets, whole.
+#[inline(always)]
+fn word_met<R: BitRegister, O: BitOrder<R>>(span: BitSpan<R, O>, memory: &[R], k: usize) -> R
+    requires fits { Fits R.BITS (span_of span) (length memory.now) }
+    requires met { k < words_met R.BITS (span_of span).head (span_of span).len }
+    ensures { (j : ℕ) → j < (span_of span).len → ((span_of span).head + j) / R.BITS ≡ k
+        → digit (R.number result) (O.at_of (((span_of span).head + j) % R.BITS))
+        ≡ element (list_by span O.at_of memory.now) j }
+{
+    memory[span.address() as usize + k]
+}
+
 // The part of the `k`-th word that a span meets, as a number.
+#[inline(always)]
 fn load_part<R: BitRegister, O: Sequential<R>>(span: BitSpan<R, O>, memory: &[R], k: usize) -> R
     requires fits { Fits R.BITS (span_of span) (length memory.now) }
     requires met { k < words_met R.BITS (span_of span).head (span_of span).len }
@@ -123,12 +149,13 @@ fn load_part<R: BitRegister, O: Sequential<R>>(span: BitSpan<R, O>, memory: &[R]
     ensures past { (p : ℕ) → stretch_end R.BITS (span_of span).head (span_of span).len k
         - stretch_start R.BITS (span_of span).head k ≤ p → digit (R.number result) p ≡ false }
 {
-    span.part(memory, k)
-        .load_value()
-        .shr(shift::<R, O>(span, k))
+    let (start, end) = stretch(span, k);
+    let word = word_met(span, memory, k);
+    low_ones::<R>(end - start).and(word.shr(shift::<R, O>(span, k)))
 }
 
 // The same where the part lies in the number of the whole span.
+#[inline(always)]
 fn load_digits<R: BitRegister, O: Sequential<R>, N: BitRegister>(
     span: BitSpan<R, O>,
     memory: &[R],
@@ -143,6 +170,7 @@ fn load_digits<R: BitRegister, O: Sequential<R>, N: BitRegister>(
         ≡ ((((span_of span).head + j) / R.BITS == k)
         && element (list_by span O.at_of memory.now) j) }
     ensures past { (q : ℕ) → (span_of span).len ≤ q → digit (N.number result) q ≡ false }
+    ensures below { N.number result < 2 ^ N.BITS }
 {
     let part = load_part(span, memory, k).to_u128();
     N::from_u128(part)
@@ -150,8 +178,9 @@ fn load_digits<R: BitRegister, O: Sequential<R>, N: BitRegister>(
         .shl(place::<R, O, N>(span, k, big))
 }
 
-// The number of a span, its first word's part lowest, or highest where `big`.
-fn load<R: BitRegister, O: Sequential<R>, N: BitRegister>(
+// The number of a span as `load` gives it, whatever number of words the span meets.
+#[inline(never)]
+fn load_words<R: BitRegister, O: Sequential<R>, N: BitRegister>(
     span: BitSpan<R, O>,
     memory: &[R],
     big: bool,
@@ -168,7 +197,31 @@ fn load<R: BitRegister, O: Sequential<R>, N: BitRegister>(
     number
 }
 
+// The number of a span, its first word's part lowest, or highest where `big`.
+#[inline(always)]
+fn load<R: BitRegister, O: Sequential<R>, N: BitRegister>(
+    span: BitSpan<R, O>,
+    memory: &[R],
+    big: bool,
+) -> N
+    requires fits { Fits R.BITS (span_of span) (length memory.now) }
+    requires small { (span_of span).len ≤ N.BITS }
+    ensures { N.number result ≡ field_number big R.BITS O.RISES (span_of span).head
+        (list_by span O.at_of memory.now) }
+{
+    let elements = span.elements();
+    if elements == 1 {
+        return load_digits(span, memory, 0, big);
+    }
+    if elements == 2 {
+        let first: N = load_digits(span, memory, 0, big);
+        return first.or(load_digits(span, memory, 1, big));
+    }
+    load_words(span, memory, big)
+}
+
 // The digits of a number that lie in the `k`-th word's part, where they lie in that word.
+#[inline(always)]
 fn word_digits<R: BitRegister, O: Sequential<R>, N: BitRegister>(
     span: BitSpan<R, O>,
     k: usize,
@@ -189,6 +242,7 @@ fn word_digits<R: BitRegister, O: Sequential<R>, N: BitRegister>(
 
 // Puts the digits of a word in place into the `k`-th word that a span meets, and returns those that
 // were there.
+#[inline(always)]
 fn store_word<R: BitRegister, O: BitOrder<R>>(
     span: BitSpan<R, O>,
     memory: &mut [R],
@@ -207,6 +261,7 @@ fn store_word<R: BitRegister, O: BitOrder<R>>(
 
 // Makes the bits of a span the digits of a number, those of its first word the lowest, or the
 // highest where `big`, and changes no other bit.
+#[inline(always)]
 fn store<R: BitRegister, O: Sequential<R>, N: BitRegister>(
     span: BitSpan<R, O>,
     memory: &mut [R],

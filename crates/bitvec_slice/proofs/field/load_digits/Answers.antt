@@ -28,4 +28,4 @@ returns g c =
     let placed =
     part_placed width span.head span.len c.args.k bit (omega (arith, eight)) (omega (arith, span.in_word, eight)) c.requires.met c.args.big g.O.Sequential.RISES most v r c.requires.small part
     (subst (λ n. IsMovedUp n most v r) {y = part_place c.args.big width span.head span.len c.args.k} c.place.ensures.value up) in
-    record { digits = placed.digits; past = placed.past }
+    record { digits = placed.digits; past = placed.past; below = c.shl.ensures.below }

@@ -3,7 +3,7 @@ use Rattle.bitvec.specs.BitSpan.{span_of}
 use Rattle.bitvec.specs.Digit.{digit}
 use Rattle.bitvec.specs.Span.{element, list_of}
 use Rattle.bitvec_slice.specs.Field.{digit_place}
-use Rattle.bitvec_slice.proofs.field.load.Given as goal
+use Rattle.bitvec_slice.proofs.field.load_words.Given as goal
 
 -- the number has the digits of the words before word k
 abbrev pub invariant-loop-k : goal.invariant-loop-k
