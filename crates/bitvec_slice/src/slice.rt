@@ -11,6 +11,7 @@ mod ones;
 mod parts;
 mod same_words;
 mod whole;
+mod word_ends;
 
 pub use self::bit_slice::BitSlice;
 pub use self::bit_slice_mut::BitSliceMut;
