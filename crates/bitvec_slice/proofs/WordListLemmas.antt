@@ -1,13 +1,16 @@
 -- What a word of a span shows of the span's list. `bits` is the width of a word, and `at` takes an index to its position.
-use Rattle.std.proofs.Common.{◌≡◌, ℕ, ◌+◌, ◌-◌, ◌*◌, ◌<◌, ◌≤◌, ◌&&◌, Bool, true, false, not, nat_le, nat_lt, List, refl, sym, ap, ◌∙◌, inl, inr, arith}
+use Rattle.std.proofs.Common.{◌≡◌, ℕ, ◌+◌, ◌-◌, ◌*◌, ◌^◌, ◌<◌, ◌≤◌, ◌&&◌, Bool, true, false, not, nat_le, nat_lt, List, refl, sym, ap, ◌∙◌, inl, inr, arith}
 use Rattle.std.specs.Prelude.{nat_abs, slice_index}
 use Rattle.std.specs.Bool.{beq}
-use Rattle.std.proofs.lemmas.Bool.{cases_lt, and_parts, leb-true, ltb-true, le-leb, lt-leb, lt-ltb, le-ltb}
+use Rattle.std.specs.Coded.{le_prop, Π_prop}
+use mathlib.Core.Bool.{Bool-set}
+use Rattle.std.proofs.lemmas.Bool.{cases_eq, cases_lt, and_parts, leb-true, ltb-true, le-leb, lt-leb, lt-ltb, le-ltb}
 use Rattle.std.proofs.lemmas.Nat.{div-mul-add, mod-mul-add}
-use Rattle.bitvec.specs.Digit.{digit}
+use Rattle.bitvec.specs.Digit.{digit, exclusive_or}
 use Rattle.bitvec.specs.Memory.{bit_of}
 use Rattle.bitvec.specs.Order.{IsOneToOne, IsMaskOf}
 use Rattle.bitvec.specs.Span.{Span, list_of, element}
+use Rattle.bitvec.proofs.DigitLemmas.{digit-zero, digit-pow_same, digit-pow_other}
 use Rattle.bitvec.proofs.IndexLemmas.{digit-mask_at}
 use Rattle.bitvec.proofs.MemoryLemmas.{bit_of-place}
 use Rattle.bitvec.proofs.PartLemmas.{element-list_of}
@@ -152,3 +155,74 @@ chosen_last {bits} {at} {head} {xs} {k} {from} {upto} {bit} {w} c i r last e =
           let within : head + j - k * bits < bits = omega arith in
           passed_element c (head + j - k * bits) j within (omega arith) (omega arith) before (last.2 (head + j - k * bits) more within),
     )
+
+-- no elements, and no ones
+pub chosen_empty : (bits : ℕ) (at : ℕ → ℕ) (head : ℕ) (xs : List Bool) (bit : Bool) (w : ℕ) → head < bits → w ≡ 0 → IsChosen bits at head xs 0 0 0 bit w
+chosen_empty bits at head xs bit w small zero = record {
+  start = omega arith;
+  end = omega arith;
+  ones = λ i h. ap (λ n. digit n (at i)) zero ∙ digit-zero (at i) ∙ elim (cases_lt (0 * bits + i) (head + 0)) [
+    | inl before ↦ sym (rw (lt-leb (head + 0) (0 * bits + i) before) refl)
+    | inr past ↦ sym (rw (le-leb (head + 0) (0 * bits + i) past, le-ltb (0 * bits + i) (head + 0) past) refl)
+  ];
+}
+
+-- where the first of the elements is `bit`, the word's first one is at its index
+pub chosen_here : {bits : ℕ} {at : ℕ → ℕ} {head : ℕ} {xs : List Bool} {k from upto : ℕ} {bit : Bool} {w : ℕ}
+    → IsChosen bits at head xs k from upto bit w → from < upto → element xs from ≡ bit → (i : ℕ) → k * bits + i ≡ head + from → IsFirstIndex bits at w i
+chosen_here {bits} {at} {head} {xs} {k} {from} {upto} {bit} {w} c some here i e =
+    let end = c.end in
+    let small : i < bits = omega arith in
+    let same : k * bits + i - head ≡ from = omega arith in
+    let is : element xs (k * bits + i - head) ≡ bit = ap (element xs) same ∙ here in (
+      small,
+      c.ones i small ∙ (rw (le-leb (head + from) (k * bits + i) (omega arith), lt-ltb (k * bits + i) (head + upto) (omega arith), is) (beq_itself bit)),
+      λ q h. c.ones q (omega arith) ∙ (rw (lt-leb (head + from) (k * bits + q) (omega arith)) refl),
+    )
+  where
+    beq_itself : (b : Bool) → beq b b ≡ true
+    beq_itself true = refl
+    beq_itself false = refl
+
+or_neither : (a : Bool) → exclusive_or a false ≡ a
+or_neither true = refl
+or_neither false = refl
+
+-- with its first one turned over the word has the elements behind that one
+pub chosen_behind : {bits : ℕ} {at : ℕ → ℕ} {head : ℕ} {xs : List Bool} {k from upto : ℕ} {bit : Bool} {w : ℕ}
+    → IsChosen bits at head xs k from upto bit w → IsOneToOne bits at → (i r v : ℕ) → IsFirstIndex bits at w i → r ≡ k * bits + i - head
+    → ((p : ℕ) → p < bits → digit v p ≡ exclusive_or (digit w p) (digit (2 ^ at i) p))
+    → IsChosen bits at head xs k (r + 1) upto bit v
+chosen_behind {bits} {at} {head} {xs} {k} {from} {upto} {bit} {w} c law i r v first e turns =
+    let here = chosen_element c i first.0 first.1 in
+    let low = here.0 in
+    let small = first.0 in
+    let place : head + r ≡ k * bits + i = omega arith in
+    record {
+      start = omega arith;
+      end = c.end;
+      ones = λ q h.
+          turns (at q) (law.below q h)
+          ∙ elim (cases_eq q i) [
+            | inl same ↦ (
+                let one : digit w (at q) ≡ true = ap (λ n. digit w (at n)) same ∙ first.1 in
+                let two : digit (2 ^ at i) (at q) ≡ true = ap (λ n. digit (2 ^ at i) (at n)) same ∙ digit-pow_same (at i) in
+                rw (one, two) (sym (rw (lt-leb (head + (r + 1)) (k * bits + q) (omega arith)) refl)))
+            | inr other ↦ (
+                let none : digit (2 ^ at i) (at q) ≡ false = digit-pow_other (at i) (at q) (λ f. other (law.apart q i h small f)) in
+                ap (exclusive_or (digit w (at q))) none
+                ∙ or_neither (digit w (at q))
+                ∙ elim (cases_lt q i) [
+                  | inl before ↦ (first.2 q before ∙ sym (rw (lt-leb (head + (r + 1)) (k * bits + q) (omega arith)) refl))
+                  | inr past ↦ (c.ones q h ∙ (rw (le-leb (head + (r + 1)) (k * bits + q) (omega arith), le-leb (head + from) (k * bits + q) (omega arith)) refl))
+                ])
+          ];
+    }
+
+-- two proofs that a word has the same elements are one
+pub chosen_prop : {bits : ℕ} {at : ℕ → ℕ} {head : ℕ} {xs : List Bool} {k from upto : ℕ} {bit : Bool} {w : ℕ} → (c d : IsChosen bits at head xs k from upto bit w) → c ≡ d
+chosen_prop {bits} {at} {head} {xs} {k} {from} {upto} {bit} {w} c d =
+    ap (λ (s : k * bits ≤ head + from). record c { start = s }) (le_prop c.start d.start)
+    ∙ ap (λ (e : head + upto ≤ (k + 1) * bits). record c { start = d.start; end = e }) (le_prop c.end d.end)
+    ∙ ap (λ (o : (i : ℕ) → i < bits → digit w (at i) ≡ (nat_le (head + from) (k * bits + i) && nat_lt (k * bits + i) (head + upto) && beq (element xs (k * bits + i - head)) bit)). record d { ones = o })
+    (Π_prop (λ i. Π_prop (λ h. Bool-set (digit w (at i)) (nat_le (head + from) (k * bits + i) && nat_lt (k * bits + i) (head + upto) && beq (element xs (k * bits + i - head)) bit))) c.ones d.ones)

@@ -1,5 +1,6 @@
 //! Slices of bits, for reading and for writing.
 
+mod ahead;
 mod bit_slice;
 mod bit_slice_mut;
 mod edit;

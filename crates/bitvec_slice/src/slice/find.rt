@@ -57,7 +57,7 @@ impl<'a, R: BitRegister, O: BitOrder<R>> BitSlice<'a, R, O> {
     }
 
     // The index of the first bit in its word.
-    fn head(&self) -> usize
+    pub(super) fn head(&self) -> usize
         ensures { result ≡ (slice_span self.now).head }
     {
         usize::from(self.span.head().into_inner())
