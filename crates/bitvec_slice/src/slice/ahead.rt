@@ -24,8 +24,8 @@ fn turned_at<R: BitRegister, O: BitOrder<R>>(word: R, index: u8) -> R
     word.xor(BitIdx::<R>::new_unchecked(index).select::<O>().into_inner())
 }
 
-// The bits of a slice from index `next` on that are `bit`: those before index `upto` are the ones of
-// `left`, and lie in word `word`.
+// The bits of a slice from index `next` on that are `bit`: those before index `upto` are the ones
+// of `left`, and lie in word `word`.
 #[derive(Drop)]
 pub(super) struct Ahead<'a, R: BitRegister, O: BitOrder<R>> {
     pub(super) slice: BitSlice<'a, R, O>,

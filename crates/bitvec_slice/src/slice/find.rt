@@ -83,8 +83,8 @@ impl<'a, R: BitRegister, O: BitOrder<R>> BitSlice<'a, R, O> {
         at
     }
 
-    // The number of a word from word `start` to word `end`, counted from the slice's first word, from
-    // which on to before word `end` all have the digits of `lacking`: the least such.
+    // The number of a word from word `start` to word `end`, counted from the slice's first word,
+    // from which on to before word `end` all have the digits of `lacking`.
     fn last_other(&self, start: usize, end: usize, lacking: R) -> usize
         requires ordered { start ≤ end }
         requires met { end
@@ -247,6 +247,8 @@ impl<'a, R: BitRegister, O: BitOrder<R>> BitSlice<'a, R, O> {
     }
 
     /// The index of the first bit that is one, counted from 0, and `None` where none is.
+    ///
+    /// By words, and at most once by bits in an order that neither rises nor falls.
     pub fn first_one(&self) -> Option<usize>
         ensures { MatchOption result (AllAre false (bits_of self.now))
             (IsFirst true (bits_of self.now)) }
@@ -255,6 +257,8 @@ impl<'a, R: BitRegister, O: BitOrder<R>> BitSlice<'a, R, O> {
     }
 
     /// The index of the first bit that is zero, counted from 0, and `None` where none is.
+    ///
+    /// By words, and at most once by bits in an order that neither rises nor falls.
     pub fn first_zero(&self) -> Option<usize>
         ensures { MatchOption result (AllAre true (bits_of self.now))
             (IsFirst false (bits_of self.now)) }
@@ -263,6 +267,8 @@ impl<'a, R: BitRegister, O: BitOrder<R>> BitSlice<'a, R, O> {
     }
 
     /// The index of the last bit that is one, counted from 0, and `None` where none is.
+    ///
+    /// By words, and at most once by bits in an order that neither rises nor falls.
     pub fn last_one(&self) -> Option<usize>
         ensures { MatchOption result (AllAre false (bits_of self.now))
             (IsLast true (bits_of self.now)) }
@@ -271,6 +277,8 @@ impl<'a, R: BitRegister, O: BitOrder<R>> BitSlice<'a, R, O> {
     }
 
     /// The index of the last bit that is zero, counted from 0, and `None` where none is.
+    ///
+    /// By words, and at most once by bits in an order that neither rises nor falls.
     pub fn last_zero(&self) -> Option<usize>
         ensures { MatchOption result (AllAre true (bits_of self.now))
             (IsLast false (bits_of self.now)) }

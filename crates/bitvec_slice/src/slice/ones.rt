@@ -84,6 +84,8 @@ impl<'a, R: BitRegister, O: BitOrder<R>> BitSlice<'a, R, O> {
     ghost use Rattle.bitvec_slice.specs.Ones.{ones_left, zeros_left};
 
     /// The indices of the bits that are one, counted from 0, in rising order.
+    ///
+    /// Constant time. All calls of `next` together go by words, and by the indices that they give.
     pub fn iter_ones(&self) -> IterOnes<'a, R, O>
         ensures { ones_left result
             ≡ ones_between (bits_of self.now) 0 (length (bits_of self.now)) }
@@ -95,6 +97,8 @@ impl<'a, R: BitRegister, O: BitOrder<R>> BitSlice<'a, R, O> {
     }
 
     /// The indices of the bits that are zero, counted from 0, in rising order.
+    ///
+    /// Constant time. All calls of `next` together go by words, and by the indices that they give.
     pub fn iter_zeros(&self) -> IterZeros<'a, R, O>
         ensures { zeros_left result
             ≡ zeros_between (bits_of self.now) 0 (length (bits_of self.now)) }
