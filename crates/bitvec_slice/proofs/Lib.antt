@@ -11,3 +11,4 @@ pub mod SameWordsLemmas
 mod SkipLemmas
 pub mod SlicePartLemmas
 mod SpanEdits
+mod WordListLemmas

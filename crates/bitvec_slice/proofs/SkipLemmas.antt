@@ -140,3 +140,34 @@ passed_bounds bits span index from upto k r is start low high inside =
       end = omega (arith, below, start, is);
       inside = omega (arith, above, parts, inside, is);
     }
+
+-- one word more, before those that have the digits
+pub one_word_before : (bits number : ℕ) (words : List ℕ) (at upto : ℕ) → HaveDigits bits number words at upto → (w : ℕ) → w + 1 ≡ at → ((p : ℕ) → p < bits → digit (slice_index words w) p ≡ digit number p)
+    → HaveDigits bits number words w upto
+one_word_before bits number words at upto behind v e here w p low high small =
+    elim (cases_eq w v) [
+      | inl same ↦ rw same (here p small)
+      | inr differ ↦ behind w p (omega arith) high small
+    ]
+
+-- a whole word that begins no later than a number of places is one of the words up to another that ends there
+pub ends_behind : (bits n r : ℕ) → 0 < bits → n ≤ r * bits → (n + (bits - 1)) / bits ≤ r
+ends_behind bits n r some within =
+    elim (cases_lt r ((n + (bits - 1)) / bits)) [
+      | inl more ↦ absurd (let row : (r + 1) * bits ≤ (n + (bits - 1)) / bits * bits = mul-le-mul_right bits (omega arith) in omega (arith, row, div-add-mod' (n + (bits - 1)) bits, within))
+      | inr enough ↦ enough
+    ]
+
+-- the first word that begins no earlier than a number of places does so
+pub begins_behind : (bits n k : ℕ) → 0 < bits → (n + (bits - 1)) / bits ≤ k → n ≤ k * bits
+begins_behind bits n k some low =
+    let row : (n + (bits - 1)) / bits * bits ≤ k * bits = mul-le-mul_right bits low in
+    omega (arith, row, div-add-mod' (n + (bits - 1)) bits, mod_below (n + (bits - 1)) bits some)
+
+-- the elements in the words that are passed over from behind, of which the last ends before element `upto`
+pub passed_back_bounds : (bits : ℕ) (span : Span) (index upto k r : ℕ) → index ≡ span.head → r * bits ≡ index + upto → upto ≤ span.len → AreInWords bits span (k * bits - index) upto k r
+passed_back_bounds bits span index upto k r is whole inside = record {
+  begin = omega (arith, is);
+  end = omega (arith, whole, is);
+  inside = inside;
+}

@@ -5,4 +5,5 @@ pub mod Field
 pub mod Iter
 pub mod Ones
 pub mod Whole
+pub mod WordEnds
 pub mod Words

@@ -1,5 +1,6 @@
 //! Slices of bits, for reading and for writing.
 
+mod ahead;
 mod bit_slice;
 mod bit_slice_mut;
 mod edit;
@@ -11,6 +12,7 @@ mod ones;
 mod parts;
 mod same_words;
 mod whole;
+mod word_ends;
 
 pub use self::bit_slice::BitSlice;
 pub use self::bit_slice_mut::BitSliceMut;

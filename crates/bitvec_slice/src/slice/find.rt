@@ -4,9 +4,10 @@ ghost use Rattle.std.specs.Prelude.{◌≡◌, ℕ, ◌+◌, ◌*◌, ◌^◌, �
 ghost use Rattle.std.specs.Prelude.{not, length, map, nat_abs, MatchOption};
 ghost use Rattle.bitvec.specs.Digit.{digit, count_below};
 ghost use Rattle.bitvec.specs.Place.{words_met};
-ghost use Rattle.bitvec.specs.Span.{element};
 
 use crate::slice::BitSlice;
+use crate::slice::word_ends::{first_index, last_index};
+use bitvec::index::{BitEnd, BitIdx};
 use bitvec::mem;
 use bitvec::mem::BitRegister;
 use bitvec::order::BitOrder;
@@ -17,6 +18,7 @@ impl<'a, R: BitRegister, O: BitOrder<R>> BitSlice<'a, R, O> {
     ghost use Rattle.bitvec_slice.specs.Bits.{ones_in, zeros_in, AllAre, IsFirst, IsLast};
     ghost use Rattle.bitvec_slice.specs.Bits.{BeginsWith, EndsWith, AreFree};
     ghost use Rattle.bitvec_slice.specs.Bits.{AllBetween, IsFirstBetween, IsLastBetween};
+    ghost use Rattle.bitvec_slice.specs.WordEnds.{IsChosen};
     ghost use Rattle.bitvec_slice.specs.Words.{HaveDigits};
 
     // How many bits of the slice in word `k`, counted from its first word, are one.
@@ -55,27 +57,10 @@ impl<'a, R: BitRegister, O: BitOrder<R>> BitSlice<'a, R, O> {
     }
 
     // The index of the first bit in its word.
-    fn head(&self) -> usize
+    pub(super) fn head(&self) -> usize
         ensures { result ≡ (slice_span self.now).head }
     {
         usize::from(self.span.head().into_inner())
-    }
-
-    // Whether none of the bits in word `k`, counted from the slice's first word, is `bit`.
-    fn lacks(&self, k: usize, bit: bool) -> bool
-        requires { k < words_met R.BITS (slice_span self.now).head (slice_span self.now).len }
-        ensures { IsTrue result ↔ ((j : ℕ) → j < slice_len self.now
-            → k * R.BITS ≤ (slice_span self.now).head + j
-            → (slice_span self.now).head + j < (k + 1) * R.BITS
-            → element (bits_of self.now) j ≡ not bit) }
-    {
-        let part = self.span.part(self.memory, k);
-        let lacking = if bit {
-            R::ZERO
-        } else {
-            part.mask().into_inner()
-        };
-        part.load_value() == lacking
     }
 
     // The number of the first word from word `k` on that has not the digits of `lacking`, counted
@@ -94,6 +79,27 @@ impl<'a, R: BitRegister, O: BitOrder<R>> BitSlice<'a, R, O> {
         let mut at = k;
         while at < end && self.memory[first + at].or(R::ZERO) == lacking {
             at += 1;
+        }
+        at
+    }
+
+    // The number of a word from word `start` to word `end`, counted from the slice's first word,
+    // from which on to before word `end` all have the digits of `lacking`.
+    fn last_other(&self, start: usize, end: usize, lacking: R) -> usize
+        requires ordered { start ≤ end }
+        requires met { end
+            ≤ words_met R.BITS (slice_span self.now).head (slice_span self.now).len }
+        requires below { R.number lacking < 2 ^ R.BITS }
+        ensures start { start ≤ result }
+        ensures end { result ≤ end }
+        ensures words { HaveDigits R.BITS (R.number lacking) (map R.number (slice_memory self.now))
+            (nat_abs (slice_span self.now).word + result)
+            (nat_abs (slice_span self.now).word + end) }
+    {
+        let first = self.span.address() as usize;
+        let mut at = end;
+        while start < at && self.memory[first + (at - 1)].or(R::ZERO) == lacking {
+            at -= 1;
         }
         at
     }
@@ -118,25 +124,67 @@ impl<'a, R: BitRegister, O: BitOrder<R>> BitSlice<'a, R, O> {
         self.first_other(k, end, lacking) * width - head
     }
 
+    // The bits from index `from` to before index `upto` that are `bit`, as the ones of a word: of
+    // word `k`, in which they lie.
+    #[inline(always)]
+    pub(super) fn chosen(&self, k: usize, from: usize, upto: usize, bit: bool) -> R
+        requires met { k < words_met R.BITS (slice_span self.now).head (slice_span self.now).len }
+        requires some { from < upto }
+        requires start { k * R.BITS ≤ (slice_span self.now).head + from }
+        requires end { (slice_span self.now).head + upto ≤ (k + 1) * R.BITS }
+        requires inside { upto ≤ slice_len self.now }
+        ensures { IsChosen R.BITS O.at_of (slice_span self.now).head (bits_of self.now) k from upto
+            bit (R.number result) }
+    {
+        let start = k * mem::bits_of::<R>();
+        let low = (self.head() + from - start) as u8;
+        let high = (self.head() + upto - start) as u8;
+        let mask = O::mask(
+            Some(BitIdx::new_unchecked(low)),
+            Some(BitEnd::new_unchecked(high)),
+        );
+        let word = self.memory[self.span.address() as usize + k];
+        let turned = if bit { word } else { word.not() };
+        turned.and(mask.into_inner())
+    }
+
     // The first that is `bit`, of the bits from index `from` to before index `upto`, which lie in
     // word `k`.
+    #[inline(always)]
     fn first_in_word(&self, k: usize, from: usize, upto: usize, bit: bool) -> Option<usize>
         requires met { k < words_met R.BITS (slice_span self.now).head (slice_span self.now).len }
+        requires some { from < upto }
         requires start { k * R.BITS ≤ (slice_span self.now).head + from }
         requires end { (slice_span self.now).head + upto ≤ (k + 1) * R.BITS }
         requires inside { upto ≤ slice_len self.now }
         ensures { MatchOption result (AllBetween (not bit) (bits_of self.now) from upto)
             (IsFirstBetween bit (bits_of self.now) from upto) }
     {
-        if self.lacks(k, bit) {
-            return None;
+        let word = self.chosen(k, from, upto, bit);
+        match first_index::<R, O>(word) {
+            Some(index) => Some(k * mem::bits_of::<R>() + usize::from(index) - self.head()),
+            None => None,
         }
-        for i in from..upto {
-            if self.get_unchecked(i) == bit {
-                return Some(i);
-            }
+    }
+
+    // An index from `from` to `upto`, from which to before `upto` no bit is `bit`: it passes over
+    // whole words where `upto` is one past the last bit of one.
+    fn pass_words_back(&self, from: usize, upto: usize, bit: bool) -> usize
+        requires ordered { from ≤ upto }
+        requires inside { upto ≤ slice_len self.now }
+        ensures start { from ≤ result }
+        ensures end { result ≤ upto }
+        ensures lacking { AllBetween (not bit) (bits_of self.now) result upto }
+    {
+        let head = self.head();
+        let width = mem::bits_of::<R>();
+        let end = (head + upto) / width;
+        if end * width != head + upto {
+            return upto;
         }
-        None
+        let start = (head + from + (width - 1)) / width;
+        let lacking = if bit { R::ZERO } else { R::ALL };
+        self.last_other(start, end, lacking) * width - head
     }
 
     // The first that is `bit`, of the bits from index `from` to before index `upto`.
@@ -161,25 +209,21 @@ impl<'a, R: BitRegister, O: BitOrder<R>> BitSlice<'a, R, O> {
 
     // The last that is `bit`, of the bits from index `from` to before index `upto`, which lie in
     // word `k`.
+    #[inline(always)]
     fn last_in_word(&self, k: usize, from: usize, upto: usize, bit: bool) -> Option<usize>
         requires met { k < words_met R.BITS (slice_span self.now).head (slice_span self.now).len }
+        requires some { from < upto }
         requires start { k * R.BITS ≤ (slice_span self.now).head + from }
         requires end { (slice_span self.now).head + upto ≤ (k + 1) * R.BITS }
         requires inside { upto ≤ slice_len self.now }
         ensures { MatchOption result (AllBetween (not bit) (bits_of self.now) from upto)
             (IsLastBetween bit (bits_of self.now) from upto) }
     {
-        if self.lacks(k, bit) {
-            return None;
+        let word = self.chosen(k, from, upto, bit);
+        match last_index::<R, O>(word) {
+            Some(index) => Some(k * mem::bits_of::<R>() + usize::from(index) - self.head()),
+            None => None,
         }
-        let mut end = upto;
-        while from < end {
-            end -= 1;
-            if self.get_unchecked(end) == bit {
-                return Some(end);
-            }
-        }
-        None
     }
 
     // The last that is `bit`, of the bits from index `from` to before index `upto`.
@@ -197,12 +241,14 @@ impl<'a, R: BitRegister, O: BitOrder<R>> BitSlice<'a, R, O> {
             if let Some(i) = self.last_in_word(k, start, end, bit) {
                 return Some(i);
             }
-            end = start;
+            end = self.pass_words_back(from, start, bit);
         }
         None
     }
 
     /// The index of the first bit that is one, counted from 0, and `None` where none is.
+    ///
+    /// By words, and at most once by bits in an order that neither rises nor falls.
     pub fn first_one(&self) -> Option<usize>
         ensures { MatchOption result (AllAre false (bits_of self.now))
             (IsFirst true (bits_of self.now)) }
@@ -211,6 +257,8 @@ impl<'a, R: BitRegister, O: BitOrder<R>> BitSlice<'a, R, O> {
     }
 
     /// The index of the first bit that is zero, counted from 0, and `None` where none is.
+    ///
+    /// By words, and at most once by bits in an order that neither rises nor falls.
     pub fn first_zero(&self) -> Option<usize>
         ensures { MatchOption result (AllAre true (bits_of self.now))
             (IsFirst false (bits_of self.now)) }
@@ -219,6 +267,8 @@ impl<'a, R: BitRegister, O: BitOrder<R>> BitSlice<'a, R, O> {
     }
 
     /// The index of the last bit that is one, counted from 0, and `None` where none is.
+    ///
+    /// By words, and at most once by bits in an order that neither rises nor falls.
     pub fn last_one(&self) -> Option<usize>
         ensures { MatchOption result (AllAre false (bits_of self.now))
             (IsLast true (bits_of self.now)) }
@@ -227,6 +277,8 @@ impl<'a, R: BitRegister, O: BitOrder<R>> BitSlice<'a, R, O> {
     }
 
     /// The index of the last bit that is zero, counted from 0, and `None` where none is.
+    ///
+    /// By words, and at most once by bits in an order that neither rises nor falls.
     pub fn last_zero(&self) -> Option<usize>
         ensures { MatchOption result (AllAre true (bits_of self.now))
             (IsLast false (bits_of self.now)) }

@@ -3,11 +3,12 @@
 //! Each gives its indices in rising order from the front, and in falling order from the back. Taken
 //! from both ends in any mixture it gives each index once, and then `None` for good.
 
-ghost use Rattle.std.specs.Prelude.{◌≡◌, ⊤, ◌≤◌, length};
+ghost use Rattle.std.specs.Prelude.{◌≡◌, ⊤, ◌≤◌, true, false, length};
 ghost use Rattle.bitvec_slice.specs.BitSlice.{slice_len, bits_of};
 ghost use Rattle.bitvec_slice.specs.Bits.{ones_between, zeros_between};
 
 use crate::slice::BitSlice;
+use crate::slice::ahead::Ahead;
 use bitvec::mem::BitRegister;
 use bitvec::order::BitOrder;
 use std::alloc::AllocError;
@@ -28,10 +29,10 @@ use std::iter::FusedIterator;
 /// ```
 #[derive(Drop)]
 pub struct IterOnes<'a, R: BitRegister, O: BitOrder<R>> {
-    slice: BitSlice<'a, R, O>,
-    next: usize,
+    ahead: Ahead<'a, R, O>,
     end: usize,
-    pub ghost inside: { end ≤ slice_len slice },
+    pub ghost inside: { end ≤ slice_len ahead.slice },
+    pub ghost of_ones: { ahead.bit ≡ true },
 }
 
 impl<'a, R: BitRegister, O: BitOrder<R>> Clone for IterOnes<'a, R, O> {
@@ -41,8 +42,7 @@ impl<'a, R: BitRegister, O: BitOrder<R>> Clone for IterOnes<'a, R, O> {
 
     fn clone(&self) -> Result<Self, AllocError> {
         Ok(IterOnes {
-            slice: self.slice,
-            next: self.next,
+            ahead: self.ahead.copied(),
             end: self.end,
         })
     }
@@ -61,10 +61,10 @@ impl<'a, R: BitRegister, O: BitOrder<R>> Clone for IterOnes<'a, R, O> {
 /// ```
 #[derive(Drop)]
 pub struct IterZeros<'a, R: BitRegister, O: BitOrder<R>> {
-    slice: BitSlice<'a, R, O>,
-    next: usize,
+    ahead: Ahead<'a, R, O>,
     end: usize,
-    pub ghost inside: { end ≤ slice_len slice },
+    pub ghost inside: { end ≤ slice_len ahead.slice },
+    pub ghost of_zeros: { ahead.bit ≡ false },
 }
 
 impl<'a, R: BitRegister, O: BitOrder<R>> Clone for IterZeros<'a, R, O> {
@@ -74,8 +74,7 @@ impl<'a, R: BitRegister, O: BitOrder<R>> Clone for IterZeros<'a, R, O> {
 
     fn clone(&self) -> Result<Self, AllocError> {
         Ok(IterZeros {
-            slice: self.slice,
-            next: self.next,
+            ahead: self.ahead.copied(),
             end: self.end,
         })
     }
@@ -85,25 +84,27 @@ impl<'a, R: BitRegister, O: BitOrder<R>> BitSlice<'a, R, O> {
     ghost use Rattle.bitvec_slice.specs.Ones.{ones_left, zeros_left};
 
     /// The indices of the bits that are one, counted from 0, in rising order.
+    ///
+    /// Constant time. All calls of `next` together go by words, and by the indices that they give.
     pub fn iter_ones(&self) -> IterOnes<'a, R, O>
         ensures { ones_left result
             ≡ ones_between (bits_of self.now) 0 (length (bits_of self.now)) }
     {
         IterOnes {
-            slice: *self,
-            next: 0,
+            ahead: Ahead::new(*self, true),
             end: self.len(),
         }
     }
 
     /// The indices of the bits that are zero, counted from 0, in rising order.
+    ///
+    /// Constant time. All calls of `next` together go by words, and by the indices that they give.
     pub fn iter_zeros(&self) -> IterZeros<'a, R, O>
         ensures { zeros_left result
             ≡ zeros_between (bits_of self.now) 0 (length (bits_of self.now)) }
     {
         IterZeros {
-            slice: *self,
-            next: 0,
+            ahead: Ahead::new(*self, false),
             end: self.len(),
         }
     }
@@ -120,15 +121,12 @@ impl<'a, R: BitRegister, O: BitOrder<R>> Iterator for IterOnes<'a, R, O> {
     ghost remaining = { item_count ones_left };
 
     fn next(&mut self) -> Option<usize> {
-        match self.slice.first_between(self.next, self.end, true) {
-            Some(i) => {
-                self.next = i + 1;
-                Some(i)
+        match self.ahead.step(self.end) {
+            Some(found) => {
+                self.ahead = found.1;
+                Some(found.0)
             }
-            None => {
-                self.next = self.end;
-                None
-            }
+            None => None,
         }
     }
 }
@@ -140,15 +138,13 @@ impl<'a, R: BitRegister, O: BitOrder<R>> DoubleEndedIterator for IterOnes<'a, R,
     ghost next_back_gives = { YieldsLast ones_left };
 
     fn next_back(&mut self) -> Option<usize> {
-        match self.slice.last_between(self.next, self.end, true) {
+        let slice = self.ahead.slice;
+        match slice.last_between(self.ahead.next, self.end, true) {
             Some(i) => {
                 self.end = i;
                 Some(i)
             }
-            None => {
-                self.next = self.end;
-                None
-            }
+            None => None,
         }
     }
 }
@@ -167,15 +163,12 @@ impl<'a, R: BitRegister, O: BitOrder<R>> Iterator for IterZeros<'a, R, O> {
     ghost remaining = { item_count zeros_left };
 
     fn next(&mut self) -> Option<usize> {
-        match self.slice.first_between(self.next, self.end, false) {
-            Some(i) => {
-                self.next = i + 1;
-                Some(i)
+        match self.ahead.step(self.end) {
+            Some(found) => {
+                self.ahead = found.1;
+                Some(found.0)
             }
-            None => {
-                self.next = self.end;
-                None
-            }
+            None => None,
         }
     }
 }
@@ -187,15 +180,13 @@ impl<'a, R: BitRegister, O: BitOrder<R>> DoubleEndedIterator for IterZeros<'a, R
     ghost next_back_gives = { YieldsLast zeros_left };
 
     fn next_back(&mut self) -> Option<usize> {
-        match self.slice.last_between(self.next, self.end, false) {
+        let slice = self.ahead.slice;
+        match slice.last_between(self.ahead.next, self.end, false) {
             Some(i) => {
                 self.end = i;
                 Some(i)
             }
-            None => {
-                self.next = self.end;
-                None
-            }
+            None => None,
         }
     }
 }

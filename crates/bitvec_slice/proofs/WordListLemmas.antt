@@ -1,0 +1,228 @@
+-- What a word of a span shows of the span's list. `bits` is the width of a word, and `at` takes an index to its position.
+use Rattle.std.proofs.Common.{◌≡◌, ℕ, ◌+◌, ◌-◌, ◌*◌, ◌^◌, ◌<◌, ◌≤◌, ◌&&◌, Bool, true, false, not, nat_le, nat_lt, List, refl, sym, ap, ◌∙◌, inl, inr, arith}
+use Rattle.std.specs.Prelude.{nat_abs, slice_index}
+use Rattle.std.specs.Bool.{beq}
+use Rattle.std.specs.Coded.{le_prop, Π_prop}
+use mathlib.Core.Bool.{Bool-set}
+use Rattle.std.proofs.lemmas.Bool.{cases_eq, cases_lt, and_parts, leb-true, ltb-true, le-leb, lt-leb, lt-ltb, le-ltb}
+use Rattle.std.proofs.lemmas.Nat.{div-mul-add, mod-mul-add}
+use Rattle.bitvec.specs.Digit.{digit, exclusive_or}
+use Rattle.bitvec.specs.Memory.{bit_of}
+use Rattle.bitvec.specs.Order.{IsOneToOne, IsMaskOf}
+use Rattle.bitvec.specs.Span.{Span, list_of, element}
+use Rattle.bitvec.proofs.DigitLemmas.{digit-zero, digit-pow_same, digit-pow_other}
+use Rattle.bitvec.proofs.IndexLemmas.{digit-mask_at}
+use Rattle.bitvec.proofs.MemoryLemmas.{bit_of-place}
+use Rattle.bitvec.proofs.PartLemmas.{element-list_of}
+use Rattle.bitvec_slice.specs.Bits.{AllBetween, IsFirstBetween, IsLastBetween}
+use Rattle.bitvec_slice.specs.WordEnds.{HasNoIndex, IsFirstIndex, IsLastIndex, IsChosen}
+use Rattle.bitvec_slice.proofs.FindLemmas.{same_as, other_than}
+
+-- an element of a span's list is the digit at its index's position in its word
+pub element_digit : (bits : ℕ) (at : ℕ → ℕ) (span : Span) (words : List ℕ) (k i j : ℕ) → i < bits → k * bits + i ≡ span.head + j → j < span.len
+    → element (list_of bits at span words) j ≡ digit (slice_index words (nat_abs span.word + k)) (at i)
+element_digit bits at span words k i j small e inside =
+    let place : nat_abs span.word * bits + span.head + j ≡ nat_abs span.word * bits + (k * bits + i) = omega arith in
+    let word = div-mul-add k bits i small in
+    let index = mod-mul-add k bits i small in
+    element-list_of bits at span words j inside
+    ∙ ap (bit_of bits at words) place
+    ∙ bit_of-place bits at words (nat_abs span.word) (k * bits + i) (omega arith)
+    ∙ (rw (word, index) refl)
+
+-- A word of a memory, or the word with each digit turned over, under the mask of the indices from `low` to before `high`,
+-- which are those of a span's elements from index `from` to before index `upto` in word k of those that it meets.
+pub record IsMasked (bits : ℕ) (at : ℕ → ℕ) (span : Span) (words : List ℕ) (k from upto : ℕ) (bit : Bool) (low high mask turned w : ℕ) : Type 0 where
+  pub law : IsOneToOne bits at
+  pub start : k * bits + low ≡ span.head + from
+  pub end : k * bits + high ≡ span.head + upto
+  pub within : high ≤ bits
+  pub inside : upto ≤ span.len
+  pub masked : IsMaskOf bits at low high mask
+  pub turns : (p : ℕ) → p < bits → digit turned p ≡ beq (digit (slice_index words (nat_abs span.word + k)) p) bit
+  pub joins : (p : ℕ) → p < bits → digit w p ≡ (digit turned p && digit mask p)
+
+and_off : (a b : Bool) → b ≡ false → (a && b) ≡ false
+and_off true b e = e
+and_off false b e = refl
+
+and_on : (a b : Bool) → b ≡ true → (a && b) ≡ a
+and_on true b e = e
+and_on false b e = refl
+
+-- such a word has the elements that are `bit`
+pub chosen_word : {bits : ℕ} {at : ℕ → ℕ} {span : Span} {words : List ℕ} {k from upto : ℕ} {bit : Bool} {low high mask turned w : ℕ}
+    → IsMasked bits at span words k from upto bit low high mask turned w → IsChosen bits at span.head (list_of bits at span words) k from upto bit w
+chosen_word {bits} {at} {span} {words} {k} {from} {upto} {bit} {low} {high} {mask} {turned} {w} m =
+    let start = m.start in
+    let end = m.end in
+    let within = m.within in
+    let inside = m.inside in
+    record {
+      start = omega arith;
+      end = omega arith;
+      ones = λ i small.
+          let p : ℕ = at i in
+          let below = m.law.below i small in
+          let mask_digit = digit-mask_at bits at low high mask i m.law within m.masked small in
+          m.joins (at i) below
+          ∙ elim (cases_lt i low) [
+            | inl before ↦ (
+                and_off (digit turned (at i)) (digit mask (at i)) (mask_digit ∙ (rw (lt-leb low i before) refl))
+                ∙ sym (rw (lt-leb (span.head + from) (k * bits + i) (omega arith)) refl))
+            | inr from_on ↦ elim (cases_lt i high) [
+              | inl upto_here ↦ (
+                  let j : ℕ = k * bits + i - span.head in
+                  and_on (digit turned (at i)) (digit mask (at i)) (mask_digit ∙ (rw (le-leb low i from_on, lt-ltb i high upto_here) refl))
+                  ∙ m.turns (at i) below
+                  ∙ ap (λ b. beq b bit) (sym (element_digit bits at span words k i (k * bits + i - span.head) small (omega arith) (omega arith)))
+                  ∙ sym (rw (le-leb (span.head + from) (k * bits + i) (omega arith), lt-ltb (k * bits + i) (span.head + upto) (omega arith)) refl))
+              | inr past ↦ (
+                  and_off (digit turned (at i)) (digit mask (at i)) (mask_digit ∙ (rw (le-leb low i from_on, le-ltb i high past) refl))
+                  ∙ sym (rw (le-leb (span.head + from) (k * bits + i) (omega arith), le-ltb (k * bits + i) (span.head + upto) (omega arith)) refl))
+            ]
+          ];
+    }
+
+-- a digit as it is for ones, and turned over for zeros
+pub turned_digit : (bit x y : Bool) → (bit ≡ true → y ≡ x) → (bit ≡ false → y ≡ not x) → y ≡ beq x bit
+turned_digit true true y same over = same refl
+turned_digit true false y same over = same refl
+turned_digit false true y same over = over refl
+turned_digit false false y same over = over refl
+
+-- a one of such a word is an element
+chosen_element : {bits : ℕ} {at : ℕ → ℕ} {head : ℕ} {xs : List Bool} {k from upto : ℕ} {bit : Bool} {w : ℕ}
+    → IsChosen bits at head xs k from upto bit w → (i : ℕ) → i < bits → digit w (at i) ≡ true
+    → (head + from ≤ k * bits + i) × (k * bits + i < head + upto) × (element xs (k * bits + i - head) ≡ bit)
+chosen_element {bits} {at} {head} {xs} {k} {from} {upto} {bit} {w} c i small one =
+    let outer = and_parts (nat_le (head + from) (k * bits + i) && nat_lt (k * bits + i) (head + upto)) (beq (element xs (k * bits + i - head)) bit) (sym (c.ones i small) ∙ one) in
+    let inner = and_parts (nat_le (head + from) (k * bits + i)) (nat_lt (k * bits + i) (head + upto)) outer.0 in
+    (leb-true (head + from) (k * bits + i) inner.0, ltb-true (k * bits + i) (head + upto) inner.1, same_as bit (element xs (k * bits + i - head)) outer.1)
+
+-- an element at whose index there is none is the other
+passed_element : {bits : ℕ} {at : ℕ → ℕ} {head : ℕ} {xs : List Bool} {k from upto : ℕ} {bit : Bool} {w : ℕ}
+    → IsChosen bits at head xs k from upto bit w → (i j : ℕ) → i < bits → k * bits + i ≡ head + j → from ≤ j → j < upto → digit w (at i) ≡ false
+    → element xs j ≡ not bit
+passed_element {bits} {at} {head} {xs} {k} {from} {upto} {bit} {w} c i j small e low high none =
+    let here : k * bits + i - head ≡ j = omega arith in
+    let all : (nat_le (head + from) (k * bits + i) && nat_lt (k * bits + i) (head + upto) && beq (element xs (k * bits + i - head)) bit) ≡ beq (element xs (k * bits + i - head)) bit =
+    rw (le-leb (head + from) (k * bits + i) (omega arith), lt-ltb (k * bits + i) (head + upto) (omega arith)) refl in
+    ap (element xs) (sym here) ∙ other_than bit (element xs (k * bits + i - head)) (sym all ∙ sym (c.ones i small) ∙ none)
+
+-- where the word has no one, no element from index `from` to before index `upto` is `bit`
+pub chosen_none : {bits : ℕ} {at : ℕ → ℕ} {head : ℕ} {xs : List Bool} {k from upto : ℕ} {bit : Bool} {w : ℕ}
+    → IsChosen bits at head xs k from upto bit w → HasNoIndex bits at w → AllBetween (not bit) xs from upto
+chosen_none {bits} {at} {head} {xs} {k} {from} {upto} {bit} {w} c none j low high =
+    let start = c.start in
+    let end = c.end in
+    let i : ℕ = head + j - k * bits in
+    let small : head + j - k * bits < bits = omega arith in
+    passed_element c (head + j - k * bits) j small (omega arith) low high (none (head + j - k * bits) small)
+
+-- the first of these elements is at the first index at which the word has a one
+pub chosen_first : {bits : ℕ} {at : ℕ → ℕ} {head : ℕ} {xs : List Bool} {k from upto : ℕ} {bit : Bool} {w : ℕ}
+    → IsChosen bits at head xs k from upto bit w → (i r : ℕ) → IsFirstIndex bits at w i → r ≡ k * bits + i - head → IsFirstBetween bit xs from upto r
+chosen_first {bits} {at} {head} {xs} {k} {from} {upto} {bit} {w} c i r first e =
+    let here = chosen_element c i first.0 first.1 in
+    let low = here.0 in
+    let high = here.1 in
+    let start = c.start in
+    let small = first.0 in (
+      omega arith,
+      omega arith,
+      ap (element xs) e ∙ here.2,
+      λ j after before.
+          let less : head + j - k * bits < i = omega arith in
+          passed_element c (head + j - k * bits) j (omega arith) (omega arith) after (omega arith) (first.2 (head + j - k * bits) less),
+    )
+
+-- the last of them is at the last
+pub chosen_last : {bits : ℕ} {at : ℕ → ℕ} {head : ℕ} {xs : List Bool} {k from upto : ℕ} {bit : Bool} {w : ℕ}
+    → IsChosen bits at head xs k from upto bit w → (i r : ℕ) → IsLastIndex bits at w i → r ≡ k * bits + i - head → IsLastBetween bit xs from upto r
+chosen_last {bits} {at} {head} {xs} {k} {from} {upto} {bit} {w} c i r last e =
+    let here = chosen_element c i last.0 last.1 in
+    let low = here.0 in
+    let high = here.1 in
+    let start = c.start in
+    let end = c.end in
+    let small = last.0 in (
+      omega arith,
+      omega arith,
+      ap (element xs) e ∙ here.2,
+      λ j after before.
+          let more : i < head + j - k * bits = omega arith in
+          let within : head + j - k * bits < bits = omega arith in
+          passed_element c (head + j - k * bits) j within (omega arith) (omega arith) before (last.2 (head + j - k * bits) more within),
+    )
+
+-- no elements, and no ones
+pub chosen_empty : (bits : ℕ) (at : ℕ → ℕ) (head : ℕ) (xs : List Bool) (bit : Bool) (w : ℕ) → head < bits → w ≡ 0 → IsChosen bits at head xs 0 0 0 bit w
+chosen_empty bits at head xs bit w small zero = record {
+  start = omega arith;
+  end = omega arith;
+  ones = λ i h. ap (λ n. digit n (at i)) zero ∙ digit-zero (at i) ∙ elim (cases_lt (0 * bits + i) (head + 0)) [
+    | inl before ↦ sym (rw (lt-leb (head + 0) (0 * bits + i) before) refl)
+    | inr past ↦ sym (rw (le-leb (head + 0) (0 * bits + i) past, le-ltb (0 * bits + i) (head + 0) past) refl)
+  ];
+}
+
+-- where the first of the elements is `bit`, the word's first one is at its index
+pub chosen_here : {bits : ℕ} {at : ℕ → ℕ} {head : ℕ} {xs : List Bool} {k from upto : ℕ} {bit : Bool} {w : ℕ}
+    → IsChosen bits at head xs k from upto bit w → from < upto → element xs from ≡ bit → (i : ℕ) → k * bits + i ≡ head + from → IsFirstIndex bits at w i
+chosen_here {bits} {at} {head} {xs} {k} {from} {upto} {bit} {w} c some here i e =
+    let end = c.end in
+    let small : i < bits = omega arith in
+    let same : k * bits + i - head ≡ from = omega arith in
+    let is : element xs (k * bits + i - head) ≡ bit = ap (element xs) same ∙ here in (
+      small,
+      c.ones i small ∙ (rw (le-leb (head + from) (k * bits + i) (omega arith), lt-ltb (k * bits + i) (head + upto) (omega arith), is) (beq_itself bit)),
+      λ q h. c.ones q (omega arith) ∙ (rw (lt-leb (head + from) (k * bits + q) (omega arith)) refl),
+    )
+  where
+    beq_itself : (b : Bool) → beq b b ≡ true
+    beq_itself true = refl
+    beq_itself false = refl
+
+or_neither : (a : Bool) → exclusive_or a false ≡ a
+or_neither true = refl
+or_neither false = refl
+
+-- with its first one turned over the word has the elements behind that one
+pub chosen_behind : {bits : ℕ} {at : ℕ → ℕ} {head : ℕ} {xs : List Bool} {k from upto : ℕ} {bit : Bool} {w : ℕ}
+    → IsChosen bits at head xs k from upto bit w → IsOneToOne bits at → (i r v : ℕ) → IsFirstIndex bits at w i → r ≡ k * bits + i - head
+    → ((p : ℕ) → p < bits → digit v p ≡ exclusive_or (digit w p) (digit (2 ^ at i) p))
+    → IsChosen bits at head xs k (r + 1) upto bit v
+chosen_behind {bits} {at} {head} {xs} {k} {from} {upto} {bit} {w} c law i r v first e turns =
+    let here = chosen_element c i first.0 first.1 in
+    let low = here.0 in
+    let small = first.0 in
+    let place : head + r ≡ k * bits + i = omega arith in
+    record {
+      start = omega arith;
+      end = c.end;
+      ones = λ q h.
+          turns (at q) (law.below q h)
+          ∙ elim (cases_eq q i) [
+            | inl same ↦ (
+                let one : digit w (at q) ≡ true = ap (λ n. digit w (at n)) same ∙ first.1 in
+                let two : digit (2 ^ at i) (at q) ≡ true = ap (λ n. digit (2 ^ at i) (at n)) same ∙ digit-pow_same (at i) in
+                rw (one, two) (sym (rw (lt-leb (head + (r + 1)) (k * bits + q) (omega arith)) refl)))
+            | inr other ↦ (
+                let none : digit (2 ^ at i) (at q) ≡ false = digit-pow_other (at i) (at q) (λ f. other (law.apart q i h small f)) in
+                ap (exclusive_or (digit w (at q))) none
+                ∙ or_neither (digit w (at q))
+                ∙ elim (cases_lt q i) [
+                  | inl before ↦ (first.2 q before ∙ sym (rw (lt-leb (head + (r + 1)) (k * bits + q) (omega arith)) refl))
+                  | inr past ↦ (c.ones q h ∙ (rw (le-leb (head + (r + 1)) (k * bits + q) (omega arith), le-leb (head + from) (k * bits + q) (omega arith)) refl))
+                ])
+          ];
+    }
+
+-- two proofs that a word has the same elements are one
+pub chosen_prop : {bits : ℕ} {at : ℕ → ℕ} {head : ℕ} {xs : List Bool} {k from upto : ℕ} {bit : Bool} {w : ℕ} → (c d : IsChosen bits at head xs k from upto bit w) → c ≡ d
+chosen_prop {bits} {at} {head} {xs} {k} {from} {upto} {bit} {w} c d =
+    ap (λ (s : k * bits ≤ head + from). record c { start = s }) (le_prop c.start d.start)
+    ∙ ap (λ (e : head + upto ≤ (k + 1) * bits). record c { start = d.start; end = e }) (le_prop c.end d.end)
+    ∙ ap (λ (o : (i : ℕ) → i < bits → digit w (at i) ≡ (nat_le (head + from) (k * bits + i) && nat_lt (k * bits + i) (head + upto) && beq (element xs (k * bits + i - head)) bit)). record d { ones = o })
+    (Π_prop (λ i. Π_prop (λ h. Bool-set (digit w (at i)) (nat_le (head + from) (k * bits + i) && nat_lt (k * bits + i) (head + upto) && beq (element xs (k * bits + i - head)) bit))) c.ones d.ones)

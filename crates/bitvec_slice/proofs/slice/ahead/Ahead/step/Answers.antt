@@ -1,0 +1,46 @@
+use Rattle.std.proofs.Common.{◌≡◌, ◌+◌, ◌-◌, ◌*◌, ◌<◌, ◌≤◌, refl, ap, ◌∙◌, arith}
+use Rattle.bitvec_slice.specs.BitSlice.{slice_span, bits_of}
+use Rattle.bitvec_slice.proofs.FindLemmas.{first_later}
+use Rattle.bitvec_slice.proofs.SkipLemmas.{all_joined}
+use Rattle.bitvec_slice.proofs.WordListLemmas.{chosen_none, chosen_first, chosen_behind}
+use Rattle.bitvec_slice.proofs.slice.ahead.Ahead.step.Goals as goal
+
+pub returns-then-end-i : goal.returns-then-end-i
+returns-then-end-i g c =
+    let old = c.args.self.now in
+    let index = c.in-Some.index in
+    let is = ap (λ b. old.word * b + c.from.result - c.head.result) c.bits_of.ensures.value ∙ ap (λ n. old.word * g.R.BitRegister.BITS + n - c.head.result) c.from.ensures ∙ ap (λ h. old.word * g.R.BitRegister.BITS + index - h) c.head.ensures in
+    let first = chosen_first old.chosen index _ c.in-Some.ensures is in
+    λ j after before. first.3 j after (omega (arith, before, c.if-end-i.true))
+
+pub invariant_of-rest : goal.invariant_of-rest
+invariant_of-rest g c =
+    let old = c.args.self.now in
+    let index = c.in-Some.index in
+    let is = ap (λ b. old.word * b + c.from.result - c.head.result) c.bits_of.ensures.value ∙ ap (λ n. old.word * g.R.BitRegister.BITS + n - c.head.result) c.from.ensures ∙ ap (λ h. old.word * g.R.BitRegister.BITS + index - h) c.head.ensures in
+    let first = chosen_first old.chosen index _ c.in-Some.ensures is in
+    record {
+      ordered = omega (arith, first.1);
+      inside = old.inside;
+      chosen = chosen_behind old.chosen g.met.O.BitOrder.one_to_one index _ _ c.in-Some.ensures is c.turned_at-left.ensures;
+    }
+
+pub returns-in-Some : goal.returns-in-Some
+returns-in-Some g c =
+    let old = c.args.self.now in
+    let index = c.in-Some.index in
+    let is = ap (λ b. old.word * b + c.from.result - c.head.result) c.bits_of.ensures.value ∙ ap (λ n. old.word * g.R.BitRegister.BITS + n - c.head.result) c.from.ensures ∙ ap (λ h. old.word * g.R.BitRegister.BITS + index - h) c.head.ensures in
+    let first = chosen_first old.chosen index _ c.in-Some.ensures is in
+    ((first.0, c.if-end-i.false, first.2, first.3), refl, refl, refl)
+
+pub returns-in-Some-first_between : goal.returns-in-Some-first_between
+returns-in-Some-first_between g c =
+    let old = c.args.self.now in
+    let none = chosen_none old.chosen c.in_default.ensures in
+    (first_later (bits_of old.slice) old.bit old.next old.upto c.args.end c.args.end c.in-Some-first_between.i old.ordered (omega arith) none c.in-Some-first_between.ensures, c.behind.ensures.slice, c.behind.ensures.bit, c.behind.ensures.next)
+
+pub returns-in-None : goal.returns-in-None
+returns-in-None g c =
+    let old = c.args.self.now in
+    let none = chosen_none old.chosen c.in_default.ensures in
+    all_joined _ (bits_of old.slice) old.next old.upto c.args.end none c.in-None.ensures

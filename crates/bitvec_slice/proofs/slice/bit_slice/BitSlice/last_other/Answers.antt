@@ -1,0 +1,25 @@
+use Rattle.std.proofs.Common.{rules, ◌≡◌, ◌+◌, ◌-◌, get_or, map, sym, ap, ◌∙◌, arith}
+use Rattle.std.proofs.lemmas.Bool.{eqb-true}
+use Rattle.std.specs.Prelude.{nat_abs, slice_index}
+use Rattle.std.specs.Int.{w64}
+use Rattle.std.proofs.lemmas.Int.{ints}
+use mir.Val.{to_z, of_z}
+use Rattle.bitvec.specs.Digit.{digit}
+use Rattle.bitvec_slice.specs.BitSlice.{slice_memory, slice_span}
+use Rattle.bitvec_slice.proofs.SkipLemmas.{number_at, or_zero, one_word_before}
+use Rattle.bitvec_slice.proofs.slice.bit_slice.BitSlice.last_other.Goals as goal
+
+pub loop-at-preserved : goal.loop-at-preserved
+loop-at-preserved g c =
+    let number = g.R.BitRegister.number in
+    let memory = slice_memory c.args.self.now in
+    let at = c.loop-at.at - 1 in
+    let word = get_or memory (nat_abs (to_z w64 (of_z w64 c.address-first.result)) + at) c.index-self-first.result in
+    let joined = c.or.result in
+    let same = eqb-true (number joined) (number c.args.lacking) (sym (c.eq.ensures ∙ g.met.R.BitRegister.eq_compares_numbers joined c.args.lacking c.or.ensures.below c.requires.below) ∙ c.if-eq.true) in
+    let first : nat_abs (to_z w64 (of_z w64 c.address-first.result)) ≡ nat_abs (slice_span c.args.self.now).word = ap nat_abs (let here : to_z w64 (of_z w64 c.address-first.result) ≡ (slice_span c.args.self.now).word = omega (arith, ints, c.address-first.ensures) in here) in
+    let is = number_at number memory (nat_abs (to_z w64 (of_z w64 c.address-first.result)) + at) c.index-self-first.result (search rules) ∙ ap (λ n. slice_index (map number memory) (n + at)) first in
+    let more = one_word_before g.R.BitRegister.BITS (number c.args.lacking) (map number memory) _ _ c.loop-at.invariant.2
+    (nat_abs (slice_span c.args.self.now).word + at) (omega (arith, c.loop-at-test.true))
+    (λ p small. sym (ap (λ w. digit w p) is) ∙ or_zero (number word) (number c.ZERO.result) (number joined) p (ap number c.ZERO.ensures ∙ g.met.R.BitRegister.zero_is_0) (c.or.ensures.digits p small) ∙ ap (λ w. digit w p) same) in
+    (omega (arith, c.loop-at-test.true), omega (arith, c.loop-at.invariant.1), more)
