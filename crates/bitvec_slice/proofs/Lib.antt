@@ -4,6 +4,7 @@ mod EqualLemmas
 pub mod FieldLemmas
 pub mod FieldStoreLemmas
 pub mod FindLemmas
+pub mod FreeRunLemmas
 mod IterLemmas
 mod ListEdits
 pub mod OnesLemmas

@@ -2,6 +2,7 @@ pub mod BitSlice
 pub mod BitSliceMut
 pub mod Bits
 pub mod Field
+pub mod FreeRuns
 pub mod Iter
 pub mod Ones
 pub mod Whole

@@ -6,6 +6,7 @@ mod bit_slice_mut;
 mod edit;
 mod equal;
 mod find;
+mod free_runs;
 mod iter;
 mod moves;
 mod ones;

@@ -16,7 +16,7 @@ impl<'a, R: BitRegister, O: BitOrder<R>> BitSlice<'a, R, O> {
     ghost use Rattle.bitvec_slice.specs.BitSlice.{slice_memory, slice_span, slice_len, slice_word};
     ghost use Rattle.bitvec_slice.specs.BitSlice.{bits_of};
     ghost use Rattle.bitvec_slice.specs.Bits.{ones_in, zeros_in, AllAre, IsFirst, IsLast};
-    ghost use Rattle.bitvec_slice.specs.Bits.{BeginsWith, EndsWith, AreFree};
+    ghost use Rattle.bitvec_slice.specs.Bits.{BeginsWith, EndsWith};
     ghost use Rattle.bitvec_slice.specs.Bits.{AllBetween, IsFirstBetween, IsLastBetween};
     ghost use Rattle.bitvec_slice.specs.WordEnds.{IsChosen};
     ghost use Rattle.bitvec_slice.specs.Words.{HaveDigits};
@@ -346,24 +346,5 @@ impl<'a, R: BitRegister, O: BitOrder<R>> BitSlice<'a, R, O> {
         ensures { (result ≡ false) ↔ AllAre true (bits_of self.now) }
     {
         self.first_zero().is_some()
-    }
-
-    /// The first index from which on `count` bits are there and zero, and `None` where there is no
-    /// such index. For a `count` of 0 it is 0. Our own.
-    pub fn find_zeros(&self, count: usize) -> Option<usize>
-        ensures { MatchOption result ((i : ℕ) → ¬ AreFree (bits_of self.now) i count)
-            (λ i. AreFree (bits_of self.now) i count
-            × ((k : ℕ) → k < i → ¬ AreFree (bits_of self.now) k count)) }
-    {
-        let len = self.len();
-        let mut start = 0;
-        while count <= len - start {
-            // A one rules out each start from which it is met, so the last one is looked for.
-            match self.last_between(start, start + count, true) {
-                Some(one) => start = one + 1,
-                None => return Some(start),
-            }
-        }
-        None
     }
 }

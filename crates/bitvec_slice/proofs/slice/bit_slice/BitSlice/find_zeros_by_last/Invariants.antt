@@ -1,7 +1,7 @@
 use Rattle.std.proofs.Common.{ℕ, ◌-◌, ◌<◌, ◌≤◌, length}
 use Rattle.bitvec_slice.specs.BitSlice.{bits_of}
 use Rattle.bitvec_slice.specs.Bits.{AreFree}
-use Rattle.bitvec_slice.proofs.slice.bit_slice.BitSlice.find_zeros.Given as goal
+use Rattle.bitvec_slice.proofs.slice.bit_slice.BitSlice.find_zeros_by_last.Given as goal
 
 -- no index before `start` is one from which on so many bits are zero
 abbrev pub invariant-loop-start : goal.invariant-loop-start

@@ -1,7 +1,7 @@
 use Rattle.std.proofs.Common.{arith}
 use Rattle.bitvec_slice.specs.BitSlice.{bits_of}
 use Rattle.bitvec_slice.proofs.FindLemmas.{not_free_before, not_free}
-use Rattle.bitvec_slice.proofs.slice.bit_slice.BitSlice.find_zeros.Goals as goal
+use Rattle.bitvec_slice.proofs.slice.bit_slice.BitSlice.find_zeros_by_last.Goals as goal
 
 pub loop-start-preserved : goal.loop-start-preserved
 loop-start-preserved g c =
