@@ -10,6 +10,7 @@ mod moves;
 mod ones;
 mod parts;
 mod same_words;
+mod shifted;
 mod whole;
 
 pub use self::bit_slice::BitSlice;

@@ -1,8 +1,8 @@
-use Rattle.std.proofs.Common.{rules, ◌≡◌, ◌-◌, length, map, Some, IfSome, refl, sym, subst}
+use Rattle.std.proofs.Common.{rules, ◌-◌, map, Some, IfSome, refl, sym, subst}
 use Rattle.std.specs.Iterator.{at_most, UpTo}
 use Rattle.std.specs.Iterator.SizeHint.{IsWithinCount}
 use Rattle.bitvec.proofs.PartLemmas.{length-list_of}
-use Rattle.bitvec_slice.specs.Iter.{rest_memory, rest_span, rest_of}
+use Rattle.bitvec_slice.specs.Iter.{rest_memory, rest_span}
 use Rattle.bitvec_slice.proofs.slice.iter.IterIterator.size_hint.Goals as goal
 
 pub returns-clause-lower : goal.returns-clause-lower
