@@ -9,6 +9,7 @@ mod IterLemmas
 mod ListEdits
 pub mod OnesLemmas
 pub mod SameWordsLemmas
+mod ShiftedLemmas
 mod SkipLemmas
 pub mod SlicePartLemmas
 mod SpanEdits

@@ -15,7 +15,7 @@ use Rattle.bitvec.proofs.IndexLemmas.{index_at, digit-number_of_at}
 use Rattle.bitvec.proofs.MemoryLemmas.{tabulate-from_elements}
 use Rattle.bitvec.proofs.PartLemmas.{value_of-part_of}
 use Rattle.bitvec.proofs.PlaceLemmas.{words_met-some}
-use Rattle.bitvec_slice.specs.Words.{HaveSamePositions, HaveSameDigits}
+use Rattle.bitvec_slice.specs.Words.{HaveSamePositions}
 use Rattle.bitvec_slice.proofs.FindLemmas.{test_at}
 
 or_off : (mark a b : Bool) → ((mark || exclusive_or a b) ≡ false) ↔ ((mark ≡ false) × (a ≡ b))
@@ -25,38 +25,41 @@ or_off false true false = ((λ e. absurd cc), λ e. absurd (let f = e.1 in cc))
 or_off false false true = ((λ e. absurd cc), λ e. absurd (let f = e.1 in cc))
 or_off false false false = ((λ e. (refl, refl)), λ e. refl)
 
--- the ones of a number are the digits in which some word, from word `from` to before word `upto`, differs from the other memory's
-pub record MarksDifferences (bits : ℕ) (words other : List ℕ) (from upto marks : ℕ) : Type 0 where
+-- digit p of word w of a memory
+abbrev pub word_digit : List ℕ → ℕ → ℕ → Bool
+word_digit words w p = digit (slice_index words w) p
+
+-- two families of words have the same `bits` lowest digits from word `from` to before word `upto`
+abbrev pub AgreeBetween : ℕ → (ℕ → ℕ → Bool) → (ℕ → ℕ → Bool) → ℕ → ℕ → Type 0
+AgreeBetween bits f g from upto = (w p : ℕ) → from ≤ w → w < upto → p < bits → f w p ≡ g w p
+
+-- The ones of a number are the digits in which some word of a family, from word `from` to before word `upto`, differs from the
+-- other family's. A family gives digit p of its word w.
+pub record MarksDifferences (bits : ℕ) (f g : ℕ → ℕ → Bool) (from upto marks : ℕ) : Type 0 where
   pub below : marks < 2 ^ bits
-  pub digits : (p : ℕ) → p < bits → (digit marks p ≡ false) ↔ ((w : ℕ) → from ≤ w → w < upto → digit (slice_index words w) p ≡ digit (slice_index other w) p)
+  pub digits : (p : ℕ) → p < bits → (digit marks p ≡ false) ↔ ((w : ℕ) → from ≤ w → w < upto → f w p ≡ g w p)
 
 -- no words yet
-pub marks_none : (bits : ℕ) (words other : List ℕ) (from marks : ℕ) → marks ≡ 0 → MarksDifferences bits words other from (from + 0) marks
-marks_none bits words other from marks none = record {
+pub marks_none : (bits : ℕ) (f g : ℕ → ℕ → Bool) (from marks : ℕ) → marks ≡ 0 → MarksDifferences bits f g from (from + 0) marks
+marks_none bits f g from marks none = record {
   below = subst (λ n. n < 2 ^ bits) (sym none) (pow_pos bits);
   digits = λ p small. ((λ off w low high. absurd (omega (arith, low, high))), λ all. ap (λ n. digit n p) none ∙ digit-zero p);
 }
 
 -- one word more
-pub marks_more : (bits : ℕ) (words other : List ℕ) (from i marks more : ℕ) → more < 2 ^ bits
-    → ((p : ℕ) → p < bits → digit more p ≡ (digit marks p || exclusive_or
-    (digit (slice_index words (from + i)) p) (digit (slice_index other (from + i)) p)))
-    → MarksDifferences bits words other from (from + i) marks → MarksDifferences bits words other from (from + (i + 1)) more
-marks_more bits words other from i marks more fits joined before = record {
+pub marks_more : (bits : ℕ) (f g : ℕ → ℕ → Bool) (from i marks more : ℕ) → more < 2 ^ bits
+    → ((p : ℕ) → p < bits → digit more p ≡ (digit marks p || exclusive_or (f (from + i) p) (g (from + i) p)))
+    → MarksDifferences bits f g from (from + i) marks → MarksDifferences bits f g from (from + (i + 1)) more
+marks_more bits f g from i marks more fits joined before = record {
   below = fits;
   digits =
       λ p small.
-      let a = digit (slice_index words (from + i)) p in
-      let b = digit (slice_index other (from + i)) p in
-      let both = or_off (digit marks p) a b in
+      let both = or_off (digit marks p) (f (from + i) p) (g (from + i) p) in
       let so_far = before.digits p small in (
         λ off w low high.
             let known = both.0 (sym (joined p small) ∙ off) in
             elim (cases_eq w (from + i)) [
-              | inl here ↦ (
-                  ap (λ v. digit (slice_index words v) p) here
-                  ∙ known.1
-                  ∙ sym (ap (λ v. digit (slice_index other v) p) here))
+              | inl here ↦ (ap (λ v. f v p) here ∙ known.1 ∙ sym (ap (λ v. g v p) here))
               | inr differs ↦ so_far.0 known.0 w low (omega (arith, high, differs))
             ],
         λ all.
@@ -66,8 +69,8 @@ marks_more bits words other from i marks more fits joined before = record {
 }
 
 -- no differences are marked exactly where there are none
-pub marks_test : (bits : ℕ) (words other : List ℕ) (from upto marks none : ℕ) (test : Bool) → MarksDifferences bits words other from upto marks → none ≡ 0 → test ≡ (marks == none) → IsTrue test ↔ HaveSameDigits bits words other from upto
-marks_test bits words other from upto marks none test found is_zero is = (
+pub marks_test : (bits : ℕ) (f g : ℕ → ℕ → Bool) (from upto marks none : ℕ) (test : Bool) → MarksDifferences bits f g from upto marks → none ≡ 0 → test ≡ (marks == none) → IsTrue test ↔ AgreeBetween bits f g from upto
+marks_test bits f g from upto marks none test found is_zero is = (
   λ yes w p low high small.
       let no_marks : marks ≡ 0 = eqb-true marks none (sym is ∙ yes) ∙ is_zero in
       (found.digits p small).0 (ap (λ n. digit n p) no_marks ∙ digit-zero p) w low high,
@@ -167,9 +170,9 @@ same_without_words bits head [] (y ∷ ys) many none = absurd (omega (arith, man
 same_without_words bits head (x ∷ xs) ys many none = absurd (let some = words_met-some bits head (length (x ∷ xs)) (omega arith) in omega (arith, some, none))
 
 -- where the words before word `mid` are the same, all are where the others are
-pub same_behind : (bits : ℕ) (words other : List ℕ) (mid count len : ℕ) (test : Bool) → HaveSameDigits bits words other 0 mid → mid + count ≡ len
-    → IsTrue test ↔ HaveSameDigits bits words other mid (mid + count) → IsTrue test ↔ HaveSameDigits bits words other 0 len
-same_behind bits words other mid count len test before all rest = (
+pub same_behind : (bits : ℕ) (f g : ℕ → ℕ → Bool) (mid count len : ℕ) (test : Bool) → AgreeBetween bits f g 0 mid → mid + count ≡ len
+    → IsTrue test ↔ AgreeBetween bits f g mid (mid + count) → IsTrue test ↔ AgreeBetween bits f g 0 len
+same_behind bits f g mid count len test before all rest = (
   (λ yes w p low high small. elim (cases_lt w mid) [ inl less ↦ before w p low less small | inr most ↦ rest.0 yes w p most (omega arith) small ]),
   (λ same. rest.1 (λ w p low high small. same w p (omega arith) (omega arith) small)),
 )

@@ -1,22 +1,22 @@
 -- What an `Iter` shows.
-use Rattle.std.specs.Prelude.{Bool, List}
+use Rattle.std.specs.Prelude.{Bool, List, map}
 use Rattle.std.specs.Iterator.{YieldsFirst, YieldsLast}
 use Rattle.std.specs.Iterator.Runs.{YieldsInOrder, YieldsInReverse}
-use Rattle.bitvec.specs.Span.{Span}
-use Rattle.bitvec_slice.specs.BitSlice.{slice_memory, slice_span, bits_of}
+use Rattle.bitvec.specs.Span.{Span, list_of, span_range}
+use Rattle.bitvec_slice.specs.BitSlice.{slice_memory, slice_span}
 use Rattle.bitvec_slice.specs.declared.slice.iter.Iter.{Iter}
 
 -- the memory that it reads
 abbrev pub rest_memory : {R O : Type 0} {a b c d e f g h i : _} → Iter R O a b c d e f g h i → List R
-rest_memory it = slice_memory it.rest
+rest_memory it = slice_memory it.slice
 
 -- where in that memory the bits lie that are still to come
 abbrev pub rest_span : {R O : Type 0} {a b c d e f g h i : _} → Iter R O a b c d e f g h i → Span
-rest_span it = slice_span it.rest
+rest_span {a = own} it = span_range own.BITS (slice_span it.slice) it.next it.end
 
 -- the bits that are still to come, in order
 abbrev pub rest_of : {R O : Type 0} {a b c d e f g h i : _} → Iter R O a b c d e f g h i → List Bool
-rest_of it = bits_of it.rest
+rest_of {a = own} {i = order} it = list_of own.BITS order.at_of (rest_span it) (map own.number (rest_memory it))
 
 -- A fact of the type of an iterator, and not of the one that is named: whichever one of this type a run of calls begins
 -- with, the run gives the bits that it had left, in order.

@@ -12,6 +12,7 @@ mod moves;
 mod ones;
 mod parts;
 mod same_words;
+mod shifted;
 mod whole;
 mod word_ends;
 

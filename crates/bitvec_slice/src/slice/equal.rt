@@ -1,14 +1,16 @@
 //! Whether two slices have the same bits, whatever their registers and orders are.
 //!
-//! Slices whose bits stand at the same places of their words are compared word by word. Any others
-//! are gathered block by block into whole words of one register and one order.
+//! Slices whose bits stand at the same places of their words are compared word by word, and those
+//! whose orders run one way by shifted words. Any others are gathered block by block into whole
+//! words of one register and one order.
 
-ghost use Rattle.std.specs.Prelude.{◌≡◌, ◌≤◌, ◌↔◌, ◌++◌, IsTrue, length, drop, replicate};
+ghost use Rattle.std.specs.Prelude.{◌≡◌, ◌≢◌, ◌≤◌, ◌↔◌, ◌++◌, IsTrue, length, drop, replicate};
 ghost use Rattle.bitvec.specs.Memory.{memory_bits};
-ghost use Rattle.bitvec_slice.specs.BitSlice.{bits_of};
+ghost use Rattle.bitvec_slice.specs.BitSlice.{slice_span, bits_of};
 
 use crate::slice::BitSlice;
 use crate::slice::same_words::{have_same_positions, have_same_words};
+use crate::slice::shifted::have_shifted_words;
 use bitvec::index::{BitIdx, Limits};
 use bitvec::mem::BitRegister;
 use bitvec::order::{BitOrder, Direction, Lsb0, Msb0, direction_of};
@@ -19,6 +21,10 @@ const BLOCK_WORDS: usize = 8;
 
 // The number of bits in a block.
 const BLOCK_BITS: usize = 512;
+
+// The least number of bits that are compared by shifted words: such a slice has a whole word of
+// another slice of its length, whatever the width is.
+const SHIFTED_BITS: usize = 256;
 
 // A block that begins with the bits of a slice, in the order `P`; its other bits are zero.
 fn block_of<R: BitRegister, O: BitOrder<R>, P: BitOrder<usize>>(
@@ -47,7 +53,7 @@ fn are_same_words<P: BitOrder<usize>>(
 }
 
 // Whether two slices of equal length have the same bits, where these fit into a block.
-fn is_same_block<
+pub(super) fn is_same_block<
     R: BitRegister,
     O: BitOrder<R>,
     R2: BitRegister,
@@ -85,26 +91,63 @@ fn are_same<R: BitRegister, O: BitOrder<R>, R2: BitRegister, O2: BitOrder<R2>, P
     is_same_block::<R, O, R2, O2, P>(&here, &there)
 }
 
+// Whether two slices of equal length have the same bits. A block is gathered word by word where
+// its order runs the way of the slice's, else bit by bit.
+fn are_same_gathered<R: BitRegister, O: BitOrder<R>, R2: BitRegister, O2: BitOrder<R2>>(
+    slice: &BitSlice<'_, R, O>,
+    other: &BitSlice<'_, R2, O2>,
+) -> bool
+    requires { length (bits_of slice.now) ≡ length (bits_of other.now) }
+    ensures { IsTrue result ↔ (bits_of slice.now ≡ bits_of other.now) }
+{
+    if direction_of::<R, O>() == Direction::Falls {
+        are_same::<R, O, R2, O2, Msb0>(slice, other)
+    } else {
+        are_same::<R, O, R2, O2, Lsb0>(slice, other)
+    }
+}
+
+// Whether two slices of equal length have the same bits, where their first bits stand at different
+// indices of their words.
+fn are_same_apart<R: BitRegister, O: BitOrder<R>, R2: BitRegister, O2: BitOrder<R2>>(
+    slice: &BitSlice<'_, R, O>,
+    other: &BitSlice<'_, R2, O2>,
+) -> bool
+    requires many { length (bits_of slice.now) ≡ length (bits_of other.now) }
+    requires heads { (slice_span slice.now).head ≢ (slice_span other.now).head }
+    ensures { IsTrue result ↔ (bits_of slice.now ≡ bits_of other.now) }
+{
+    if R::BITS != R2::BITS || slice.len() < SHIFTED_BITS {
+        return are_same_gathered(slice, other);
+    }
+    match (direction_of::<R, O>(), direction_of::<R2, O2>()) {
+        (Direction::Rises, Direction::Rises) => {
+            have_shifted_words::<R, O, R2, O2, Lsb0>(slice, other, true)
+        }
+        (Direction::Falls, Direction::Falls) => {
+            have_shifted_words::<R, O, R2, O2, Msb0>(slice, other, false)
+        }
+        _ => are_same_gathered(slice, other),
+    }
+}
+
 impl<'a, R: BitRegister, O: BitOrder<R>> BitSlice<'a, R, O> {
-    /// Whether another slice has the same bits, whatever its register and order are. Our own, for
-    /// `==` between slices of two types.
+    /// Whether another slice has the same bits, whatever its register and order are. By words where
+    /// the registers have one width and the positions of both orders rise or those of both fall,
+    /// else by bits at worst. Our own, for `==` between slices of two types.
     pub fn equals<R2: BitRegister, O2: BitOrder<R2>>(&self, other: &BitSlice<'_, R2, O2>) -> bool
         ensures { IsTrue result ↔ (bits_of self.now ≡ bits_of other.now) }
     {
         if self.len() != other.len() {
             return false;
         }
-        let same_heads = self.span.head().into_inner() == other.span.head().into_inner();
-        if same_heads && have_same_positions::<R, O, R2, O2>() {
+        if self.span.head().into_inner() != other.span.head().into_inner() {
+            return are_same_apart(self, other);
+        }
+        if have_same_positions::<R, O, R2, O2>() {
             return have_same_words(self, other);
         }
-        // A block is gathered word by word where its order runs the way of the slice's, else bit by
-        // bit.
-        if direction_of::<R, O>() == Direction::Falls {
-            are_same::<R, O, R2, O2, Msb0>(self, other)
-        } else {
-            are_same::<R, O, R2, O2, Lsb0>(self, other)
-        }
+        are_same_gathered(self, other)
     }
 }
 

@@ -1,10 +1,12 @@
 //! The bits of a slice one after the other, from both ends.
 
-ghost use Rattle.std.specs.Prelude.{◌≡◌, ⊤, ◌^◌, ◌<◌, ◌-◌, Some, length, IfSome, MatchOption};
+ghost use Rattle.std.specs.Prelude.{◌≡◌, ⊤, ◌^◌, ◌<◌, ◌≤◌, ◌-◌, Some, length, IfSome};
+ghost use Rattle.std.specs.Prelude.{MatchOption};
 ghost use Rattle.std.specs.Iterator.{YieldsFirst, YieldsLast, item_count, at_most, UpTo};
 ghost use Rattle.std.specs.Iterator.{MakesProgress};
 ghost use Rattle.std.specs.Iterator.SizeHint.{IsWithinCount};
 ghost use Rattle.bitvec.specs.Span.{span_from};
+ghost use Rattle.bitvec_slice.specs.BitSlice.{slice_len};
 
 use crate::slice::BitSlice;
 use bitvec::mem::BitRegister;
@@ -26,7 +28,11 @@ use std::iter::FusedIterator;
 /// ```
 #[derive(Drop)]
 pub struct Iter<'a, R: BitRegister, O: BitOrder<R>> {
-    rest: BitSlice<'a, R, O>,
+    slice: BitSlice<'a, R, O>,
+    next: usize,
+    end: usize,
+    pub ghost rises: { next ≤ end },
+    pub ghost inside: { end ≤ slice_len slice },
 }
 
 impl<'a, R: BitRegister, O: BitOrder<R>> Clone for Iter<'a, R, O> {
@@ -35,7 +41,11 @@ impl<'a, R: BitRegister, O: BitOrder<R>> Clone for Iter<'a, R, O> {
     ghost is_infallible = { λ _. ⊤ };
 
     fn clone(&self) -> Result<Self, AllocError> {
-        Ok(Iter { rest: self.rest })
+        Ok(Iter {
+            slice: self.slice,
+            next: self.next,
+            end: self.end,
+        })
     }
 }
 
@@ -49,7 +59,10 @@ impl<'a, R: BitRegister, O: BitOrder<R>> Iter<'a, R, O> {
         ensures span { slice_span result ≡ rest_span self.now }
         ensures bits { bits_of result ≡ rest_of self.now }
     {
-        self.rest
+        BitSlice {
+            memory: self.slice.memory,
+            span: self.slice.span.range(self.next, self.end),
+        }
     }
 }
 
@@ -73,9 +86,11 @@ impl<'a, R: BitRegister, O: BitOrder<R>> Iterator for Iter<'a, R, O> {
             in MatchOption result (rest_span self.new ≡ left)
             (λ _. rest_span self.new ≡ span_from R.BITS left 1) }
     {
-        let bit = self.rest.first()?;
-        let (_, behind) = self.rest.split_at(1);
-        self.rest = behind;
+        if self.next == self.end {
+            return None;
+        }
+        let bit = self.slice.get_unchecked(self.next);
+        self.next += 1;
         Some(bit)
     }
 
@@ -84,7 +99,7 @@ impl<'a, R: BitRegister, O: BitOrder<R>> Iterator for Iter<'a, R, O> {
         ensures upper { IfSome result.1 (UpTo (at_most (length (rest_of self.now)))) }
         ensures exact { (result.0 ≡ length (rest_of self.now)) × (result.1 ≡ Some result.0) }
     {
-        let left = self.rest.len();
+        let left = self.end - self.next;
         (left, Some(left))
     }
 }
@@ -105,16 +120,17 @@ impl<'a, R: BitRegister, O: BitOrder<R>> DoubleEndedIterator for Iter<'a, R, O> 
             in MatchOption result (rest_span self.new ≡ left)
             (λ _. rest_span self.new ≡ record left { len = left.len - 1 }) }
     {
-        let bit = self.rest.last()?;
-        let (before, _) = self.rest.split_at(self.rest.len() - 1);
-        self.rest = before;
-        Some(bit)
+        if self.next == self.end {
+            return None;
+        }
+        self.end -= 1;
+        Some(self.slice.get_unchecked(self.end))
     }
 }
 
 impl<'a, R: BitRegister, O: BitOrder<R>> ExactSizeIterator for Iter<'a, R, O> {
     fn len(&self) -> usize {
-        self.rest.len()
+        self.end - self.next
     }
 }
 
@@ -139,7 +155,11 @@ impl<'a, R: BitRegister, O: BitOrder<R>> BitSlice<'a, R, O> {
         ensures runs { GivesBitsInOrder result }
         ensures runs_back { GivesBitsInReverse result }
     {
-        Iter { rest: *self }
+        Iter {
+            slice: *self,
+            next: 0,
+            end: self.len(),
+        }
     }
 }
 

@@ -43,7 +43,7 @@ pub(super) fn have_same_positions<
 
 // The digits at which a word differs from one of another register of the same width.
 #[inline(always)]
-fn difference<R: BitRegister, R2: BitRegister>(word: R, other: R2) -> R
+pub(super) fn difference<R: BitRegister, R2: BitRegister>(word: R, other: R2) -> R
     requires { R.BITS ≡ R2.BITS }
     ensures below { R.number result < 2 ^ R.BITS }
     ensures digits { (p : ℕ) → p < R.BITS → digit (R.number result) p

@@ -1,15 +1,24 @@
-use Rattle.std.proofs.Common.{map, arith}
+use Rattle.std.proofs.Common.{length, map, ap, arith}
+use Rattle.bitvec.specs.Span.{Span, list_of}
 use Rattle.bitvec.proofs.PartLemmas.{length-list_of}
 use Rattle.bitvec_slice.specs.BitSlice.{slice_memory, slice_span}
 use Rattle.bitvec_slice.specs.Iter.{rest_of}
-use Rattle.bitvec_slice.proofs.IterLemmas.{gives_in_order, gives_in_reverse}
+use Rattle.bitvec_slice.proofs.IterLemmas.{gives_in_order, gives_in_reverse, range_whole}
 use Rattle.bitvec_slice.proofs.slice.bit_slice.BitSlice.iter.Goals as goal
+
+pub returns-clause-span : goal.returns-clause-span
+returns-clause-span g c =
+    let slice = c.args.self.now in
+    range_whole g.R.BitRegister.BITS (slice_span slice) c.len.result (omega (arith, slice.span.in_word, g.met.R.BitRegister.width_at_least_8)) c.len.ensures.value
+
+pub returns-clause-rest : goal.returns-clause-rest
+returns-clause-rest g c = ap (λ (s : Span). list_of g.R.BitRegister.BITS g.O.BitAt.at_of s (map g.R.BitRegister.number (slice_memory c.args.self.now))) (returns-clause-span g c)
 
 pub returns-clause-bound : goal.returns-clause-bound
 returns-clause-bound g c =
     let slice = c.args.self.now in
     let long = length-list_of g.R.BitRegister.BITS g.O.BitAt.at_of (slice_span slice) (map g.R.BitRegister.number (slice_memory slice)) in
-    omega (arith, slice.span.short, long)
+    omega (arith, slice.span.short, long, ap length (returns-clause-rest g c))
 
 pub returns-clause-runs : goal.returns-clause-runs
 returns-clause-runs g c = gives_in_order rest_of
