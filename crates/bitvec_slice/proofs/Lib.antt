@@ -11,3 +11,5 @@ pub mod SameWordsLemmas
 mod SkipLemmas
 pub mod SlicePartLemmas
 mod SpanEdits
+mod SpanTurns
+mod WordTurns

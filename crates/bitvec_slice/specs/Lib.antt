@@ -4,5 +4,6 @@ pub mod Bits
 pub mod Field
 pub mod Iter
 pub mod Ones
+pub mod Turns
 pub mod Whole
 pub mod Words

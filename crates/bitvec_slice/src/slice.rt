@@ -10,6 +10,7 @@ mod moves;
 mod ones;
 mod parts;
 mod same_words;
+mod turn;
 mod whole;
 
 pub use self::bit_slice::BitSlice;
