@@ -13,4 +13,6 @@ mod ShiftedLemmas
 mod SkipLemmas
 pub mod SlicePartLemmas
 mod SpanEdits
+mod SpanTurns
 mod WordListLemmas
+mod WordTurns

@@ -5,6 +5,7 @@ pub mod Field
 pub mod FreeRuns
 pub mod Iter
 pub mod Ones
+pub mod Turns
 pub mod Whole
 pub mod WordEnds
 pub mod Words

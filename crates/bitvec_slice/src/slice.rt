@@ -13,6 +13,7 @@ mod ones;
 mod parts;
 mod same_words;
 mod shifted;
+mod turn;
 mod whole;
 mod word_ends;
 

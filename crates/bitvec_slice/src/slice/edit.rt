@@ -92,7 +92,8 @@ impl<'a, R: BitRegister, O: BitOrder<R>> BitSliceMut<'a, R, O> {
         span.copy_from(memory, source.span, source.memory);
     }
 
-    /// Puts the bits in the opposite order.
+    /// Puts the bits in the opposite order: by words where the order's positions rise or fall, as
+    /// those of `Lsb0` and `Msb0` do, else bit by bit.
     pub fn reverse(&mut self)
         ensures { BecomesBits self.old self.new (reverse (lent_bits self.old)) }
     {
@@ -125,7 +126,8 @@ impl<'a, R: BitRegister, O: BitOrder<R>> BitSliceMut<'a, R, O> {
         shift_bits_right(span, memory, by);
     }
 
-    /// Puts the first `by` bits behind the others. Requires that `by` is at most the length.
+    /// Puts the first `by` bits behind the others, at the cost of two times
+    /// [`reverse`](BitSliceMut::reverse). Requires that `by` is at most the length.
     pub fn rotate_left(&mut self, by: usize)
         requires { by ≤ lent_len self.old }
         ensures { let xs = lent_bits self.old

@@ -5,12 +5,26 @@ ghost use Rattle.std.specs.Prelude.{reverse};
 ghost use Rattle.bitvec.specs.BitSpan.{span_of, list_by, Becomes};
 ghost use Rattle.bitvec.specs.Span.{Fits};
 
+use crate::slice::turn::reverse_by_words;
 use bitvec::mem::BitRegister;
-use bitvec::order::BitOrder;
+use bitvec::order::{BitOrder, Direction, direction_of};
 use bitvec::ptr::span::BitSpan;
 
 // Puts the bits of a span in the opposite order, and changes no other bit.
 pub(super) fn reverse_bits<R: BitRegister, O: BitOrder<R>>(span: BitSpan<R, O>, memory: &mut [R])
+    requires fits { Fits R.BITS (span_of span) (length memory.old) }
+    ensures { Becomes span O.at_of memory.old memory.new
+        (reverse (list_by span O.at_of memory.old)) }
+{
+    match direction_of::<R, O>() {
+        Direction::Other => reverse_singly(span, memory),
+        Direction::Rises => reverse_by_words(span, memory),
+        Direction::Falls => reverse_by_words(span, memory),
+    }
+}
+
+// Puts the bits of a span in the opposite order one by one, and changes no other bit.
+fn reverse_singly<R: BitRegister, O: BitOrder<R>>(span: BitSpan<R, O>, memory: &mut [R])
     requires fits { Fits R.BITS (span_of span) (length memory.old) }
     ensures { Becomes span O.at_of memory.old memory.new
         (reverse (list_by span O.at_of memory.old)) }

@@ -5,7 +5,7 @@ use Rattle.bitvec.proofs.BecomesLemmas.{becomes, becomes-same, becomes-then}
 use Rattle.bitvec.proofs.PartLemmas.{length-list_of}
 use Rattle.bitvec_slice.proofs.ListEdits.{turned_none, turned_more, turned_all}
 use Rattle.bitvec_slice.proofs.SpanEdits.{words-many}
-use Rattle.bitvec_slice.proofs.slice.moves.reverse_bits.Goals as goal
+use Rattle.bitvec_slice.proofs.slice.moves.reverse_singly.Goals as goal
 
 pub loop-i-init : goal.loop-i-init
 loop-i-init g c =

@@ -2,7 +2,7 @@ use Rattle.std.proofs.Common.{◌≡◌, map, length}
 use Rattle.bitvec.specs.BitSpan.{span_of}
 use Rattle.bitvec.specs.Span.{BecomesList, list_of}
 use Rattle.bitvec_slice.proofs.ListEdits.{IsTurned}
-use Rattle.bitvec_slice.proofs.slice.moves.reverse_bits.Given as goal
+use Rattle.bitvec_slice.proofs.slice.moves.reverse_singly.Given as goal
 
 -- the first i bits and the last i are in the opposite order, and all but the span's list is as before
 abbrev pub invariant-loop-i : goal.invariant-loop-i
