@@ -13,7 +13,7 @@ use Rattle.std.proofs.lemmas.Option.{slice_get_read}
 use Rattle.bitvec_ptr.specs.Place.{place_at}
 use Rattle.bitvec_domain.specs.Span.{Span, AreDisjoint}
 use Rattle.bitvec_domain.proofs.DisjointLemmas.{disjoint-sym}
-use Rattle.bitvec.specs.Run.{span_in, numbers_of}
+use Rattle.bitvec.specs.Run.{span_in, span_or_empty}
 use Rattle.bitvec.proofs.RisingLemmas.{ComesBefore}
 
 -- each two elements at different indices are related
@@ -76,7 +76,7 @@ pairs_in_order R turns xs ys moved all =
 -- the span at an index that is there
 pub span_in-at : {S : Type 0} (view : S → Span) (xs : List S) (i : ℕ) (d : S) → i < length xs → span_in view xs i ≡ view (get_or xs i d)
 span_in-at view xs i d within =
-    ap (numbers_of view) (slice_get_read xs (length xs) i (get_or xs i d) refl within (get_or_default xs i d (get_or xs i d) within))
+    ap (span_or_empty view) (slice_get_read xs (length xs) i (get_or xs i d) refl within (get_or_default xs i d (get_or xs i d) within))
 
 pub span_in-range : {S : Type 0} (view : S → Span) (xs : List S) (i : ℕ) (d : S) (e : ℕ) → i < length xs
     → span_in view xs (get_or (range_with_len 0 (length xs)) i e) ≡ view (get_or xs i d)
@@ -103,7 +103,7 @@ pairs_from_number R view xs all i j d below high =
 
 -- the span at an index that was read
 pub span_in-read : {S : Type 0} (view : S → Span) (xs : List S) (i : ℕ) (x : S) → i < length xs → x ≡ get_or xs i x → span_in view xs i ≡ view x
-span_in-read view xs i x within is = ap (numbers_of view) (slice_get_read xs (length xs) i x refl within is)
+span_in-read view xs i x within is = ap (span_or_empty view) (slice_get_read xs (length xs) i x refl within is)
 
 -- spans that are apart are so in another order, and back
 pub apart_along : {S : Type 0} (bits : ℕ) (view : S → Span) (spans : List S) (order : List ℕ) → IsPermutation (range_with_len 0 (length spans)) order

@@ -17,13 +17,13 @@ abbrev pub CanRun : {S : Type 0} → ℕ → (S → Span) → List S → ℕ →
 CanRun bits view spans words = All (λ span. Fits bits (view span) words) spans × AllPairs (λ a b. AreDisjoint bits (view a) (view b)) spans
 
 -- the numbers of an element of a list, or those of no bits at place 0 where there is none
-abbrev pub numbers_of : {S : Type 0} → (S → Span) → Option S → Span
-numbers_of view None = record { word = pos 0; head = 0; len = 0 }
-numbers_of view (Some span) = view span
+abbrev pub span_or_empty : {S : Type 0} → (S → Span) → Option S → Span
+span_or_empty view None = record { word = pos 0; head = 0; len = 0 }
+span_or_empty view (Some span) = view span
 
 -- the numbers of the span at an index
 abbrev pub span_in : {S : Type 0} → (S → Span) → List S → ℕ → Span
-span_in view spans i = numbers_of view (slice_get spans i)
+span_in view spans i = span_or_empty view (slice_get spans i)
 
 -- the number in a memory of the first bit of the span at an index, which lies in the memory
 abbrev pub start_in : {S : Type 0} → ℕ → (S → Span) → List S → ℕ → ℕ

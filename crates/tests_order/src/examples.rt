@@ -3,7 +3,7 @@
 ghost use Rattle.std.specs.Prelude.{◌^◌, bit_xor};
 ghost use Rattle.bitvec_order.specs.Order.{mask_start, mask_end, plain_mask_of};
 
-use bitvec_mem::mem::{BitElement, BitRegister};
+use bitvec_mem::mem::{BitElement, BitRegister, highest_one, lowest_one};
 use bitvec_order::index::{BitEnd, BitIdx, BitMask, BitPos, BitSel, Limits, MaskLimits};
 use bitvec_order::order::{BitAt, Direction, Lsb0, Msb0, OrderCandidate, direction_of};
 use bitvec_order::positions::{
@@ -224,4 +224,16 @@ fn a_verifier_at_one_register(rt: HostRuntime) {
     assert!(rt; verify_for_type::<u32, Lsb0>().is_ok());
     assert!(rt; verify_for_type::<u32, Msb0>().is_ok());
     assert!(rt; verify_for_type::<u32, ByPosition<Constant>>().is_err());
+}
+
+#[test]
+fn the_lowest_one(rt: HostRuntime) {
+    assert_eq!(rt; lowest_one(0x28u8), Some(3));
+    assert_eq!(rt; lowest_one(0x00u8), None);
+}
+
+#[test]
+fn the_highest_one(rt: HostRuntime) {
+    assert_eq!(rt; highest_one(0x28u8), Some(5));
+    assert_eq!(rt; highest_one(0x00u8), None);
 }
