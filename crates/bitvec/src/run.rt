@@ -7,7 +7,7 @@ ghost use Rattle.std.specs.Prelude.{◌≡◌, ℕ, pos, ◌+ℤ◌, ◌≤ℤ�
 ghost use Rattle.std.specs.Prelude.{nat_abs, ◌+◌, ◌*◌};
 ghost use Rattle.std.specs.Prelude.{AllPairs, List, [], ◌∷◌, length, map};
 ghost use Rattle.bitvec_ptr.specs.Place.{place_at};
-ghost use Rattle.bitvec_domain.specs.Span.{AreDisjoint};
+ghost use Rattle.bitvec_domain.specs.Span.{AreDisjoint, Fits};
 ghost use Rattle.bitvec_domain.specs.BitSpan.{span_of};
 ghost use Rattle.bitvec.specs.Commands.{reply_number};
 ghost use Rattle.bitvec.specs.Run.{CanRun, IsRun, IsRising, start_in};
@@ -42,6 +42,13 @@ fn are_apart<R: BitRegister, O>(spans: &[BitSpan<R, O>]) -> bool
         }
     }
     true
+}
+
+// Whether each span lies within a memory of so many words.
+fn all_fit<R: BitRegister, O>(spans: &[BitSpan<R, O>], words: usize) -> bool
+    ensures { IsTrue result ↔ All (λ span. Fits R.BITS (span_of span) words) spans.now }
+{
+    spans.iter().all(|span| span.fits(words))
 }
 
 // Whether a span has no bits, or ends before another starts.
@@ -106,7 +113,7 @@ pub fn can_run<R: BitRegister, O>(spans: &[BitSpan<R, O>], words: usize) -> bool
 {
     match rising_can_run(spans, words) {
         Some(can) => can,
-        None => are_apart(spans) && spans.iter().all(|span| span.fits(words)),
+        None => are_apart(spans) && all_fit(spans, words),
     }
 }
 
@@ -161,8 +168,9 @@ fn sorted_apart<R: BitRegister, O>(spans: &[BitSpan<R, O>], order: &[usize]) -> 
 /// The answer of [`can_run`], found in time n log n for n spans whatever their order, with room for
 /// a number for each.
 ///
-/// Where it is true, the room holds the numbers of the spans, each once, in an order in which their
-/// first bits rise; where some span does not fit, the room stays as it is. Our own.
+/// The room has as many numbers as there are spans. Where all spans fit, it holds their numbers
+/// afterwards, each once, in an order in which their first bits rise; where one does not, it stays
+/// as it was. Our own.
 ///
 /// # Examples
 ///
@@ -181,10 +189,13 @@ pub fn can_run_in<R: BitRegister, O>(
 ) -> bool
     requires { length order.old ≡ length spans.now }
     ensures answer { IsTrue result ↔ CanRun R.BITS span_of spans.now words }
-    ensures order { IsTrue result → IsRising R.BITS span_of spans.now order.new }
+    ensures order { All (λ span. Fits R.BITS (span_of span) words) spans.now
+        → IsRising R.BITS span_of spans.now order.new }
+    ensures kept { ¬ All (λ span. Fits R.BITS (span_of span) words) spans.now
+        → order.new ≡ order.old }
     ensures len { length order.new ≡ length order.old }
 {
-    if !spans.iter().all(|span| span.fits(words)) {
+    if !all_fit(spans, words) {
         return false;
     }
     sort_places(spans, order);
