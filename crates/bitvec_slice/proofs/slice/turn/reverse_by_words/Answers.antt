@@ -1,4 +1,4 @@
-use Rattle.std.proofs.Common.{◌≡◌, ◌+◌, ◌-◌, ◌<◌, ◌≤◌, length, map, refl, sym, ap, subst, ◌∙◌, arith}
+use Rattle.std.proofs.Common.{◌≡◌, ◌+◌, ◌-◌, ◌<◌, length, map, refl, sym, ap, subst, ◌∙◌, arith}
 use Rattle.std.specs.Prelude.{nat_abs, slice_index}
 use Rattle.std.specs.Int.{w64}
 use Rattle.std.proofs.lemmas.Int.{ints}
@@ -7,7 +7,7 @@ use mir.Val.{to_z, of_z}
 use borrow.Rule.Slice.PartMut.{put_mid}
 use Rattle.bitvec.specs.BitPtr.{ptr_of}
 use Rattle.bitvec.specs.Memory.{memory_bits, list_with_copy}
-use Rattle.bitvec.specs.Place.{Ptr, index_of, words_met, tail_of}
+use Rattle.bitvec.specs.Place.{index_of, words_met, tail_of}
 use Rattle.bitvec.specs.BitSpan.{span_of}
 use Rattle.bitvec.specs.Span.{Span, Fits}
 use Rattle.bitvec.proofs.BecomesLemmas.{fits-numbers, numbers-many, span-becomes}
