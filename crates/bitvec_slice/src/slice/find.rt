@@ -248,7 +248,8 @@ impl<'a, R: BitRegister, O: BitOrder<R>> BitSlice<'a, R, O> {
 
     /// The index of the first bit that is one, counted from 0, and `None` where none is.
     ///
-    /// By words, and at most once by bits in an order that neither rises nor falls.
+    /// By words. In an order that neither rises nor falls the first word, the last and the one that
+    /// has the bit go bit by bit.
     pub fn first_one(&self) -> Option<usize>
         ensures { MatchOption result (AllAre false (bits_of self.now))
             (IsFirst true (bits_of self.now)) }
@@ -258,7 +259,8 @@ impl<'a, R: BitRegister, O: BitOrder<R>> BitSlice<'a, R, O> {
 
     /// The index of the first bit that is zero, counted from 0, and `None` where none is.
     ///
-    /// By words, and at most once by bits in an order that neither rises nor falls.
+    /// By words. In an order that neither rises nor falls the first word, the last and the one that
+    /// has the bit go bit by bit.
     pub fn first_zero(&self) -> Option<usize>
         ensures { MatchOption result (AllAre true (bits_of self.now))
             (IsFirst false (bits_of self.now)) }
@@ -268,7 +270,8 @@ impl<'a, R: BitRegister, O: BitOrder<R>> BitSlice<'a, R, O> {
 
     /// The index of the last bit that is one, counted from 0, and `None` where none is.
     ///
-    /// By words, and at most once by bits in an order that neither rises nor falls.
+    /// By words. In an order that neither rises nor falls the first word, the last and the one that
+    /// has the bit go bit by bit.
     pub fn last_one(&self) -> Option<usize>
         ensures { MatchOption result (AllAre false (bits_of self.now))
             (IsLast true (bits_of self.now)) }
@@ -278,7 +281,8 @@ impl<'a, R: BitRegister, O: BitOrder<R>> BitSlice<'a, R, O> {
 
     /// The index of the last bit that is zero, counted from 0, and `None` where none is.
     ///
-    /// By words, and at most once by bits in an order that neither rises nor falls.
+    /// By words. In an order that neither rises nor falls the first word, the last and the one that
+    /// has the bit go bit by bit.
     pub fn last_zero(&self) -> Option<usize>
         ensures { MatchOption result (AllAre true (bits_of self.now))
             (IsLast false (bits_of self.now)) }
