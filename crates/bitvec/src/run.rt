@@ -228,7 +228,8 @@ fn serve<R: BitRegister, O: BitOrder<R>>(
 /// requests. Each span's replies are those that its own list of bits gives under its own commands
 /// alone; a request that names no span gets [`Reply::NoSpan`]. In the end each span has the list
 /// that its commands leave, and every other bit of the memory is as before. A refused command
-/// changes nothing. Our own.
+/// changes nothing. Each request costs what its command does: constant time for one word or bit,
+/// else as the span's `copy_within` or `fill`. Our own.
 ///
 /// # Examples
 ///

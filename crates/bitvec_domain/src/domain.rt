@@ -74,7 +74,7 @@ impl<'a, R: BitRegister, O> Copy for Domain<'a, R, O> {}
 impl<'a, R: BitRegister, O> Domain<'a, R, O> {
     ghost use Rattle.bitvec_domain.specs.Domain.{Enclave, Region, domain_parts};
 
-    /// The part of one word, where the domain is that alone.
+    /// The part of one word, where the domain is that alone. Constant time.
     pub fn enclave(self) -> Option<PartialElement<'a, R, O>>
         ensures { MatchOption result (is_enclave (domain_parts R.number self.entry) ≡ false)
             (λ part. self.entry ≡ Enclave part) }
@@ -85,7 +85,7 @@ impl<'a, R: BitRegister, O> Domain<'a, R, O> {
         }
     }
 
-    /// The head, the body and the tail, where the domain is not one part alone.
+    /// The head, the body and the tail, where the domain is not one part alone. Constant time.
     pub fn region(
         self,
     ) -> Option<
@@ -111,7 +111,7 @@ impl<'a, R: BitRegister, O: BitOrder<R>> Domain<'a, R, O> {
     /// How many items are left: one for each part, and one for each whole word.
     ///
     /// Requires a body that is no longer than one span's can be, as each from
-    /// [`domain`](BitSpan::domain) is.
+    /// [`domain`](BitSpan::domain) is. Constant time.
     pub fn len(&self) -> usize
         requires { HasShortBody R.BITS (domain_parts R.number self.now) }
         ensures { result ≡ length (items R.BITS O.at_of (domain_parts R.number self.now)) }
@@ -148,7 +148,7 @@ impl<R: BitRegister, O: BitOrder<R>> BitSpan<R, O> {
     /// The part of the `k`-th word that the span meets, counted from 0.
     ///
     /// Its head is the span's in the first word, else the least; its tail is the span's in the last
-    /// word, else the greatest. Our own.
+    /// word, else the greatest. Constant time. Our own.
     pub fn part<'a>(self, memory: &'a [R], k: usize) -> PartialElement<'a, R, O>
         requires fits { Fits R.BITS (span_of self) (length memory.now) }
         requires met { k < words_met R.BITS (span_of self).head (span_of self).len }
@@ -184,7 +184,8 @@ impl<R: BitRegister, O: BitOrder<R>> BitSpan<R, O> {
 
     /// The words and parts of words of a memory that the span meets.
     ///
-    /// An empty span has the empty domain; there the Rust crate may answer an enclave.
+    /// An empty span has the empty domain; there the Rust crate may answer an enclave. Constant
+    /// time.
     ///
     /// # Examples
     ///

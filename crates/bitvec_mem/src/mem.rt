@@ -165,7 +165,7 @@ pub trait BitRegister: Copy + Default + Eq + Ord + Hash + Debug {
     ghost default_is_zero: { (a : Self) → Self.is_default a → a ≡ ZERO };
 }
 
-/// The width of a register in bits.
+/// The width of a register in bits. Constant time.
 pub fn bits_of<R: BitRegister>() -> usize
     ensures value { result ≡ R.BITS }
     ensures least { 8 ≤ result }
@@ -175,6 +175,7 @@ pub fn bits_of<R: BitRegister>() -> usize
 }
 
 /// How many registers hold so many bits: `bits / BITS`, and one more where a remainder is left.
+/// Constant time.
 pub const fn elts<R: BitRegister>(bits: usize) -> usize
     ensures { result ≡ bits / R.BITS + (if bits % R.BITS == 0 then 0 else 1) }
 {
@@ -215,7 +216,7 @@ impl<R: BitRegister> Clone for BitElement<R> {
 }
 
 impl<R: BitRegister> BitElement<R> {
-    /// The memory of the word `elem`.
+    /// The memory of the word `elem`. Constant time.
     pub fn new(elem: R) -> Self
         ensures { result.elem ≡ elem }
     {

@@ -46,7 +46,8 @@ fn encode(n: u128, base: u8, upper: bool, least: usize, out: &mut [u8; 128]) -> 
 }
 
 /// The digits of a number in the base, highest first, with zeros before them up to `least` digits;
-/// `upper` chooses the letters' case. They stand in the buffer that is handed in. Our own.
+/// `upper` chooses the letters' case. They stand in the buffer that is handed in. Costs by the
+/// digits that are written. Our own.
 pub fn numeral_in(n: u128, base: u8, upper: bool, least: usize, buffer: &mut [u8; 128]) -> &str
     requires low { 2 ≤ base }
     requires high { base ≤ 16 }
@@ -61,7 +62,7 @@ pub fn numeral_in(n: u128, base: u8, upper: bool, least: usize, buffer: &mut [u8
 /// digits; `upper` chooses the letters' case.
 ///
 /// The caller's flags change nothing. The contract says what is written where the call succeeds and
-/// the formatter indents nothing.
+/// the formatter indents nothing. Costs by the digits that are written.
 pub fn write_numeral<W: fmt::Write>(
     f: &mut fmt::Formatter<W>,
     n: u128,

@@ -79,6 +79,7 @@ impl<R: BitRegister> Limits for BitIdx<R> {
 
 impl<R: BitRegister> BitIdx<R> {
     /// The index `idx`; refuses a number that is not below the width, and the error holds it.
+    /// Constant time.
     ///
     /// # Examples
     ///
@@ -106,7 +107,7 @@ impl<R: BitRegister> BitIdx<R> {
         }
     }
 
-    /// The index `idx`, which is below the width: `new` is the test.
+    /// The index `idx`, which is below the width: `new` is the test. Constant time.
     pub fn new_unchecked(idx: u8) -> Self
         requires { idx < R.BITS }
         ensures { result ≡ idx }
@@ -117,7 +118,7 @@ impl<R: BitRegister> BitIdx<R> {
         }
     }
 
-    /// The number of the index.
+    /// The number of the index. Constant time.
     pub fn into_inner(self) -> u8
         ensures value { result ≡ self }
         ensures below { self < R.BITS }
@@ -126,6 +127,7 @@ impl<R: BitRegister> BitIdx<R> {
     }
 
     /// The index one further, and whether that crosses into the next register, at its first index.
+    /// Constant time.
     pub fn next(self) -> (Self, bool)
         ensures moved { result.0 ≡ (self + 1) % R.BITS }
         ensures crossed { IsTrue result.1 ↔ (self ≡ R.BITS - 1) }
@@ -138,6 +140,7 @@ impl<R: BitRegister> BitIdx<R> {
     }
 
     /// The index one back, and whether that crosses into the register before, at its last index.
+    /// Constant time.
     pub fn prev(self) -> (Self, bool)
         ensures moved { result.0 ≡ (self + R.BITS - 1) % R.BITS }
         ensures crossed { IsTrue result.1 ↔ (self ≡ 0) }
@@ -153,7 +156,7 @@ impl<R: BitRegister> BitIdx<R> {
     ///
     /// The sum of this index and `by` wraps at the end of `isize`; the registers are its floor by
     /// the width, below zero for a step back, and the index is its remainder. The Rust crate keeps
-    /// it private.
+    /// it private. Constant time.
     pub fn offset(self, by: isize) -> (isize, Self)
         ensures carried { result.0 ≡ int_div_euclid (int_wrap w64 (pos self +ℤ by)) (pos R.BITS) }
         ensures index { pos result.1 ≡ int_rem_euclid (int_wrap w64 (pos self +ℤ by)) (pos R.BITS) }
@@ -168,7 +171,7 @@ impl<R: BitRegister> BitIdx<R> {
     /// How many registers `len` bits from this one on meet, and where they end in the last.
     ///
     /// For no bits that is no register, and this index as the end. No sum passes the type, whatever
-    /// `len` is.
+    /// `len` is. Constant time.
     pub fn span(self, len: usize) -> (usize, BitEnd<R>)
         ensures empty { len ≡ 0 → (result.0 ≡ 0) × (result.1 ≡ self) }
         ensures elements { 0 < len → result.0 ≡ (self + len + (R.BITS - 1)) / R.BITS }
@@ -216,7 +219,7 @@ impl<R: BitRegister> Model for BitIdxError<R> {
 }
 
 impl<R: BitRegister> BitIdxError<R> {
-    /// The number that was refused.
+    /// The number that was refused. Constant time.
     pub fn into_inner(self) -> u8
         ensures value { result ≡ self }
         ensures above { R.BITS ≤ self }
@@ -268,7 +271,7 @@ impl<R: BitRegister> Limits for BitEnd<R> {
 }
 
 impl<R: BitRegister> BitEnd<R> {
-    /// The end `end`; `None` where it passes the width.
+    /// The end `end`; `None` where it passes the width. Constant time.
     pub fn new(end: u8) -> Option<Self>
         ensures accepted { IsSome result ↔ (end ≤ R.BITS) }
         ensures refused { IsNone result ↔ (R.BITS < end) }
@@ -284,7 +287,7 @@ impl<R: BitRegister> BitEnd<R> {
         }
     }
 
-    /// The end `end`, which does not pass the width: `new` is the test.
+    /// The end `end`, which does not pass the width: `new` is the test. Constant time.
     pub fn new_unchecked(end: u8) -> Self
         requires { end ≤ R.BITS }
         ensures { result ≡ end }
@@ -295,7 +298,7 @@ impl<R: BitRegister> BitEnd<R> {
         }
     }
 
-    /// The number of the end.
+    /// The number of the end. Constant time.
     pub fn into_inner(self) -> u8
         ensures value { result ≡ self }
         ensures below { self ≤ R.BITS }
@@ -306,7 +309,7 @@ impl<R: BitRegister> BitEnd<R> {
     /// How many registers `len` bits from this end on meet, and where they end in the last.
     ///
     /// An end at the width is the start of the next register. For no bits that is no register, and
-    /// this end. No sum passes the type, whatever `len` is.
+    /// this end. No sum passes the type, whatever `len` is. Constant time.
     pub fn span(self, len: usize) -> (usize, BitEnd<R>)
         ensures empty { len ≡ 0 → (result.0 ≡ 0) × (result.1 ≡ self) }
         ensures elements { 0 < len → result.0 ≡ (self % R.BITS + len + (R.BITS - 1)) / R.BITS }
@@ -362,7 +365,7 @@ impl<R: BitRegister> Limits for BitPos<R> {
 }
 
 impl<R: BitRegister> BitPos<R> {
-    /// The position `pos`; `None` where it is not below the width.
+    /// The position `pos`; `None` where it is not below the width. Constant time.
     pub fn new(pos: u8) -> Option<Self>
         ensures accepted { IsSome result ↔ (pos < R.BITS) }
         ensures refused { IsNone result ↔ (R.BITS ≤ pos) }
@@ -378,7 +381,7 @@ impl<R: BitRegister> BitPos<R> {
         }
     }
 
-    /// The position `pos`, which is below the width: `new` is the test.
+    /// The position `pos`, which is below the width: `new` is the test. Constant time.
     pub fn new_unchecked(pos: u8) -> Self
         requires { pos < R.BITS }
         ensures { result ≡ pos }
@@ -389,7 +392,7 @@ impl<R: BitRegister> BitPos<R> {
         }
     }
 
-    /// The number of the position.
+    /// The number of the position. Constant time.
     pub fn into_inner(self) -> u8
         ensures value { result ≡ self }
         ensures below { self < R.BITS }
@@ -397,7 +400,7 @@ impl<R: BitRegister> BitPos<R> {
         self.pos
     }
 
-    /// The selector of the position, two to its power.
+    /// The selector of the position, two to its power. Constant time.
     pub fn select(self) -> BitSel<R>
         ensures value { result ≡ 2 ^ self }
         ensures below { self < R.BITS }
@@ -407,7 +410,7 @@ impl<R: BitRegister> BitPos<R> {
         }
     }
 
-    /// The mask with this position alone.
+    /// The mask with this position alone. Constant time.
     pub fn mask(self) -> BitMask<R>
         ensures value { result ≡ 2 ^ self }
         ensures below { self < R.BITS }
@@ -453,7 +456,7 @@ impl<R: BitRegister> Clone for BitSel<R> {
 }
 
 impl<R: BitRegister> BitSel<R> {
-    /// The selector `sel`; `None` where the count of its ones is not 1.
+    /// The selector `sel`; `None` where the count of its ones is not 1. Constant time.
     pub fn new(sel: R) -> Option<Self>
         ensures accepted { IsSome result ↔ HasOneDigit R.BITS (R.number sel) }
         ensures value { IfSome result (λ made. made ≡ R.number sel) }
@@ -465,7 +468,7 @@ impl<R: BitRegister> BitSel<R> {
         }
     }
 
-    /// The selector `sel`, which has one digit set: `new` is the test.
+    /// The selector `sel`, which has one digit set: `new` is the test. Constant time.
     pub fn new_unchecked(sel: R) -> Self
         requires { HasOneDigit R.BITS (R.number sel) }
         ensures { result ≡ R.number sel }
@@ -475,7 +478,7 @@ impl<R: BitRegister> BitSel<R> {
         BitSel { sel }
     }
 
-    /// The number of the selector.
+    /// The number of the selector. Constant time.
     pub fn into_inner(self) -> R
         ensures value { R.number result ≡ self }
         ensures below { self < 2 ^ R.BITS }
@@ -485,7 +488,7 @@ impl<R: BitRegister> BitSel<R> {
         self.sel
     }
 
-    /// The mask with the selector's position alone.
+    /// The mask with the selector's position alone. Constant time.
     pub fn mask(self) -> BitMask<R>
         ensures value { result ≡ self }
         ensures position { (p : ℕ) × (p < R.BITS) × (self ≡ 2 ^ p) }
@@ -565,7 +568,7 @@ impl<R: BitRegister> BitMask<R> {
     ghost use Rattle.std.specs.Iterator.Runs.{WholeRun};
     ghost use Rattle.bitvec_order.specs.Masks.{HasDigits, is_in_some};
 
-    /// The mask `mask`: any number of the register is one.
+    /// The mask `mask`: any number of the register is one. Constant time.
     pub fn new(mask: R) -> Self
         ensures { result ≡ R.number mask }
     {
@@ -574,7 +577,7 @@ impl<R: BitRegister> BitMask<R> {
         BitMask { mask }
     }
 
-    /// The number of the mask.
+    /// The number of the mask. Constant time.
     pub fn into_inner(self) -> R
         ensures value { R.number result ≡ self }
         ensures below { self < 2 ^ R.BITS }
@@ -582,14 +585,14 @@ impl<R: BitRegister> BitMask<R> {
         self.mask
     }
 
-    /// Whether the selector's position is in the mask.
+    /// Whether the selector's position is in the mask. Constant time.
     pub fn test(&self, sel: BitSel<R>) -> bool
         ensures { (p : ℕ) → sel ≡ 2 ^ p → result ≡ digit self.now p }
     {
         self.mask.and(sel.sel) != R::ZERO
     }
 
-    /// Adds the selector's position to the mask.
+    /// Adds the selector's position to the mask. Constant time.
     pub fn insert(&mut self, sel: BitSel<R>)
         ensures below { self.new < 2 ^ R.BITS }
         ensures digits { (p : ℕ) → p < R.BITS → digit self.new p
@@ -598,7 +601,7 @@ impl<R: BitRegister> BitMask<R> {
         self.mask = self.mask.or(sel.sel);
     }
 
-    /// The mask with the selector's position added.
+    /// The mask with the selector's position added. Constant time.
     pub fn combine(self, sel: BitSel<R>) -> Self
         ensures below { result < 2 ^ R.BITS }
         ensures digits { (p : ℕ) → p < R.BITS → digit result p ≡ (digit self p || digit sel p) }
@@ -610,7 +613,8 @@ impl<R: BitRegister> BitMask<R> {
 
     /// The mask with the positions of all the selectors: their union, so a repeat counts once.
     ///
-    /// It takes any iterator that ends. The Rust crate has this as `Sum` alone.
+    /// It takes any iterator that ends. The Rust crate has this as `Sum` alone. Costs one step for
+    /// each item.
     pub fn sum<I: Iterator<Item = BitSel<R>>>(iter: I) -> Self
         requires can { I.can_next iter }
         requires ends { IsFinite (I.remaining iter) }

@@ -335,7 +335,7 @@ impl<'a, R: BitRegister, O: Sequential<R>> BitSliceMut<'a, R, O> {
     ghost use Rattle.bitvec_slice.specs.BitSliceMut.{BecomesBits};
 
     /// The number that [`load_le`](BitSlice::load_le) of [`as_bitslice`](BitSliceMut::as_bitslice)
-    /// gives. Requires no more bits than the number type has digits.
+    /// gives. Requires no more bits than the number type has digits. Costs by words.
     pub fn load_le<N: BitRegister>(&self) -> N
         requires { lent_len self.now ≤ N.BITS }
         ensures number { N.number result
@@ -352,7 +352,7 @@ impl<'a, R: BitRegister, O: Sequential<R>> BitSliceMut<'a, R, O> {
     }
 
     /// The number that [`load_be`](BitSlice::load_be) of [`as_bitslice`](BitSliceMut::as_bitslice)
-    /// gives. Requires no more bits than the number type has digits.
+    /// gives. Requires no more bits than the number type has digits. Costs by words.
     pub fn load_be<N: BitRegister>(&self) -> N
         requires { lent_len self.now ≤ N.BITS }
         ensures number { N.number result
@@ -370,8 +370,8 @@ impl<'a, R: BitRegister, O: Sequential<R>> BitSliceMut<'a, R, O> {
     }
 
     /// Makes the bits the lowest digits of a number, as many as there are bits, so that
-    /// [`load_le`](BitSliceMut::load_le) gives these back. Requires no more bits
-    /// than the number type has digits.
+    /// [`load_le`](BitSliceMut::load_le) gives these back. Requires no more bits than the number
+    /// type has digits. Costs by words.
     pub fn store_le<N: BitRegister>(&mut self, value: N)
         requires { lent_len self.old ≤ N.BITS }
         ensures stored { BecomesBits self.old self.new
@@ -386,8 +386,8 @@ impl<'a, R: BitRegister, O: Sequential<R>> BitSliceMut<'a, R, O> {
     }
 
     /// Makes the bits the lowest digits of a number, as many as there are bits, so that
-    /// [`load_be`](BitSliceMut::load_be) gives these back. Requires no more bits
-    /// than the number type has digits.
+    /// [`load_be`](BitSliceMut::load_be) gives these back. Requires no more bits than the number
+    /// type has digits. Costs by words.
     pub fn store_be<N: BitRegister>(&mut self, value: N)
         requires { lent_len self.old ≤ N.BITS }
         ensures stored { BecomesBits self.old self.new

@@ -249,7 +249,8 @@ pub fn verify_for_type<R: BitRegister, O: OrderCandidate<R>>() -> Result<(), Ord
 /// register that has one.
 ///
 /// The registers are scanned in the order `u8`, `u16`, `u32`, `usize`, `u64`, `u128`. The Rust
-/// crate panics at a fault, and has no register of 128 bits.
+/// crate panics at a fault, and has no register of 128 bits. Costs the scans of the six registers,
+/// each of which grows with the cube of the width.
 pub fn verify<O>() -> Result<(), VerifyFault>
 where
     O: OrderCandidate<u8>

@@ -83,7 +83,7 @@ impl<'a, R: BitRegister, O> Default for BitDomain<'a, R, O> {
 impl<'a, R: BitRegister, O> BitDomain<'a, R, O> {
     ghost use Rattle.bitvec_domain.specs.BitDomain.{Enclave, Region, bit_parts};
 
-    /// The bits of one word, where the domain is those alone.
+    /// The bits of one word, where the domain is those alone. Constant time.
     pub fn enclave(self) -> Option<BitWords<'a, R, O>>
         ensures { MatchOption result (is_bit_enclave (bit_parts R.number self.entry) ≡ false)
             (λ words. self.entry ≡ Enclave words) }
@@ -94,7 +94,7 @@ impl<'a, R: BitRegister, O> BitDomain<'a, R, O> {
         }
     }
 
-    /// The head, the body and the tail, where the domain is not one stretch alone.
+    /// The head, the body and the tail, where the domain is not one stretch alone. Constant time.
     pub fn region(self) -> Option<(BitWords<'a, R, O>, BitWords<'a, R, O>, BitWords<'a, R, O>)>
         ensures { MatchOption result (is_bit_enclave (bit_parts R.number self.entry) ≡ true)
             (λ all. self.entry ≡ Region all.0 all.1 all.2) }
@@ -115,6 +115,7 @@ impl<'a, R: BitRegister, O> Domain<'a, R, O> {
     /// the body.
     ///
     /// Requires a body that is no longer than one span's can be, as [`len`](Domain::len) does.
+    /// Constant time.
     pub fn into_bit_domain(self) -> BitDomain<'a, R, O>
         requires { HasShortBody R.BITS (domain_parts R.number self) }
         ensures { bit_parts R.number result
@@ -137,7 +138,7 @@ impl<R: BitRegister, O: BitOrder<R>> BitSpan<R, O> {
 
     /// The bits of the span in a memory, by the words in which they lie.
     ///
-    /// The bits of its parts, one behind the other, are the span's.
+    /// The bits of its parts, one behind the other, are the span's. Constant time.
     pub fn bit_domain<'a>(self, memory: &'a [R]) -> BitDomain<'a, R, O>
         requires { Fits R.BITS (span_of self) (length memory.now) }
         ensures parts { bit_parts R.number result

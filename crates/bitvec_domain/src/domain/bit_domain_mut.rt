@@ -118,7 +118,7 @@ impl<'a, R: BitRegister, O> BitDomainMut<'a, R, O> {
     /// The bits of one word, where the domain is those alone; where it is not, its loans are over,
     /// and their words stay as they are.
     ///
-    /// The stretch keeps its loan. The Rust crate gives a bit slice.
+    /// The stretch keeps its loan. The Rust crate gives a bit slice. Constant time.
     pub fn enclave(self) -> Option<BitWordsMut<'a, R, O>>
         ensures* rest { sem 𝓛 (BitDomainRestsIfNone R.row self.entry result) }
         ensures stretch { MatchOption result
@@ -181,7 +181,7 @@ impl<'a, R: BitRegister, O> BitDomainMut<'a, R, O> {
     /// The head, the body and the tail, where the domain is not one stretch alone; where it is,
     /// its loan is over, and the words stay as they are.
     ///
-    /// Each stretch keeps its loan. The Rust crate gives bit slices.
+    /// Each stretch keeps its loan. The Rust crate gives bit slices. Constant time.
     pub fn region(
         self,
     ) -> Option<
@@ -257,8 +257,8 @@ impl<'a, R: BitRegister, O> DomainMut<'a, R, O> {
     ///
     /// Each stretch has the loan of its part, and lies in it where the part does; an absent part is
     /// a stretch without bits. Requires a body that is no longer than one span's can be, as each
-    /// from [`domain_mut`](BitSpan::domain_mut) is. Our own, for the Rust crate's `into_bit_domain`
-    /// over a mutable memory.
+    /// from [`domain_mut`](BitSpan::domain_mut) is. Constant time. Our own, for the Rust crate's
+    /// `into_bit_domain` over a mutable memory.
     pub fn into_bit_domain(self) -> BitDomainMut<'a, R, O>
         requires { HasShortBody R.BITS (lent_parts R.number self) }
         ensures bits { lent_bits R.number result
@@ -288,8 +288,8 @@ impl<R: BitRegister, O> BitSpan<R, O> {
     /// They are those of [`bit_domain`](BitSpan::bit_domain). When the loans end, the memory is the
     /// last words of the head's loan, of the body's and of the tail's, one behind the other; the
     /// words of an absent part are as before. The loans are those of
-    /// [`domain_mut`](BitSpan::domain_mut). Requires that the span lies within the memory. Our own,
-    /// for the Rust crate's `bit_domain_mut`.
+    /// [`domain_mut`](BitSpan::domain_mut). Requires that the span lies within the memory. Constant
+    /// time. Our own, for the Rust crate's `bit_domain_mut`.
     pub fn bit_domain_mut<'a>(self, memory: &'a mut [R]) -> BitDomainMut<'a, R, O>
         requires { Fits R.BITS (span_of self) (length memory.old) }
         ensures* ends { sem 𝓛 (LendsBits R.row R.BITS (span_of self) memory.entry result) }

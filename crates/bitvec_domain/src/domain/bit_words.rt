@@ -58,28 +58,28 @@ impl<'a, R: BitRegister, O> Copy for BitWords<'a, R, O> {}
 impl<'a, R: BitRegister, O> BitWords<'a, R, O> {
     ghost use Rattle.bitvec_domain.specs.BitDomain.{word_bits};
 
-    /// How many bits there are.
+    /// How many bits there are. Constant time.
     pub fn len(&self) -> usize
         ensures { result ≡ (word_bits R.number self.now).len }
     {
         self.len
     }
 
-    /// Whether there are none.
+    /// Whether there are none. Constant time.
     pub fn is_empty(&self) -> bool
         ensures { IsTrue result ↔ ((word_bits R.number self.now).len ≡ 0) }
     {
         self.len == 0
     }
 
-    /// The words in which the bits lie, with what else stands in them.
+    /// The words in which the bits lie, with what else stands in them. Constant time.
     pub fn words(&self) -> &[R]
         ensures { map R.number result.now ≡ (word_bits R.number self.now).words }
     {
         self.words
     }
 
-    /// The index of the first bit in the first word.
+    /// The index of the first bit in the first word. Constant time.
     pub fn head(&self) -> BitIdx<R>
         ensures { result ≡ (word_bits R.number self.now).head }
     {
@@ -105,7 +105,7 @@ pub(super) fn word_pointer<R: BitRegister, O>(head: u8, i: usize) -> BitPtr<R, O
 impl<'a, R: BitRegister, O: BitOrder<R>> BitWords<'a, R, O> {
     ghost use Rattle.bitvec_domain.specs.BitDomain.{word_bits};
 
-    /// The bit `i` places after the first.
+    /// The bit `i` places after the first. Constant time.
     pub fn read(&self, i: usize) -> bool
         requires { i < (word_bits R.number self.now).len }
         ensures { slice_get (bits_list R.BITS O.at_of (word_bits R.number self.now)) i
@@ -136,7 +136,7 @@ impl<'a, R: BitRegister, O> PartialElement<'a, R, O> {
 
     /// The bits of the part, in its one word.
     ///
-    /// The Rust crate gives a bit slice.
+    /// The Rust crate gives a bit slice. Constant time.
     pub fn into_bitslice(self) -> BitWords<'a, R, O>
         ensures { word_bits R.number result ≡ part_bits (element_part R.number self.entry) }
     {

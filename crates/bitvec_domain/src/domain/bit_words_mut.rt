@@ -102,21 +102,21 @@ impl<'a, R: BitRegister, O> BitWordsMut<'a, R, O> {
         memory
     }
 
-    /// How many bits there are.
+    /// How many bits there are. Constant time.
     pub fn len(&self) -> usize
         ensures { result ≡ (stretch_in self.now).len }
     {
         self.len
     }
 
-    /// Whether there are none.
+    /// Whether there are none. Constant time.
     pub fn is_empty(&self) -> bool
         ensures { IsTrue result ↔ ((stretch_in self.now).len ≡ 0) }
     {
         self.len == 0
     }
 
-    /// The words in which the bits lie, with what else stands in them.
+    /// The words in which the bits lie, with what else stands in them. Constant time.
     pub fn words(&self) -> &[R]
         ensures { map R.number result.now
             ≡ (stretch_bits (stretch_in self.now)
@@ -125,7 +125,7 @@ impl<'a, R: BitRegister, O> BitWordsMut<'a, R, O> {
         &self.memory[self.first..self.first + self.count]
     }
 
-    /// The index of the first bit in the first word.
+    /// The index of the first bit in the first word. Constant time.
     pub fn head(&self) -> BitIdx<R>
         ensures { result ≡ (stretch_in self.now).head }
     {
@@ -137,7 +137,7 @@ impl<'a, R: BitRegister, O: BitOrder<R>> BitWordsMut<'a, R, O> {
     ghost use Rattle.bitvec_domain.specs.BitWordsMut.{words_memory, memory_numbers, stretch_in};
     ghost use Rattle.bitvec_domain.specs.BitWordsMut.{bit_number};
 
-    /// The bit `i` places after the first.
+    /// The bit `i` places after the first. Constant time.
     pub fn read(&self, i: usize) -> bool
         requires { i < (stretch_in self.now).len }
         ensures { slice_get (bits_list R.BITS O.at_of
@@ -148,7 +148,7 @@ impl<'a, R: BitRegister, O: BitOrder<R>> BitWordsMut<'a, R, O> {
     }
 
     /// Writes the bit `i` places after the first, and returns the bit before; no other bit of the
-    /// memory changes.
+    /// memory changes. Constant time.
     pub fn replace(&mut self, i: usize, bit: bool) -> bool
         requires { i < (stretch_in self.old).len }
         ensures reference { (words_memory self.new).ghost_name

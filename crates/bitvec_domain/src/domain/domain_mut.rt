@@ -119,7 +119,7 @@ impl<'a, R: BitRegister, O> DomainMut<'a, R, O> {
     }
 
     /// The part of one word, where the domain is that alone; where it is not, its loans are over,
-    /// and their words stay as they are.
+    /// and their words stay as they are. Constant time.
     pub fn enclave(self) -> Option<PartialElementMut<'a, R, O>>
         ensures* rest { sem 𝓛 (DomainRestsIfNone R.row self.entry result) }
         ensures part { MatchOption result (is_enclave (lent_parts R.number self.entry) ≡ false)
@@ -177,7 +177,7 @@ impl<'a, R: BitRegister, O> DomainMut<'a, R, O> {
     }
 
     /// The head, the body and the tail, where the domain is not one part alone; where it is, its
-    /// loan is over, and the words stay as they are.
+    /// loan is over, and the words stay as they are. Constant time.
     pub fn region(
         self,
     ) -> Option<
@@ -250,7 +250,7 @@ impl<R: BitRegister, O> BitSpan<R, O> {
     /// words up to its own, which is its last, and the tail's all words from its own on. When the
     /// loans end, the memory is what they leave, one behind the other; words that no loan has are
     /// as before. Requires a span that [`fits`](BitSpan::fits), and the body is no longer than one
-    /// span's can be. Our own, for the Rust crate's domains over a mutable memory.
+    /// span's can be. Constant time. Our own, for the Rust crate's domains over a mutable memory.
     pub fn domain_mut<'a>(self, memory: &'a mut [R]) -> DomainMut<'a, R, O>
         requires { Fits R.BITS (span_of self) (length memory.old) }
         ensures* ends { sem 𝓛 (LendsDomain R.row R.BITS (span_of self) memory.entry result) }

@@ -63,21 +63,21 @@ impl<'a, R: BitRegister, O> PartialElement<'a, R, O> {
         }
     }
 
-    /// The index of the first bit.
+    /// The index of the first bit. Constant time.
     pub fn head(&self) -> BitIdx<R>
         ensures { result ≡ (element_part R.number self.now).head }
     {
         BitIdx::new_unchecked(self.head)
     }
 
-    /// One past the index of the last bit.
+    /// One past the index of the last bit. Constant time.
     pub fn tail(&self) -> BitEnd<R>
         ensures { result ≡ (element_part R.number self.now).tail }
     {
         BitEnd::new_unchecked(self.tail)
     }
 
-    /// The head and the tail.
+    /// The head and the tail. Constant time.
     pub fn bounds(&self) -> (BitIdx<R>, BitEnd<R>)
         ensures head { result.0 ≡ (element_part R.number self.now).head }
         ensures tail { result.1 ≡ (element_part R.number self.now).tail }
@@ -89,7 +89,7 @@ impl<'a, R: BitRegister, O> PartialElement<'a, R, O> {
 impl<'a, R: BitRegister, O: BitOrder<R>> PartialElement<'a, R, O> {
     ghost use Rattle.bitvec_domain.specs.Domain.{element_part};
 
-    /// The positions of the bits.
+    /// The positions of the bits. Constant time.
     pub fn mask(&self) -> BitMask<R>
         ensures { IsMaskOf R.BITS O.at_of (element_part R.number self.now).head
             (element_part R.number self.now).tail result }
@@ -98,7 +98,7 @@ impl<'a, R: BitRegister, O: BitOrder<R>> PartialElement<'a, R, O> {
     }
 
     /// The digits of the word at the positions of the bits, where they stand in it, and all others
-    /// zero.
+    /// zero. Constant time.
     pub fn load_value(&self) -> R
         ensures { R.number result ≡ value_of R.BITS O.at_of (element_part R.number self.now) }
     {

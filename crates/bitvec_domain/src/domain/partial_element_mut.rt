@@ -127,21 +127,21 @@ impl<'a, R: BitRegister, O> PartialElementMut<'a, R, O> {
         memory[at] = word;
     }
 
-    /// The index of the first bit.
+    /// The index of the first bit. Constant time.
     pub fn head(&self) -> BitIdx<R>
         ensures { result ≡ (slot_in self.now).head }
     {
         BitIdx::new_unchecked(self.head)
     }
 
-    /// One past the index of the last bit.
+    /// One past the index of the last bit. Constant time.
     pub fn tail(&self) -> BitEnd<R>
         ensures { result ≡ (slot_in self.now).tail }
     {
         BitEnd::new_unchecked(self.tail)
     }
 
-    /// The head and the tail.
+    /// The head and the tail. Constant time.
     pub fn bounds(&self) -> (BitIdx<R>, BitEnd<R>)
         ensures head { result.0 ≡ (slot_in self.now).head }
         ensures tail { result.1 ≡ (slot_in self.now).tail }
@@ -154,7 +154,7 @@ impl<'a, R: BitRegister, O: BitOrder<R>> PartialElementMut<'a, R, O> {
     ghost use Rattle.bitvec_domain.specs.PartialElementMut.{memory_of, slot_in, PartIsEdited};
     ghost use Rattle.bitvec_domain.specs.DomainMut.{lent_part};
 
-    /// The positions of the bits.
+    /// The positions of the bits. Constant time.
     pub fn mask(&self) -> BitMask<R>
         ensures { IsMaskOf R.BITS O.at_of (slot_in self.now).head (slot_in self.now).tail result }
     {
@@ -162,7 +162,7 @@ impl<'a, R: BitRegister, O: BitOrder<R>> PartialElementMut<'a, R, O> {
     }
 
     /// The digits of the word at the positions of the bits, where they stand in it, and all others
-    /// zero.
+    /// zero. Constant time.
     pub fn load_value(&self) -> R
         ensures { R.number result ≡ value_of R.BITS O.at_of (lent_part R.number self.now) }
     {
@@ -173,7 +173,7 @@ impl<'a, R: BitRegister, O: BitOrder<R>> PartialElementMut<'a, R, O> {
     /// previous ones as [`load_value`](PartialElementMut::load_value) does.
     ///
     /// Every other digit stays, and every other word, and so the list of each span that is disjoint
-    /// from the part.
+    /// from the part. Constant time.
     pub fn store_value(&mut self, value: R) -> R
         ensures reference { (memory_of self.new).ghost_name ≡ (memory_of self.old).ghost_name }
         ensures slot { slot_in self.new ≡ slot_in self.old }
@@ -186,7 +186,7 @@ impl<'a, R: BitRegister, O: BitOrder<R>> PartialElementMut<'a, R, O> {
         old.and(mask)
     }
 
-    /// Turns each of the bits over, and returns the previous ones.
+    /// Turns each of the bits over, and returns the previous ones. Constant time.
     pub fn invert(&mut self) -> R
         ensures reference { (memory_of self.new).ghost_name ≡ (memory_of self.old).ghost_name }
         ensures slot { slot_in self.new ≡ slot_in self.old }
@@ -198,7 +198,7 @@ impl<'a, R: BitRegister, O: BitOrder<R>> PartialElementMut<'a, R, O> {
         self.store_value(turned)
     }
 
-    /// Makes each of the bits zero, and returns the previous ones.
+    /// Makes each of the bits zero, and returns the previous ones. Constant time.
     pub fn clear(&mut self) -> R
         ensures reference { (memory_of self.new).ghost_name ≡ (memory_of self.old).ghost_name }
         ensures slot { slot_in self.new ≡ slot_in self.old }
@@ -208,7 +208,7 @@ impl<'a, R: BitRegister, O: BitOrder<R>> PartialElementMut<'a, R, O> {
         self.store_value(R::ZERO)
     }
 
-    /// Makes each of the bits one, and returns the previous ones.
+    /// Makes each of the bits one, and returns the previous ones. Constant time.
     pub fn set(&mut self) -> R
         ensures reference { (memory_of self.new).ghost_name ≡ (memory_of self.old).ghost_name }
         ensures slot { slot_in self.new ≡ slot_in self.old }
@@ -225,7 +225,7 @@ impl<'a, R: BitRegister, O> PartialElementMut<'a, R, O> {
     ghost use Rattle.bitvec_domain.specs.DomainMut.{lent_part};
     ghost use Rattle.bitvec_domain.specs.BitDomainMut.{lent_word_bits};
 
-    /// The bits of the part, in its one word.
+    /// The bits of the part, in its one word. Constant time.
     pub fn into_bitslice(self) -> BitWordsMut<'a, R, O>
         ensures reference { (words_memory result).ghost_name ≡ (memory_of self.entry).ghost_name }
         ensures memory { (words_memory result).now ≡ (memory_of self.entry).now }
@@ -257,7 +257,7 @@ impl<R: BitRegister, O> BitSpan<R, O> {
 
     /// The part of the `k`-th word that the span meets, counted from 0, for writing.
     ///
-    /// Its bounds are those of [`part`](BitSpan::part). Our own.
+    /// Its bounds are those of [`part`](BitSpan::part). Constant time. Our own.
     pub fn part_mut<'a>(self, memory: &'a mut [R], k: usize) -> PartialElementMut<'a, R, O>
         requires fits { Fits R.BITS (span_of self) (length memory.old) }
         requires met { k < words_met R.BITS (span_of self).head (span_of self).len }

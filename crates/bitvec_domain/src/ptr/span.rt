@@ -115,7 +115,7 @@ impl<R: BitRegister, O> BitSpan<R, O> {
     ///
     /// It refuses, in this order: `TooLong(bits)` where there are more than 2305843009213693951,
     /// and `TooHigh(word)` where the word in which the span ends passes the greatest `isize`. The
-    /// bounds are the Rust crate's; there the second is an address that wraps.
+    /// bounds are the Rust crate's; there the second is an address that wraps. Constant time.
     ///
     /// # Examples
     ///
@@ -158,7 +158,7 @@ impl<R: BitRegister, O> BitSpan<R, O> {
     /// The span of `bits` bits from a pointer on, refused as [`new`](BitSpan::new) of its word and
     /// bit is.
     ///
-    /// Our own, for the Rust crate's private `BitPtr::span`.
+    /// Our own, for the Rust crate's private `BitPtr::span`. Constant time.
     pub fn from_bitptr(pointer: BitPtr<R, O>, bits: usize) -> Result<Self, BitSpanError<R>>
         ensures accepted { IsOk result
             ↔ ((bits ≤ region_max_bits)
@@ -218,35 +218,36 @@ impl<R: BitRegister, O> BitSpan<R, O> {
         }
     }
 
-    /// The index of the first word.
+    /// The index of the first word. Constant time.
     pub fn address(&self) -> isize
         ensures { result ≡ (span_of self.now).word }
     {
         self.word
     }
 
-    /// The index of the first bit in its word.
+    /// The index of the first bit in its word. Constant time.
     pub fn head(&self) -> BitIdx<R>
         ensures { result ≡ (span_of self.now).head }
     {
         BitIdx::new_unchecked(self.head)
     }
 
-    /// The number of bits.
+    /// The number of bits. Constant time.
     pub fn len(&self) -> usize
         ensures { result ≡ (span_of self.now).len }
     {
         self.len
     }
 
-    /// Whether the span has no bits.
+    /// Whether the span has no bits. Constant time.
     pub fn is_empty(&self) -> bool
         ensures { IsTrue result ↔ ((span_of self.now).len ≡ 0) }
     {
         self.len == 0
     }
 
-    /// The index of the first word, that of the first bit in it, and the number of bits.
+    /// The index of the first word, that of the first bit in it, and the number of bits. Constant
+    /// time.
     pub fn raw_parts(&self) -> (isize, BitIdx<R>, usize)
         ensures word { result.0 ≡ (span_of self.now).word }
         ensures head { result.1 ≡ (span_of self.now).head }
@@ -258,7 +259,7 @@ impl<R: BitRegister, O> BitSpan<R, O> {
     /// The pointer to the first bit, and for an empty span to where it would be.
     ///
     /// It may be moved on by up to the span's length, and by less than that it lies in each memory
-    /// that the span [`fits`](BitSpan::fits).
+    /// that the span [`fits`](BitSpan::fits). Constant time.
     pub fn to_bitptr(self) -> BitPtr<R, O>
         ensures pointer { ptr_of result
             ≡ record { word = (span_of self).word; bit = (span_of self).head } }
@@ -275,7 +276,7 @@ impl<R: BitRegister, O> BitSpan<R, O> {
     /// The pointer to the bit `index` places after the first.
     ///
     /// Requires an index below the length. The pointer lies in each memory that the span
-    /// [`fits`](BitSpan::fits). Our own.
+    /// [`fits`](BitSpan::fits). Constant time. Our own.
     pub fn bitptr(self, index: usize) -> BitPtr<R, O>
         requires { index < (span_of self).len }
         ensures place { place_of R.BITS (ptr_of result)
@@ -286,7 +287,7 @@ impl<R: BitRegister, O> BitSpan<R, O> {
         self.to_bitptr().add(index)
     }
 
-    /// The pointers to the span's bits, in order.
+    /// The pointers to the span's bits, in order. Constant time.
     pub fn to_bitptr_range(self) -> BitPtrRange<R, O>
         ensures start { (range_of result).start
             ≡ record { word = (span_of self).word; bit = (span_of self).head } }
@@ -331,7 +332,7 @@ impl<R: BitRegister, O> BitSpan<R, O> {
     /// the 3 bits there and the 5 from bit 5 on; split at 6, the second part starts at bit 0 of
     /// word 1; and split at 8, it has no bits, at bit 2 of that word. Both parts lie in each memory
     /// that the span [`fits`](BitSpan::fits), where their lists of bits, joined, are the span's.
-    /// Our own.
+    /// Constant time. Our own.
     pub fn split_at(self, mid: usize) -> (Self, Self)
         requires { mid ≤ (span_of self).len }
         ensures first { span_of result.0 ≡ span_upto (span_of self) mid }
@@ -390,7 +391,7 @@ impl<R: BitRegister, O> BitSpan<R, O> {
 
     /// How many words the span meets, 0 for an empty one whatever its head.
     ///
-    /// The Rust crate gives 1 for an empty span with a head above 0.
+    /// The Rust crate gives 1 for an empty span with a head above 0. Constant time.
     pub fn elements(&self) -> usize
         ensures value { result ≡ words_met R.BITS (span_of self.now).head (span_of self.now).len }
         ensures short { result ≤ region_max_bits }
@@ -398,7 +399,7 @@ impl<R: BitRegister, O> BitSpan<R, O> {
         self.extent().0
     }
 
-    /// One past the index of the last bit in its word; for an empty span its head.
+    /// One past the index of the last bit in its word; for an empty span its head. Constant time.
     pub fn tail(&self) -> BitEnd<R>
         ensures { result ≡ tail_of R.BITS (span_of self.now).head (span_of self.now).len }
     {
@@ -440,7 +441,7 @@ impl<R: BitRegister, O> BitSpan<R, O> {
 
     /// Whether the words that the span meets are among the first `words` of a memory. For an empty
     /// span, which meets no word, it is whether its word is from 0 to `words`, so that the place
-    /// behind the last word is let in. Our own.
+    /// behind the last word is let in. Constant time. Our own.
     ///
     /// # Examples
     ///
@@ -458,7 +459,7 @@ impl<R: BitRegister, O> BitSpan<R, O> {
 
     /// Whether no bit is in both spans, as it is where one of them has none. Our own.
     ///
-    /// Spans of one word are disjoint too where their bits are.
+    /// Spans of one word are disjoint too where their bits are. Constant time.
     pub fn is_disjoint(&self, other: &Self) -> bool
         ensures { IsTrue result ↔ AreDisjoint R.BITS (span_of self.now) (span_of other.now) }
     {

@@ -40,7 +40,7 @@ impl<R: BitRegister> Model for IdxRange<R> {
 }
 
 impl<R: BitRegister> BitIdx<R> {
-    /// The indices from this one to before `upto`, which is not below it.
+    /// The indices from this one to before `upto`, which is not below it. Constant time.
     pub fn range(self, upto: BitEnd<R>) -> IdxRange<R>
         requires { self ≤ upto }
         ensures items { result ≡ numbers_between self upto }
@@ -54,7 +54,7 @@ impl<R: BitRegister> BitIdx<R> {
         }
     }
 
-    /// All indices of the register.
+    /// All indices of the register. Constant time.
     #[tactic(auto, using(crate::proofs::Ranges::range_lengths))]
     pub fn range_all() -> IdxRange<R>
         ensures items { result ≡ numbers_between 0 R.BITS }
@@ -136,7 +136,7 @@ impl<R: BitRegister> Model for EndRange<R> {
 }
 
 impl<R: BitRegister> BitEnd<R> {
-    /// The ends from `from` to the width, both included.
+    /// The ends from `from` to the width, both included. Constant time.
     pub fn range_from(from: BitIdx<R>) -> EndRange<R>
         ensures items { result ≡ numbers_between from (R.BITS + 1) }
         ensures count { from + length result ≡ R.BITS + 1 }
@@ -218,7 +218,7 @@ impl<R: BitRegister> Model for PosRange<R> {
 impl<R: BitRegister> BitPos<R> {
     /// All positions of the register.
     ///
-    /// The Rust crate keeps it private.
+    /// The Rust crate keeps it private. Constant time.
     pub fn range_all() -> PosRange<R>
         ensures items { result ≡ numbers_between 0 R.BITS }
         ensures count { length result ≡ R.BITS }
@@ -288,7 +288,7 @@ impl<R: BitRegister> Model for SelRange<R> {
 }
 
 impl<R: BitRegister> BitSel<R> {
-    /// All selectors of the register.
+    /// All selectors of the register. Constant time.
     pub fn range_all() -> SelRange<R>
         ensures items { result ≡ powers_between 0 R.BITS }
         ensures count { length result ≡ R.BITS }

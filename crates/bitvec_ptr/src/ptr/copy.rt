@@ -30,7 +30,8 @@ impl<R: BitRegister, O: BitOrder<R>> BitPtr<R, O> {
     /// copy, that the mark stands at the target: before its first word if the writer is a rising
     /// one, after its last if it is a falling one. Then the mark stands at the target's other edge,
     /// and [`writes`](WordWriter::writes) has grown by the number of words that the target meets.
-    /// With count 0 the writer stays as it is. Our own.
+    /// With count 0 the writer stays as it is. Costs by words where both orders rise, both fall, or
+    /// are one order with both ranges at the same bit of a word; else by bits. Our own.
     #[inline(always)]
     pub fn copy_through<R2: BitRegister, O2: BitOrder<R2>>(
         self,
@@ -71,7 +72,9 @@ impl<R: BitRegister, O: BitOrder<R>> BitPtr<R, O> {
     /// whatever their registers and orders are. What is required, and how the mark and the count of
     /// writes move, is as for [`copy_through`](BitPtr::copy_through), which is this call with
     /// [`Source`]. It takes some operations for each word of the target, and some for each bit
-    /// where the orders differ and neither both rise nor both fall. Our own.
+    /// where the orders differ and neither both rise nor both fall. Costs by words where both
+    /// orders rise, both fall, or are one order with both ranges at the same bit of a word; else by
+    /// bits. Our own.
     ///
     /// # Examples
     ///
@@ -127,7 +130,8 @@ impl<R: BitRegister, O: BitOrder<R>> BitPtr<R, O> {
     /// The two ranges may overlap, and what is copied is what was there before the call. Requires
     /// what [`copy_through`](BitPtr::copy_through) does, and, where there are bits to copy, a
     /// rising writer where `dest` is at or before this pointer and a falling one otherwise. Mark
-    /// and writes move as there. Our own.
+    /// and writes move as there. Costs by words where both orders rise, both fall, or are one order
+    /// with both ranges at the same bit of a word; else by bits. Our own.
     #[inline(always)]
     pub fn copy_within_through(self, dest: Self, writer: &mut WordWriter<R>, count: usize)
         requires from_in { RangeIsIn R.BITS (ptr_of self) (length (writer_of writer.old).words)
@@ -166,7 +170,8 @@ impl<R: BitRegister, O: BitOrder<R>> BitPtr<R, O> {
     /// The two ranges may overlap, and each bit is combined with what was there before the call.
     /// What is required, and how the mark and the count of writes move, is as for
     /// [`copy_within_through`](BitPtr::copy_within_through), which is this call with [`Source`].
-    /// Our own.
+    /// Costs by words where both orders rise, both fall, or are one order with both ranges at the
+    /// same bit of a word; else by bits. Our own.
     ///
     /// # Examples
     ///
@@ -223,7 +228,9 @@ impl<R: BitRegister, O: BitOrder<R>> BitPtr<R, O> {
     /// and changes no other bit: [`run_in`](BitPtr::run_in) is the test of each range.
     ///
     /// Bit j of the one range becomes bit j of the other, whatever their registers and orders are.
-    /// The Rust crate's call is handed no memory, since its pointers are addresses.
+    /// The Rust crate's call is handed no memory, since its pointers are addresses. Costs by words
+    /// where both orders rise, both fall, or are one order with both ranges at the same bit of a
+    /// word; else by bits.
     ///
     /// # Examples
     ///
@@ -259,8 +266,9 @@ impl<R: BitRegister, O: BitOrder<R>> BitPtr<R, O> {
     /// on, and changes no other bit: [`run_in`](BitPtr::run_in) is the test of each range.
     ///
     /// Bit j of the target's range becomes what `C` makes of it and of bit j of this range,
-    /// whatever their registers and orders are. With [`Source`] it is
-    /// [`copy_to`](BitPtr::copy_to). Our own.
+    /// whatever their registers and orders are. With [`Source`] it is [`copy_to`](BitPtr::copy_to).
+    /// Costs by words where both orders rise, both fall, or are one order with both ranges at the
+    /// same bit of a word; else by bits. Our own.
     ///
     /// # Examples
     ///
@@ -292,7 +300,9 @@ impl<R: BitRegister, O: BitOrder<R>> BitPtr<R, O> {
         self.combine_through::<C, R2, O2>(memory, dest, &mut writer, count);
     }
 
-    /// Another name of [`copy_to`](BitPtr::copy_to), since two memories never overlap.
+    /// Another name of [`copy_to`](BitPtr::copy_to), since two memories never overlap. Costs by
+    /// words where both orders rise, both fall, or are one order with both ranges at the same bit
+    /// of a word; else by bits.
     pub fn copy_to_nonoverlapping<R2: BitRegister, O2: BitOrder<R2>>(
         self,
         memory: &[R],
@@ -313,7 +323,9 @@ impl<R: BitRegister, O: BitOrder<R>> BitPtr<R, O> {
     /// Copies `count` bits of `source`, from `src` on, to those of `memory` from this pointer on,
     /// and changes no other bit: [`run_in`](BitPtr::run_in) is the test of each range.
     ///
-    /// It is [`copy_to`](BitPtr::copy_to) with the two sides in each other's place.
+    /// It is [`copy_to`](BitPtr::copy_to) with the two sides in each other's place. Costs by words
+    /// where both orders rise, both fall, or are one order with both ranges at the same bit of a
+    /// word; else by bits.
     pub fn copy_from<R2: BitRegister, O2: BitOrder<R2>>(
         self,
         memory: &mut [R],
@@ -332,7 +344,8 @@ impl<R: BitRegister, O: BitOrder<R>> BitPtr<R, O> {
     }
 
     /// Another name of [`copy_from`](BitPtr::copy_from), since two memories never overlap. As in
-    /// the Rust crate.
+    /// the Rust crate. Costs by words where both orders rise, both fall, or are one order with both
+    /// ranges at the same bit of a word; else by bits.
     pub fn copy_from_nonoverlapping<R2: BitRegister, O2: BitOrder<R2>>(
         self,
         memory: &mut [R],
@@ -353,8 +366,10 @@ impl<R: BitRegister, O: BitOrder<R>> BitPtr<R, O> {
     /// Copies `count` bits of a memory, from this pointer on, to those from `dest` on, and changes
     /// no other bit: [`run_in`](BitPtr::run_in) is the test of each range.
     ///
-    /// The two ranges may overlap, and what is copied is what was there before the call. Our own,
-    /// for the Rust crate's `copy_to` where both pointers are into one memory.
+    /// The two ranges may overlap, and what is copied is what was there before the call. Costs by
+    /// words where both orders rise, both fall, or are one order with both ranges at the same bit
+    /// of a word; else by bits. Our own, for the Rust crate's `copy_to` where both pointers are
+    /// into one memory.
     pub fn copy_within(self, memory: &mut [R], dest: Self, count: usize)
         requires from_in { RangeIsIn R.BITS (ptr_of self) (length memory.old) count }
         requires to_in { RangeIsIn R.BITS (ptr_of dest) (length memory.old) count }
@@ -369,7 +384,9 @@ impl<R: BitRegister, O: BitOrder<R>> BitPtr<R, O> {
     /// changes no other bit: [`run_in`](BitPtr::run_in) is the test of each range.
     ///
     /// The two ranges may overlap, and each bit is combined with what was there before the call.
-    /// With [`Source`] it is [`copy_within`](BitPtr::copy_within). Our own.
+    /// With [`Source`] it is [`copy_within`](BitPtr::copy_within). Costs by words where both orders
+    /// rise, both fall, or are one order with both ranges at the same bit of a word; else by bits.
+    /// Our own.
     ///
     /// # Examples
     ///
@@ -396,8 +413,10 @@ impl<R: BitRegister, O: BitOrder<R>> BitPtr<R, O> {
     /// Copies `count` bits of a memory, from `src` on, to those from this pointer on, and changes
     /// no other bit: [`run_in`](BitPtr::run_in) is the test of each range.
     ///
-    /// It is [`copy_within`](BitPtr::copy_within) with the two sides in each other's place. Our
-    /// own, for the Rust crate's `copy_from` where both pointers are into one memory.
+    /// It is [`copy_within`](BitPtr::copy_within) with the two sides in each other's place. Costs
+    /// by words where both orders rise, both fall, or are one order with both ranges at the same
+    /// bit of a word; else by bits. Our own, for the Rust crate's `copy_from` where both pointers
+    /// are into one memory.
     pub fn copy_from_within(self, memory: &mut [R], src: Self, count: usize)
         requires from_in { RangeIsIn R.BITS (ptr_of src) (length memory.old) count }
         requires to_in { RangeIsIn R.BITS (ptr_of self) (length memory.old) count }
@@ -412,8 +431,9 @@ impl<R: BitRegister, O: BitOrder<R>> BitPtr<R, O> {
     /// in common.
     ///
     /// Each is to be short enough for a span: at most 2305843009213693951 bits, and an `isize` for
-    /// the word of the place after the last. Our own, for the Rust crate's `copy_to_nonoverlapping`
-    /// where both pointers are into one memory.
+    /// the word of the place after the last. Costs by words where both orders rise, both fall, or
+    /// are one order with both ranges at the same bit of a word; else by bits. Our own, for the
+    /// Rust crate's `copy_to_nonoverlapping` where both pointers are into one memory.
     pub fn copy_within_nonoverlapping(self, memory: &mut [R], dest: Self, count: usize)
         requires from_in { RangeIsIn R.BITS (ptr_of self) (length memory.old) count }
         requires to_in { RangeIsIn R.BITS (ptr_of dest) (length memory.old) count }

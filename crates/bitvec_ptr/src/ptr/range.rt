@@ -77,14 +77,16 @@ impl<R: BitRegister, O> EmptyRange for BitPtrRange<R, O> {
 impl<R: BitRegister, O> BitPtrRange<R, O> {
     ghost use Rattle.bitvec_ptr.specs.BitPtrRange.{range_of};
 
-    /// Whether the start is not past the end, and their distance is an `isize`. Our own.
+    /// Whether the start is not past the end, and their distance is an `isize`. Constant time. Our
+    /// own.
     pub fn can_range(range: &Range<BitPtr<R, O>>) -> bool
         ensures { IsTrue result ↔ CanRange R.BITS (ptr_of range.now.start) (ptr_of range.now.end) }
     {
         range.start <= range.end && range.end.can_offset_from(range.start)
     }
 
-    /// The range with these two ends: [`can_range`](BitPtrRange::can_range) is the test.
+    /// The range with these two ends: [`can_range`](BitPtrRange::can_range) is the test. Constant
+    /// time.
     pub fn from_range(range: Range<BitPtr<R, O>>) -> Self
         requires { CanRange R.BITS (ptr_of range.start) (ptr_of range.end) }
         ensures { range_of result ≡ record { start = ptr_of range.start; end = ptr_of range.end } }
@@ -95,7 +97,7 @@ impl<R: BitRegister, O> BitPtrRange<R, O> {
         }
     }
 
-    /// Its two ends.
+    /// Its two ends. Constant time.
     pub fn into_range(self) -> Range<BitPtr<R, O>>
         ensures start { ptr_of result.start ≡ (range_of self).start }
         ensures end { ptr_of result.end ≡ (range_of self).end }
@@ -103,21 +105,21 @@ impl<R: BitRegister, O> BitPtrRange<R, O> {
         self.start..self.end
     }
 
-    /// The first pointer of the range, and where it is empty the end.
+    /// The first pointer of the range, and where it is empty the end. Constant time.
     pub fn start(&self) -> BitPtr<R, O>
         ensures { ptr_of result ≡ (range_of self.now).start }
     {
         self.start
     }
 
-    /// The pointer one past the last.
+    /// The pointer one past the last. Constant time.
     pub fn end(&self) -> BitPtr<R, O>
         ensures { ptr_of result ≡ (range_of self.now).end }
     {
         self.end
     }
 
-    /// Whether the range has no pointer.
+    /// Whether the range has no pointer. Constant time.
     pub fn is_empty(&self) -> bool
         ensures items { IsTrue result ↔ (places_of R.BITS (range_of self.now) ≡ []) }
         ensures ends { IsTrue result ↔ ((range_of self.now).start ≡ (range_of self.now).end) }
@@ -125,21 +127,21 @@ impl<R: BitRegister, O> BitPtrRange<R, O> {
         self.start == self.end
     }
 
-    /// Whether a pointer is one of the range's.
+    /// Whether a pointer is one of the range's. Constant time.
     pub fn contains(&self, pointer: &BitPtr<R, O>) -> bool
         ensures { IsTrue result ↔ Holds R.BITS (range_of self.now) (ptr_of pointer.now) }
     {
         self.start <= *pointer && *pointer < self.end
     }
 
-    /// The bound that the range includes, its start.
+    /// The bound that the range includes, its start. Constant time.
     pub fn start_bound(&self) -> Bound<&BitPtr<R, O>>
         ensures { bound_map (λ p. ptr_of p.now) result ≡ Included (range_of self.now).start }
     {
         Bound::Included(&self.start)
     }
 
-    /// The bound that the range excludes, its end.
+    /// The bound that the range excludes, its end. Constant time.
     pub fn end_bound(&self) -> Bound<&BitPtr<R, O>>
         ensures { bound_map (λ p. ptr_of p.now) result ≡ Excluded (range_of self.now).end }
     {
@@ -157,7 +159,7 @@ impl<R: BitRegister, O> BitPtrRange<R, O> {
 
     /// Takes the pointer `n` places after the start, and drops those before it.
     ///
-    /// Where there is none it returns `None` and leaves the range empty, at its end.
+    /// Where there is none it returns `None` and leaves the range empty, at its end. Constant time.
     pub fn nth(&mut self, n: usize) -> Option<BitPtr<R, O>>
         ensures end { (range_of self.new).end ≡ (range_of self.old).end }
         ensures item { let before = range_of self.old in
@@ -178,7 +180,8 @@ impl<R: BitRegister, O> BitPtrRange<R, O> {
 
     /// Takes the pointer `n` places before the last, and drops those after it.
     ///
-    /// Where there is none it returns `None` and leaves the range empty, at its start.
+    /// Where there is none it returns `None` and leaves the range empty, at its start. Constant
+    /// time.
     pub fn nth_back(&mut self, n: usize) -> Option<BitPtr<R, O>>
         ensures start { (range_of self.new).start ≡ (range_of self.old).start }
         ensures item { let before = range_of self.old in
@@ -203,7 +206,7 @@ impl<R: BitRegister, O> BitPtr<R, O> {
     ghost use Rattle.bitvec_ptr.specs.BitPtrRange.{range_of};
 
     /// The range of the `count` pointers from this one on, which is asked as for
-    /// [`add`](BitPtr::add).
+    /// [`add`](BitPtr::add). Constant time.
     pub fn range(self, count: usize) -> BitPtrRange<R, O>
         requires count { pos count ≤ℤ isize.MAX }
         requires inside { CanOffset R.BITS (ptr_of self) (pos count) }

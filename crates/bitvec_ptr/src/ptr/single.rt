@@ -75,7 +75,8 @@ impl<R: BitRegister, O> Dangling for BitPtr<R, O> {
 impl<R: BitRegister, O> BitPtr<R, O> {
     ghost use Rattle.bitvec_ptr.specs.BitPtr.{ptr_of};
 
-    /// The pointer to the bit `bit` of the word `word`, which may be any word. Our own.
+    /// The pointer to the bit `bit` of the word `word`, which may be any word. Constant time. Our
+    /// own.
     pub fn new(word: isize, bit: BitIdx<R>) -> Self
         ensures { ptr_of result ≡ record { word = word; bit = bit } }
     {
@@ -108,14 +109,14 @@ impl<R: BitRegister, O> BitPtr<R, O> {
         }
     }
 
-    /// The first bit of a word, taken as a memory of one.
+    /// The first bit of a word, taken as a memory of one. Constant time.
     pub fn from_ref(_word: &R) -> Self
         ensures { ptr_of result ≡ record { word = pos 0; bit = 0 } }
     {
         Self::DANGLING
     }
 
-    /// The same of a word that may be written, which stays as it is.
+    /// The same of a word that may be written, which stays as it is. Constant time.
     pub fn from_mut(word: &mut R) -> Self
         ensures first { ptr_of result ≡ record { word = pos 0; bit = 0 } }
         ensures same { word.new ≡ word.old }
@@ -123,14 +124,14 @@ impl<R: BitRegister, O> BitPtr<R, O> {
         Self::from_ref(word)
     }
 
-    /// The first bit of a memory.
+    /// The first bit of a memory. Constant time.
     pub fn from_slice(_words: &[R]) -> Self
         ensures { ptr_of result ≡ record { word = pos 0; bit = 0 } }
     {
         Self::DANGLING
     }
 
-    /// The same of a memory that may be written, which stays as it is.
+    /// The same of a memory that may be written, which stays as it is. Constant time.
     pub fn from_mut_slice(words: &mut [R]) -> Self
         ensures first { ptr_of result ≡ record { word = pos 0; bit = 0 } }
         ensures same { words.new ≡ words.old }
@@ -138,7 +139,7 @@ impl<R: BitRegister, O> BitPtr<R, O> {
         Self::from_slice(words)
     }
 
-    /// Another name of [`from_mut_slice`](BitPtr::from_mut_slice).
+    /// Another name of [`from_mut_slice`](BitPtr::from_mut_slice). Constant time.
     pub fn from_slice_mut(words: &mut [R]) -> Self
         ensures first { ptr_of result ≡ record { word = pos 0; bit = 0 } }
         ensures same { words.new ≡ words.old }
@@ -146,14 +147,14 @@ impl<R: BitRegister, O> BitPtr<R, O> {
         Self::from_mut_slice(words)
     }
 
-    /// The index of the word.
+    /// The index of the word. Constant time.
     pub fn address(self) -> isize
         ensures { result ≡ (ptr_of self).word }
     {
         self.word
     }
 
-    /// The index of the bit in its word.
+    /// The index of the bit in its word. Constant time.
     pub fn bit(self) -> BitIdx<R>
         ensures value { result ≡ (ptr_of self).bit }
         ensures below { (ptr_of self).bit < R.BITS }
@@ -161,7 +162,7 @@ impl<R: BitRegister, O> BitPtr<R, O> {
         BitIdx::new_unchecked(self.bit)
     }
 
-    /// The index of the word, and that of the bit in it.
+    /// The index of the word, and that of the bit in it. Constant time.
     pub fn raw_parts(self) -> (isize, BitIdx<R>)
         ensures word { result.0 ≡ (ptr_of self).word }
         ensures bit { result.1 ≡ (ptr_of self).bit }
@@ -169,7 +170,7 @@ impl<R: BitRegister, O> BitPtr<R, O> {
         (self.word, self.bit())
     }
 
-    /// Another name of [`raw_parts`](BitPtr::raw_parts).
+    /// Another name of [`raw_parts`](BitPtr::raw_parts). Constant time.
     pub fn to_raw_parts(self) -> (isize, BitIdx<R>)
         ensures word { result.0 ≡ (ptr_of self).word }
         ensures bit { result.1 ≡ (ptr_of self).bit }
@@ -190,7 +191,7 @@ impl<R: BitRegister, O> BitPtr<R, O> {
     /// Whether a step by `count` bits stays in range.
     ///
     /// It does exactly where the bit and `count` have a sum that is an `isize`, and the word on
-    /// which the step ends is one too. Our own.
+    /// which the step ends is one too. Constant time. Our own.
     pub fn can_offset(self, count: isize) -> bool
         ensures { IsTrue result ↔ CanOffset R.BITS (ptr_of self) count }
     {
@@ -202,7 +203,7 @@ impl<R: BitRegister, O> BitPtr<R, O> {
     }
 
     /// The pointer `count` bits on, or back where `count` is negative:
-    /// [`can_offset`](BitPtr::can_offset) is the test.
+    /// [`can_offset`](BitPtr::can_offset) is the test. Constant time.
     pub fn offset(self, count: isize) -> Self
         requires { CanOffset R.BITS (ptr_of self) count }
         ensures { place_of R.BITS (ptr_of result) ≡ place_of R.BITS (ptr_of self) +ℤ count }
@@ -225,7 +226,7 @@ impl<R: BitRegister, O> BitPtr<R, O> {
     }
 
     /// The pointer `count` bits on, where `count` is an `isize` and
-    /// [`can_offset`](BitPtr::can_offset) holds of it.
+    /// [`can_offset`](BitPtr::can_offset) holds of it. Constant time.
     pub fn add(self, count: usize) -> Self
         requires count { pos count ≤ℤ isize.MAX }
         requires inside { CanOffset R.BITS (ptr_of self) (pos count) }
@@ -235,7 +236,7 @@ impl<R: BitRegister, O> BitPtr<R, O> {
     }
 
     /// The pointer `count` bits back, where `count` is an `isize` and
-    /// [`can_offset`](BitPtr::can_offset) holds of its negative.
+    /// [`can_offset`](BitPtr::can_offset) holds of its negative. Constant time.
     pub fn sub(self, count: usize) -> Self
         requires count { pos count ≤ℤ isize.MAX }
         requires inside { CanOffset R.BITS (ptr_of self) (neg_ℤ (pos count)) }
@@ -245,7 +246,7 @@ impl<R: BitRegister, O> BitPtr<R, O> {
     }
 
     /// The pointer `count` bits on, for any `count`: the sum of bit and `count` wraps at the ends
-    /// of `isize`, and so does that of the words.
+    /// of `isize`, and so does that of the words. Constant time.
     pub fn wrapping_offset(self, count: isize) -> Self
         ensures { ptr_of result ≡ wrapped_ptr R.BITS (ptr_of self) count }
     {
@@ -253,7 +254,8 @@ impl<R: BitRegister, O> BitPtr<R, O> {
         Self::new(self.word.wrapping_add(words), bit)
     }
 
-    /// [`wrapping_offset`](BitPtr::wrapping_offset) by `count`, which wraps to an `isize`.
+    /// [`wrapping_offset`](BitPtr::wrapping_offset) by `count`, which wraps to an `isize`. Constant
+    /// time.
     pub fn wrapping_add(self, count: usize) -> Self
         ensures { ptr_of result ≡ wrapped_ptr R.BITS (ptr_of self) (int_wrap w64 (pos count)) }
     {
@@ -264,7 +266,7 @@ impl<R: BitRegister, O> BitPtr<R, O> {
     /// `isize`.
     ///
     /// It undoes [`wrapping_add`](BitPtr::wrapping_add) where the bit and `count` have a sum that
-    /// is an `isize`.
+    /// is an `isize`. Constant time.
     pub fn wrapping_sub(self, count: usize) -> Self
         ensures { ptr_of result ≡ wrapped_ptr R.BITS (ptr_of self)
             (int_wrap w64 (neg_ℤ (pos count))) }
@@ -272,7 +274,7 @@ impl<R: BitRegister, O> BitPtr<R, O> {
         self.wrapping_offset(count.cast_signed().wrapping_neg())
     }
 
-    /// Whether the distance from `origin` is an `isize`. Our own.
+    /// Whether the distance from `origin` is an `isize`. Constant time. Our own.
     pub fn can_offset_from(self, origin: Self) -> bool
         ensures { IsTrue result ↔ FitsSigned w64 (distance R.BITS (ptr_of self) (ptr_of origin)) }
     {
@@ -280,7 +282,7 @@ impl<R: BitRegister, O> BitPtr<R, O> {
     }
 
     /// How many bits this pointer is past `origin`, negative where it is before:
-    /// [`can_offset_from`](BitPtr::can_offset_from) is the test.
+    /// [`can_offset_from`](BitPtr::can_offset_from) is the test. Constant time.
     pub fn offset_from(self, origin: Self) -> isize
         requires { FitsSigned w64 (distance R.BITS (ptr_of self) (ptr_of origin)) }
         ensures { result ≡ distance R.BITS (ptr_of self) (ptr_of origin) }
@@ -288,7 +290,7 @@ impl<R: BitRegister, O> BitPtr<R, O> {
         (self.place() - origin.place()) as isize
     }
 
-    /// Whether the pointer's word is one of `words` words. Our own.
+    /// Whether the pointer's word is one of `words` words. Constant time. Our own.
     pub fn is_in(self, words: usize) -> bool
         ensures { IsTrue result ↔ IsIn (ptr_of self) words }
     {
@@ -304,7 +306,7 @@ impl<R: BitRegister, O> BitPtr<R, O> {
 
     /// Whether the words that `count` bits from this one on meet are among the first `words` of a
     /// memory. For no bits, which meet no word, it is whether the pointer's word is from 0 to
-    /// `words`, so that the place behind the last word is let in. Our own.
+    /// `words`, so that the place behind the last word is let in. Constant time. Our own.
     pub fn run_in(self, words: usize, count: usize) -> bool
         ensures { IsTrue result ↔ RangeIsIn R.BITS (ptr_of self) words count }
     {
@@ -337,6 +339,7 @@ impl<R: BitRegister, O: BitOrder<R>> BitPtr<R, O> {
     ghost use Rattle.bitvec_ptr.specs.BitPtr.{ptr_of, index_at, bits_by};
 
     /// The pointer's bit in a memory that has its word: [`is_in`](BitPtr::is_in) is the test.
+    /// Constant time.
     ///
     /// # Examples
     ///
@@ -355,7 +358,7 @@ impl<R: BitRegister, O: BitOrder<R>> BitPtr<R, O> {
     }
 
     /// Writes the pointer's bit in a memory that has its word, and changes no other bit:
-    /// [`is_in`](BitPtr::is_in) is the test.
+    /// [`is_in`](BitPtr::is_in) is the test. Constant time.
     ///
     /// # Examples
     ///
@@ -376,6 +379,7 @@ impl<R: BitRegister, O: BitOrder<R>> BitPtr<R, O> {
     }
 
     /// Writes the pointer's bit as [`write`](BitPtr::write) does, and returns the bit before.
+    /// Constant time.
     pub fn replace(self, memory: &mut [R], bit: bool) -> bool
         requires { IsIn (ptr_of self) (length memory.old) }
         ensures previous { slice_get (bits_by self O.at_of memory.old) (index_at self)
@@ -390,7 +394,7 @@ impl<R: BitRegister, O: BitOrder<R>> BitPtr<R, O> {
     }
 
     /// Exchanges the pointer's bit in `memory` with the bit of `with` in `other`, and changes no
-    /// other bit: [`is_in`](BitPtr::is_in) is the test of each.
+    /// other bit: [`is_in`](BitPtr::is_in) is the test of each. Constant time.
     pub fn swap<R2: BitRegister, O2: BitOrder<R2>>(
         self,
         memory: &mut [R],
@@ -413,7 +417,8 @@ impl<R: BitRegister, O: BitOrder<R>> BitPtr<R, O> {
     }
 
     /// Exchanges two bits of one memory, and changes no other bit: [`is_in`](BitPtr::is_in) is the
-    /// test of each. Our own, for the Rust crate's `swap` where both pointers are into one memory.
+    /// test of each. Constant time. Our own, for the Rust crate's `swap` where both pointers are
+    /// into one memory.
     pub fn swap_within(self, memory: &mut [R], with: Self)
         requires self_in { IsIn (ptr_of self) (length memory.old) }
         requires with_in { IsIn (ptr_of with) (length memory.old) }

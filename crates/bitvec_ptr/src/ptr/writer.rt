@@ -49,7 +49,8 @@ pub struct WordWriter<'a, R> {
 impl<'a, R: Copy> WordWriter<'a, R> {
     ghost use Rattle.bitvec_ptr.specs.WordWriter.{writer_memory, writer_of};
 
-    /// A writer of a memory's words by rising index. Its mark is 0, before the first word.
+    /// A writer of a memory's words by rising index. Its mark is 0, before the first word. Constant
+    /// time.
     pub fn rising(words: &'a mut [R]) -> Self
         ensures reference { (writer_memory result).ghost_name ≡ words.entry.ghost_name }
         ensures words { (writer_of result).words ≡ words.old }
@@ -66,7 +67,7 @@ impl<'a, R: Copy> WordWriter<'a, R> {
     }
 
     /// A writer of a memory's words by falling index. Its mark is the number of words, after the
-    /// last.
+    /// last. Constant time.
     pub fn falling(words: &'a mut [R]) -> Self
         ensures reference { (writer_memory result).ghost_name ≡ words.entry.ghost_name }
         ensures words { (writer_of result).words ≡ words.old }
@@ -100,14 +101,14 @@ impl<'a, R: Copy> WordWriter<'a, R> {
         }
     }
 
-    /// Whether words are put by rising index.
+    /// Whether words are put by rising index. Constant time.
     pub fn is_rising(&self) -> bool
         ensures { result ≡ (writer_of self.now).rising }
     {
         self.rising
     }
 
-    /// How many words the memory has.
+    /// How many words the memory has. Constant time.
     pub fn len(&self) -> usize
         ensures { result ≡ length (writer_of self.now).words }
     {
@@ -115,7 +116,7 @@ impl<'a, R: Copy> WordWriter<'a, R> {
     }
 
     /// The mark, an edge between two words: that before the word of this index, or, where there is
-    /// no such word, after the last.
+    /// no such word, after the last. Constant time.
     pub fn mark(&self) -> usize
         ensures { result ≡ (writer_of self.now).mark }
     {
@@ -123,7 +124,7 @@ impl<'a, R: Copy> WordWriter<'a, R> {
     }
 
     /// How many words were put, at most as many as there are on the side of the mark that the
-    /// writer comes from.
+    /// writer comes from. Constant time.
     pub fn writes(&self) -> usize
         ensures value { result ≡ (writer_of self.now).writes }
         ensures most { result ≤ length (writer_of self.now).words }
@@ -134,7 +135,7 @@ impl<'a, R: Copy> WordWriter<'a, R> {
         self.writes
     }
 
-    /// Word `k` as it is now. Requires that there is one.
+    /// Word `k` as it is now. Requires that there is one. Constant time.
     pub fn get(&self, k: usize) -> R
         requires { k < length (writer_of self.now).words }
         ensures { slice_get (writer_of self.now).words k ≡ Some result }
@@ -145,7 +146,7 @@ impl<'a, R: Copy> WordWriter<'a, R> {
     /// Puts a word in the place of word `k`, and moves the mark over it.
     ///
     /// Requires that there is a word `k`, and that it is not below the mark of a rising writer, or
-    /// below that of a falling one: so no word is put twice.
+    /// below that of a falling one: so no word is put twice. Constant time.
     pub fn put(&mut self, k: usize, word: R)
         requires inside { k < length (writer_of self.old).words }
         requires rising { (writer_of self.old).rising ≡ true → (writer_of self.old).mark ≤ k }
@@ -167,7 +168,7 @@ impl<'a, R: Copy> WordWriter<'a, R> {
     /// Moves the mark to `k` and puts no word.
     ///
     /// Requires that this is on the writer's way: not below the mark of a rising writer nor past
-    /// the last word, or not above the mark of a falling one.
+    /// the last word, or not above the mark of a falling one. Constant time.
     pub fn skip_to(&mut self, k: usize)
         requires inside { k ≤ length (writer_of self.old).words }
         requires rising { (writer_of self.old).rising ≡ true → (writer_of self.old).mark ≤ k }

@@ -45,6 +45,7 @@ impl<'a, R: BitRegister, O: BitOrder<R>> BitSlice<'a, R, O> {
     ghost use Rattle.bitvec_slice.specs.BitSlice.{slice_memory, slice_span, slice_len, bits_of};
 
     /// The bits of a span in a memory, and `None` exactly where the span does not lie in it.
+    /// Constant time.
     pub fn new(span: BitSpan<R, O>, memory: &'a [R]) -> Option<Self>
         ensures accepted { IsSome result ↔ Fits R.BITS (span_of span) (length memory.now) }
         ensures memory { IfSome result (λ slice. slice_memory slice ≡ memory.now) }
@@ -59,7 +60,7 @@ impl<'a, R: BitRegister, O: BitOrder<R>> BitSlice<'a, R, O> {
         }
     }
 
-    /// How many bits there are.
+    /// How many bits there are. Constant time.
     pub fn len(&self) -> usize
         ensures value { result ≡ slice_len self.now }
         ensures list { result ≡ length (bits_of self.now) }
@@ -67,7 +68,7 @@ impl<'a, R: BitRegister, O: BitOrder<R>> BitSlice<'a, R, O> {
         self.span.len()
     }
 
-    /// Whether there are none.
+    /// Whether there are none. Constant time.
     pub fn is_empty(&self) -> bool
         ensures { IsTrue result ↔ (slice_len self.now ≡ 0) }
     {
@@ -75,6 +76,7 @@ impl<'a, R: BitRegister, O: BitOrder<R>> BitSlice<'a, R, O> {
     }
 
     /// The bit `i` places after the first, and `None` where there are no more than `i` bits.
+    /// Constant time.
     pub fn get(&self, i: usize) -> Option<bool>
         ensures { result ≡ slice_get (bits_of self.now) i }
     {
@@ -86,7 +88,7 @@ impl<'a, R: BitRegister, O: BitOrder<R>> BitSlice<'a, R, O> {
     }
 
     /// The bit `i` places after the first. Requires that there is one: [`len`](BitSlice::len) is
-    /// the test.
+    /// the test. Constant time.
     pub fn get_unchecked(&self, i: usize) -> bool
         requires { i < slice_len self.now }
         ensures { result ≡ element (bits_of self.now) i }
@@ -94,7 +96,7 @@ impl<'a, R: BitRegister, O: BitOrder<R>> BitSlice<'a, R, O> {
         self.span.read(self.memory, i)
     }
 
-    /// The first bit, and `None` where there are no bits.
+    /// The first bit, and `None` where there are no bits. Constant time.
     pub fn first(&self) -> Option<bool>
         ensures { MatchOption result (length (bits_of self.now) ≡ 0)
             (λ bit. (0 < length (bits_of self.now)) × (bit ≡ element (bits_of self.now) 0)) }
@@ -102,7 +104,7 @@ impl<'a, R: BitRegister, O: BitOrder<R>> BitSlice<'a, R, O> {
         self.get(0)
     }
 
-    /// The last bit, and `None` where there are no bits.
+    /// The last bit, and `None` where there are no bits. Constant time.
     pub fn last(&self) -> Option<bool>
         ensures { MatchOption result (length (bits_of self.now) ≡ 0)
             (λ bit. (0 < length (bits_of self.now))

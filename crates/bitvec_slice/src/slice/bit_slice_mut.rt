@@ -79,8 +79,8 @@ impl<'a, R: BitRegister, O: BitOrder<R>> BitSliceMut<'a, R, O> {
         BitSpan::new(self.word(), BitIdx::new_unchecked(self.head), self.len).unwrap()
     }
 
-    /// The bits of a span in a memory. Requires that the span lies in it:
-    /// [`fits`](BitSpan::fits) is the test. Our own.
+    /// The bits of a span in a memory. Requires that the span lies in it: [`fits`](BitSpan::fits)
+    /// is the test. Constant time. Our own.
     pub fn new_unchecked(span: BitSpan<R, O>, memory: &'a mut [R]) -> Self
         requires { Fits R.BITS (span_of span) (length memory.old) }
         ensures reference { (lent_memory result).ghost_name ≡ memory.entry.ghost_name }
@@ -97,7 +97,7 @@ impl<'a, R: BitRegister, O: BitOrder<R>> BitSliceMut<'a, R, O> {
     }
 
     /// The bits of a span in a memory. It refuses exactly where the span does not lie in it, and
-    /// then gives the memory back as it was.
+    /// then gives the memory back as it was. Constant time.
     pub fn new(span: BitSpan<R, O>, memory: &'a mut [R]) -> Result<Self, &'a mut [R]>
         ensures accepted { IsOk result ↔ Fits R.BITS (span_of span) (length memory.old) }
         ensures reference { IfOk result (λ slice. (lent_memory slice).ghost_name
@@ -116,7 +116,7 @@ impl<'a, R: BitRegister, O: BitOrder<R>> BitSliceMut<'a, R, O> {
         }
     }
 
-    /// Its bits, for reading.
+    /// Its bits, for reading. Constant time.
     pub fn as_bitslice(&self) -> BitSlice<'_, R, O>
         ensures memory { slice_memory result ≡ (lent_memory self.now).now }
         ensures span { slice_span result ≡ lent_span self.now }
@@ -128,7 +128,7 @@ impl<'a, R: BitRegister, O: BitOrder<R>> BitSliceMut<'a, R, O> {
         }
     }
 
-    /// How many bits there are.
+    /// How many bits there are. Constant time.
     pub fn len(&self) -> usize
         ensures value { result ≡ lent_len self.now }
         ensures list { result ≡ length (lent_bits self.now) }
@@ -136,7 +136,7 @@ impl<'a, R: BitRegister, O: BitOrder<R>> BitSliceMut<'a, R, O> {
         self.len
     }
 
-    /// Whether there are none.
+    /// Whether there are none. Constant time.
     pub fn is_empty(&self) -> bool
         ensures { IsTrue result ↔ (lent_len self.now ≡ 0) }
     {
@@ -144,6 +144,7 @@ impl<'a, R: BitRegister, O: BitOrder<R>> BitSliceMut<'a, R, O> {
     }
 
     /// The bit `i` places after the first, and `None` where there are no more than `i` bits.
+    /// Constant time.
     pub fn get(&self, i: usize) -> Option<bool>
         ensures { result ≡ slice_get (lent_bits self.now) i }
     {
@@ -151,7 +152,7 @@ impl<'a, R: BitRegister, O: BitOrder<R>> BitSliceMut<'a, R, O> {
     }
 
     /// The bit `i` places after the first. Requires that there is one: [`len`](BitSliceMut::len) is
-    /// the test.
+    /// the test. Constant time.
     pub fn get_unchecked(&self, i: usize) -> bool
         requires { i < lent_len self.now }
         ensures { result ≡ element (lent_bits self.now) i }
@@ -160,7 +161,7 @@ impl<'a, R: BitRegister, O: BitOrder<R>> BitSliceMut<'a, R, O> {
     }
 
     /// Writes the bit `i` places after the first. Requires that there is one:
-    /// [`len`](BitSliceMut::len) is the test.
+    /// [`len`](BitSliceMut::len) is the test. Constant time.
     pub fn set(&mut self, i: usize, bit: bool)
         requires { i < lent_len self.old }
         ensures { BecomesBits self.old self.new (slice_set (lent_bits self.old) i bit) }

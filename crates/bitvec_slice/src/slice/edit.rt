@@ -17,7 +17,7 @@ impl<'a, R: BitRegister, O: BitOrder<R>> BitSliceMut<'a, R, O> {
     ghost use Rattle.bitvec_slice.specs.BitSliceMut.{lent_len, lent_bits, BecomesBits};
 
     /// Writes the bit `i` places after the first, and returns the bit that was there. Requires that
-    /// there is one: [`len`](BitSliceMut::len) is the test.
+    /// there is one: [`len`](BitSliceMut::len) is the test. Constant time.
     pub fn replace(&mut self, i: usize, bit: bool) -> bool
         requires { i < lent_len self.old }
         ensures previous { result ≡ element (lent_bits self.old) i }
@@ -51,6 +51,7 @@ impl<'a, R: BitRegister, O: BitOrder<R>> BitSliceMut<'a, R, O> {
     }
 
     /// Exchanges the bits `i` and `j` places after the first. Requires that there are both.
+    /// Constant time.
     pub fn swap(&mut self, i: usize, j: usize)
         requires first { i < lent_len self.old }
         requires second { j < lent_len self.old }
@@ -138,7 +139,8 @@ impl<'a, R: BitRegister, O: BitOrder<R>> BitSliceMut<'a, R, O> {
         rotate_bits(span, memory, by);
     }
 
-    /// Puts the last `by` bits before the others. Requires that `by` is at most the length.
+    /// Puts the last `by` bits before the others. Requires that `by` is at most the length. It
+    /// costs as much as [`rotate_left`](BitSliceMut::rotate_left).
     pub fn rotate_right(&mut self, by: usize)
         requires { by ≤ lent_len self.old }
         ensures { let xs = lent_bits self.old

@@ -29,7 +29,7 @@ impl<'a, R: BitRegister, O: BitOrder<R>> BitSlice<'a, R, O> {
         self.span.part(self.memory, k).load_value().count_ones() as usize
     }
 
-    /// How many bits are one.
+    /// How many bits are one. Costs by words.
     pub fn count_ones(&self) -> usize
         ensures { result ≡ ones_in (bits_of self.now) }
     {
@@ -49,7 +49,7 @@ impl<'a, R: BitRegister, O: BitOrder<R>> BitSlice<'a, R, O> {
         total + self.ones_in_word(met - 1)
     }
 
-    /// How many bits are zero.
+    /// How many bits are zero. Costs by words.
     pub fn count_zeros(&self) -> usize
         ensures { result ≡ zeros_in (bits_of self.now) }
     {
@@ -290,21 +290,24 @@ impl<'a, R: BitRegister, O: BitOrder<R>> BitSlice<'a, R, O> {
         self.last_between(0, self.len(), false)
     }
 
-    /// How many bits are zero before the first that is one; all, where none is.
+    /// How many bits are zero before the first that is one; all, where none is. Costs as
+    /// [`first_one`](BitSlice::first_one) does.
     pub fn leading_zeros(&self) -> usize
         ensures { BeginsWith false (bits_of self.now) result }
     {
         self.first_one().unwrap_or(self.len())
     }
 
-    /// How many bits are one before the first that is zero; all, where none is.
+    /// How many bits are one before the first that is zero; all, where none is. Costs as
+    /// [`first_zero`](BitSlice::first_zero) does.
     pub fn leading_ones(&self) -> usize
         ensures { BeginsWith true (bits_of self.now) result }
     {
         self.first_zero().unwrap_or(self.len())
     }
 
-    /// How many bits are zero behind the last that is one; all, where none is.
+    /// How many bits are zero behind the last that is one; all, where none is. Costs as
+    /// [`last_one`](BitSlice::last_one) does.
     pub fn trailing_zeros(&self) -> usize
         ensures { EndsWith false (bits_of self.now) result }
     {
@@ -314,7 +317,8 @@ impl<'a, R: BitRegister, O: BitOrder<R>> BitSlice<'a, R, O> {
         }
     }
 
-    /// How many bits are one behind the last that is zero; all, where none is.
+    /// How many bits are one behind the last that is zero; all, where none is. Costs as
+    /// [`last_zero`](BitSlice::last_zero) does.
     pub fn trailing_ones(&self) -> usize
         ensures { EndsWith true (bits_of self.now) result }
     {
@@ -324,28 +328,28 @@ impl<'a, R: BitRegister, O: BitOrder<R>> BitSlice<'a, R, O> {
         }
     }
 
-    /// Whether some bit is one.
+    /// Whether some bit is one. Costs as [`first_one`](BitSlice::first_one) does.
     pub fn any(&self) -> bool
         ensures { (result ≡ false) ↔ AllAre false (bits_of self.now) }
     {
         self.first_one().is_some()
     }
 
-    /// Whether no bit is one.
+    /// Whether no bit is one. Costs as [`first_one`](BitSlice::first_one) does.
     pub fn not_any(&self) -> bool
         ensures { IsTrue result ↔ AllAre false (bits_of self.now) }
     {
         self.first_one().is_none()
     }
 
-    /// Whether every bit is one.
+    /// Whether every bit is one. Costs as [`first_zero`](BitSlice::first_zero) does.
     pub fn all_ones(&self) -> bool
         ensures { IsTrue result ↔ AllAre true (bits_of self.now) }
     {
         self.first_zero().is_none()
     }
 
-    /// Whether some bit is zero.
+    /// Whether some bit is zero. Costs as [`first_zero`](BitSlice::first_zero) does.
     pub fn not_all(&self) -> bool
         ensures { (result ≡ false) ↔ AllAre true (bits_of self.now) }
     {

@@ -53,7 +53,7 @@ impl<'a, R: BitRegister, O: BitOrder<R>> Iter<'a, R, O> {
     ghost use Rattle.bitvec_slice.specs.BitSlice.{slice_memory, slice_span, bits_of};
     ghost use Rattle.bitvec_slice.specs.Iter.{rest_memory, rest_span, rest_of};
 
-    /// The bits that are still to come, where they lie.
+    /// The bits that are still to come, where they lie. Constant time.
     pub fn as_bitslice(&self) -> BitSlice<'a, R, O>
         ensures memory { slice_memory result ≡ rest_memory self.now }
         ensures span { slice_span result ≡ rest_span self.now }
@@ -142,7 +142,8 @@ impl<'a, R: BitRegister, O: BitOrder<R>> BitSlice<'a, R, O> {
     ghost use Rattle.bitvec_slice.specs.Iter.{rest_memory, rest_span, rest_of};
     ghost use Rattle.bitvec_slice.specs.Iter.{GivesBitsInOrder, GivesBitsInReverse};
 
-    /// Its bits as truth values, in order or from the back.
+    /// Its bits as truth values, in order or from the back. Constant time, and so is each call of
+    /// `next`.
     pub fn iter(&self) -> Iter<'a, R, O>
         // All the bits are still to come, where they lie.
         ensures rest { rest_of result ≡ bits_of self.now }

@@ -12,6 +12,7 @@ impl<'a, R: BitRegister, O: BitOrder<R>> BitSlice<'a, R, O> {
     ghost use Rattle.bitvec_slice.specs.BitSlice.{slice_memory, slice_span, slice_len, bits_of};
 
     /// The first `mid` bits, and those behind them. Requires that `mid` is at most the length.
+    /// Constant time.
     pub fn split_at(&self, mid: usize) -> (Self, Self)
         requires { mid ≤ slice_len self.now }
         ensures front_len { slice_len result.0 ≡ mid }
@@ -40,7 +41,7 @@ impl<'a, R: BitRegister, O: BitOrder<R>> BitSlice<'a, R, O> {
     }
 
     /// The bits from number `from` to before number `to`, and `None` exactly where these are not in
-    /// order or `to` passes the length.
+    /// order or `to` passes the length. Constant time.
     pub fn get_range(&self, from: usize, to: usize) -> Option<Self>
         ensures accepted { IsSome result ↔ ((from ≤ to) × (to ≤ length (bits_of self.now))) }
         ensures bits { IfSome result (λ part. bits_of part

@@ -31,7 +31,7 @@ impl<'a, R: BitRegister, O: BitOrder<R>> BitSlice<'a, R, O> {
     /// Every bit of a memory.
     ///
     /// It refuses with `TooLong` of the number of bits, or of `usize::MAX` where that is passed, a
-    /// memory of more than 2305843009213693951 bits.
+    /// memory of more than 2305843009213693951 bits. Constant time.
     pub fn all(memory: &'a [R]) -> Result<Self, BitSpanError<R>>
         ensures accepted { IsOk result ↔ (length memory.now * R.BITS ≤ region_max_bits) }
         ensures refused { let bits = length memory.now * R.BITS
@@ -51,7 +51,8 @@ impl<'a, R: BitRegister, O: BitOrder<R>> BitSlice<'a, R, O> {
 impl<'a, R: BitRegister, O: BitOrder<R>> BitSliceMut<'a, R, O> {
     ghost use Rattle.bitvec_slice.specs.BitSliceMut.{lent_memory, lent_span, lent_bits};
 
-    /// Every bit of a memory. Requires that there are at most 2305843009213693951. Our own.
+    /// Every bit of a memory. Requires that there are at most 2305843009213693951. Constant time.
+    /// Our own.
     pub fn all_unchecked(memory: &'a mut [R]) -> Self
         requires { length memory.old * R.BITS ≤ region_max_bits }
         ensures reference { (lent_memory result).ghost_name ≡ memory.entry.ghost_name }
@@ -66,7 +67,7 @@ impl<'a, R: BitRegister, O: BitOrder<R>> BitSliceMut<'a, R, O> {
     /// Every bit of a memory.
     ///
     /// It refuses as [`all`](BitSlice::all) of a [`BitSlice`] does, and then gives the memory back
-    /// as it was.
+    /// as it was. Constant time.
     pub fn all(memory: &'a mut [R]) -> Result<Self, (BitSpanError<R>, &'a mut [R])>
         ensures accepted { IsOk result ↔ (length memory.old * R.BITS ≤ region_max_bits) }
         ensures refused { let bits = length memory.old * R.BITS
