@@ -1,5 +1,5 @@
 //! The same jobs as those of this program's `time`, each by the best loop that a person would write in
-//! plain Rust, for `rustc -O`. It prints in the same form: a name and nanoseconds.
+//! plain Rust, for `rustc -O -C target-cpu=x86-64-v2`. It prints a name and nanoseconds for each.
 
 use std::hint::black_box;
 use std::time::{Duration, Instant};
@@ -446,6 +446,30 @@ fn spans(count: usize) -> Vec<Span> {
     (0..count).map(|i| Span { word: (i * 10 / 64) as isize, head: (i * 10 % 64) as u8, len: 10 }).collect()
 }
 
+/// Whether spans in no order fit and are apart: their numbers are sorted by place in the room, and then one pass.
+#[inline(never)]
+fn can_run_in(spans: &[Span], words: usize, room: &mut [usize]) -> bool {
+    for (i, number) in room.iter_mut().enumerate() {
+        *number = i;
+    }
+    room.sort_unstable_by_key(|i| spans[*i].places().0);
+    let mut last = isize::MIN;
+    for number in room.iter() {
+        let span = spans[*number];
+        if span.word < 0 || span.elements() > words || span.word as usize > words - span.elements() {
+            return false;
+        }
+        let (start, end) = span.places();
+        if span.len > 0 {
+            if start < last {
+                return false;
+            }
+            last = end;
+        }
+    }
+    true
+}
+
 fn time_runs(memory: &mut [u64]) {
     let few = spans(SPANS);
     let many = spans(2 * SPANS);
@@ -463,6 +487,17 @@ fn time_runs(memory: &mut [u64]) {
     });
     time("can-run-4000", 2 * SPANS, || {
         black_box(can_run(black_box(&many), WORDS));
+    });
+    let mut room = vec![0; 8 * SPANS];
+    let mut falling = spans(8 * SPANS);
+    falling.reverse();
+    time("can-run-falling", 8 * SPANS, || {
+        assert!(can_run_in(black_box(&falling), WORDS, black_box(&mut room)));
+    });
+    let rising = spans(8 * SPANS);
+    let shuffled: Vec<Span> = (0..8 * SPANS).map(|n| rising[n * 7919 % (8 * SPANS)]).collect();
+    time("can-run-shuffled", 8 * SPANS, || {
+        assert!(can_run_in(black_box(&shuffled), WORDS, black_box(&mut room)));
     });
 }
 
@@ -502,50 +537,385 @@ fn time_domains(source: &[u64], target: &mut [u64]) {
 
 // ---- slices
 
+/// All bits but three at the start and four at the end, as masks of the first word and of the last.
+fn edges<const RISING: bool>() -> (u64, u64) {
+    (mask::<RISING>(3, 61), mask::<RISING>(0, 60))
+}
+
+/// Digits that are bits of the slice: word `k` of so many, under its mask.
+#[inline(always)]
+fn inside<const RISING: bool>(word: u64, k: usize, count: usize) -> u64 {
+    let (first, last) = edges::<RISING>();
+    let word = if k == 0 { word & first } else { word };
+    if k + 1 == count { word & last } else { word }
+}
+
+/// The index in its word of the first bit that is one, and of the last.
+#[inline(always)]
+fn first_bit<const RISING: bool>(word: u64) -> usize {
+    (if RISING { word.trailing_zeros() } else { word.leading_zeros() }) as usize
+}
+
+#[inline(always)]
+fn last_bit<const RISING: bool>(word: u64) -> usize {
+    63 - (if RISING { word.leading_zeros() } else { word.trailing_zeros() }) as usize
+}
+
 /// How many bits are one, but for three at the start and four at the end.
 #[inline(never)]
-fn count_ones(words: &[u64]) -> usize {
+fn count_ones<const RISING: bool>(words: &[u64]) -> usize {
+    let (head, tail) = edges::<RISING>();
     let [first, body @ .., last] = words else { return 0 };
-    let ends = (first & (!0 << 3)).count_ones() + (last & (!0 >> 4)).count_ones();
+    let ends = (first & head).count_ones() + (last & tail).count_ones();
     body.iter().map(|word| word.count_ones() as usize).sum::<usize>() + ends as usize
 }
 
 /// The place of the first of those bits that is one, from the first of them on.
 #[inline(never)]
-fn first_one(words: &[u64]) -> Option<usize> {
+fn first_one<const RISING: bool>(words: &[u64]) -> Option<usize> {
+    let (head, tail) = edges::<RISING>();
     let [first, body @ .., last] = words else { return None };
-    let place = |k: usize, word: u64| k * 64 + word.trailing_zeros() as usize - 3;
-    let head = first & (!0 << 3);
-    if head != 0 {
-        return Some(place(0, head));
+    let place = |k: usize, word: u64| k * 64 + first_bit::<RISING>(word) - 3;
+    let first = first & head;
+    if first != 0 {
+        return Some(place(0, first));
     }
     if let Some(k) = body.iter().position(|word| *word != 0) {
         return Some(place(k + 1, body[k]));
     }
-    let tail = last & (!0 >> 4);
-    (tail != 0).then(|| place(body.len() + 1, tail))
+    let last = last & tail;
+    (last != 0).then(|| place(body.len() + 1, last))
+}
+
+/// The same of the last.
+#[inline(never)]
+fn last_one<const RISING: bool>(words: &[u64]) -> Option<usize> {
+    let (head, tail) = edges::<RISING>();
+    let [first, body @ .., last] = words else { return None };
+    let place = |k: usize, word: u64| k * 64 + last_bit::<RISING>(word) - 3;
+    let last = last & tail;
+    if last != 0 {
+        return Some(place(body.len() + 1, last));
+    }
+    if let Some(k) = body.iter().rposition(|word| *word != 0) {
+        return Some(place(k + 1, body[k]));
+    }
+    let first = first & head;
+    (first != 0).then(|| place(0, first))
+}
+
+/// The sum of the indices of those bits that are one.
+#[inline(never)]
+fn sum_of_ones<const RISING: bool>(words: &[u64]) -> usize {
+    let mut sum: usize = 0;
+    for (k, word) in words.iter().enumerate() {
+        let mut word = inside::<RISING>(*word, k, words.len());
+        while word != 0 {
+            let i = first_bit::<RISING>(word);
+            sum = sum.wrapping_add(k * 64 + i - 3);
+            word &= if RISING { word - 1 } else { !(1 << (63 - i)) };
+        }
+    }
+    sum
+}
+
+/// How many of those bits are one, each asked for in turn.
+#[inline(never)]
+fn count_in_turn<const RISING: bool>(words: &[u64]) -> usize {
+    let mut count = 0;
+    for place in 3..words.len() * 64 - 4 {
+        let position = if RISING { place % 64 } else { 63 - place % 64 };
+        count += (words[place / 64] >> position & 1) as usize;
+    }
+    count
+}
+
+/// The first of `wanted` zeros in a row, at most 64: runs within a word by shifts, and across its edge by the zeros that
+/// the word before ends with.
+#[inline(never)]
+fn find_zeros<const RISING: bool>(words: &[u64], wanted: usize) -> Option<usize> {
+    let mut before = 0;
+    for (k, word) in words.iter().enumerate() {
+        let free = inside::<RISING>(!*word, k, words.len());
+        let low = first_bit::<RISING>(!free).min(64);
+        if before + low >= wanted {
+            return Some(k * 64 - before - 3);
+        }
+        let (mut run, mut have) = (free, 1);
+        while have < wanted && run != 0 {
+            let by = have.min(wanted - have);
+            run &= if RISING { run >> by } else { run << by };
+            have += by;
+        }
+        if run != 0 {
+            return Some(k * 64 + first_bit::<RISING>(run) - 3);
+        }
+        before = if free == !0 { before + 64 } else { 63 - last_bit::<RISING>(!free) };
+    }
+    None
 }
 
 /// Whether those bits of two memories are the same.
 #[inline(never)]
-fn equal(words: &[u64], others: &[u64]) -> bool {
+fn equal<const RISING: bool>(words: &[u64], others: &[u64]) -> bool {
+    let (head, tail) = edges::<RISING>();
     let ([first, body @ .., last], [a, middle @ .., b]) = (words, others) else { return false };
-    (first ^ a) & (!0 << 3) == 0 && body == middle && (last ^ b) & (!0 >> 4) == 0
+    (first ^ a) & head == 0 && body == middle && (last ^ b) & tail == 0
 }
 
-fn time_slices(source: &[u64]) {
-    let mut one_bit = vec![0; WORDS];
-    one_bit[WORDS - 1] = 1 << 59;
+/// Whether `count` bits from place 3 on are those of another memory from place 14 on: whole words of the other between
+/// its edges, 64 of them a test.
+#[inline(never)]
+fn equal_shifted<const RISING: bool>(words: &[u64], others: &[u64], count: usize) -> bool {
+    let lead = 64 - 14;
+    let word = word_at::<RISING>(words, 3, 14, lead);
+    if (word ^ others[0]) & mask::<RISING>(14, lead) != 0 {
+        return false;
+    }
+    let whole = (count - lead) / 64;
+    let (down, up) = shifts::<RISING>((3 + lead) % 64);
+    let first = (3 + lead) / 64;
+    for (block, other) in (0..whole).step_by(64).zip(others[1..1 + whole].chunks(64)) {
+        let here = &words[first + block..][..other.len() + 1];
+        let differences = (0..other.len()).fold(0, |sum, i| sum | (joined::<RISING>(here[i], here[i + 1], down, up) ^ other[i]));
+        if differences != 0 {
+            return false;
+        }
+    }
+    let done = lead + whole * 64;
+    done == count || (word_at::<RISING>(words, 3 + done, 0, count - done) ^ others[1 + whole]) & mask::<RISING>(0, count - done) == 0
+}
+
+fn one_bit(at: usize) -> Vec<u64> {
+    let mut words = vec![0; WORDS];
+    words[at] = 1 << 31;
+    words
+}
+
+fn sparse(n: usize) -> Vec<u64> {
+    (0..WORDS).map(|k| if n == 0 || k % n == n / 2 { 1 << (k % 61) } else { 0 }).collect()
+}
+
+fn crowded(ones: u64) -> Vec<u64> {
+    let mut words = words();
+    for word in words.iter_mut() {
+        *word = (*word & *word >> 7 & *word >> 13) | ones;
+    }
+    words[WORDS - 2..].fill(0);
+    words
+}
+
+fn time_reads<const RISING: bool>(order: &str, source: &[u64]) {
+    let name = |job: &str| format!("{job}-{order}");
+    time(&name("count-ones"), WORDS, || {
+        black_box(count_ones::<RISING>(black_box(source)));
+    });
+    time(&name("ones-half"), WORDS, || {
+        black_box(sum_of_ones::<RISING>(black_box(source)));
+    });
+    time(&name("iter-bits"), WORDS, || {
+        black_box(count_in_turn::<RISING>(black_box(source)));
+    });
     let copy = source.to_vec();
-    time("count-ones", WORDS, || {
-        black_box(count_ones(black_box(source)));
+    time(&name("equal"), WORDS, || {
+        black_box(equal::<RISING>(black_box(source), black_box(&copy)));
     });
-    time("first-one", WORDS, || {
-        black_box(first_one(black_box(&one_bit)));
+    let mut moved = vec![0; WORDS];
+    let count = (WORDS - 1) * 64;
+    copy_plain::<RISING>(source, 3, &mut moved, 14, count);
+    time(&name("equal-shifted"), WORDS, || {
+        assert!(equal_shifted::<RISING>(black_box(source), black_box(&moved), count));
     });
-    time("equal", WORDS, || {
-        black_box(equal(black_box(source), black_box(&copy)));
+    let memory = one_bit(WORDS - 1);
+    time(&name("first-one"), WORDS, || {
+        black_box(first_one::<RISING>(black_box(&memory)));
     });
+    let memory = one_bit(0);
+    time(&name("last-one"), WORDS, || {
+        black_box(last_one::<RISING>(black_box(&memory)));
+    });
+    for (job, n) in [("ones-64th", 0), ("ones-4096th", 64)] {
+        let memory = sparse(n);
+        time(&name(job), WORDS, || {
+            black_box(sum_of_ones::<RISING>(black_box(&memory)));
+        });
+    }
+    for (job, ones, wanted) in [("find-zeros-8", 0x0101_0101_0101_0101, 8), ("find-zeros-64", 1 << 31, 64)] {
+        let memory = crowded(ones);
+        time(&name(job), WORDS, || {
+            black_box(find_zeros::<RISING>(black_box(&memory), black_box(wanted)));
+        });
+    }
+}
+
+// ---- edits
+
+/// Puts `count` bits from a place on in the opposite order: words exchanged and turned, shifted into their place, and the
+/// bits beside them put back.
+#[inline(never)]
+fn reverse<const RISING: bool>(memory: &mut [u64], place: usize, count: usize) {
+    if count == 0 {
+        return;
+    }
+    let head = place % 64;
+    let n = (head + count - 1) / 64 + 1;
+    let words = &mut memory[place / 64..][..n];
+    let (first, last) = (words[0], words[n - 1]);
+    let (mut i, mut j) = (0, n - 1);
+    while i < j {
+        (words[i], words[j]) = (words[j].reverse_bits(), words[i].reverse_bits());
+        i += 1;
+        j -= 1;
+    }
+    if i == j {
+        words[i] = words[i].reverse_bits();
+    }
+    let tail = (head + count - 1) % 64 + 1;
+    let at = 64 - tail;
+    if at > head {
+        let (down, up) = shifts::<RISING>(at - head);
+        for i in 0..n - 1 {
+            words[i] = joined::<RISING>(words[i], words[i + 1], down, up);
+        }
+        words[n - 1] = if RISING { words[n - 1] >> (at - head) } else { words[n - 1] << (at - head) };
+    } else if at < head {
+        let (down, up) = shifts::<RISING>(64 - (head - at));
+        for i in (1..n).rev() {
+            words[i] = joined::<RISING>(words[i - 1], words[i], down, up);
+        }
+        words[0] = if RISING { words[0] << (head - at) } else { words[0] >> (head - at) };
+    }
+    let before = mask::<RISING>(0, head);
+    words[0] = words[0] & !before | first & before;
+    let behind = mask::<RISING>(0, tail);
+    words[n - 1] = words[n - 1] & behind | last & !behind;
+}
+
+fn time_edits<const RISING: bool>(order: &str, memory: &mut [u64]) {
+    let count = WORDS * 64 - 7;
+    time(&format!("reverse-{order}"), WORDS, || reverse::<RISING>(black_box(memory), 3, count));
+    time(&format!("rotate-left-{order}"), WORDS, || {
+        let memory = black_box(&mut *memory);
+        reverse::<RISING>(memory, 3, 1000);
+        reverse::<RISING>(memory, 1003, count - 1000);
+        reverse::<RISING>(memory, 3, count);
+    });
+}
+
+// ---- fields, bits and short copies
+
+/// The number of 13 bits from a place on: their digits as they stand, and 0 where they pass the end.
+#[inline(always)]
+fn load_field<const RISING: bool>(words: &[u64], place: usize) -> u64 {
+    if place + 13 > words.len() * 64 {
+        return 0;
+    }
+    let (k, bit) = (place / 64, place % 64);
+    let room = 64 - bit;
+    let both = if RISING {
+        let low = words[k] >> bit;
+        if room < 13 { low | words[k + 1] << room } else { low }
+    } else if room < 13 {
+        words[k] << (13 - room) | words[k + 1] >> (64 - (13 - room))
+    } else {
+        words[k] >> (room - 13)
+    };
+    both & 0x1FFF
+}
+
+#[inline(always)]
+fn store_field<const RISING: bool>(words: &mut [u64], place: usize, value: u64) {
+    if place + 13 > words.len() * 64 {
+        return;
+    }
+    let (k, bit) = (place / 64, place % 64);
+    let room = 64 - bit;
+    let value = value & 0x1FFF;
+    if room >= 13 {
+        let up = if RISING { bit } else { room - 13 };
+        words[k] = words[k] & !(0x1FFF << up) | value << up;
+    } else if RISING {
+        words[k] = words[k] & !(!0 << bit) | value << bit;
+        words[k + 1] = words[k + 1] & (!0 << (13 - room)) | value >> room;
+    } else {
+        let low = 13 - room;
+        words[k] = words[k] & (!0 << room) | value >> low;
+        words[k + 1] = words[k + 1] & (!0 >> low) | value << (64 - low);
+    }
+}
+
+#[inline(never)]
+fn load_all<const RISING: bool>(words: &[u64], places: &[usize]) -> u64 {
+    places.iter().fold(0, |sum: u64, place| sum.wrapping_add(load_field::<RISING>(words, *place)))
+}
+
+#[inline(never)]
+fn store_all<const RISING: bool>(words: &mut [u64], places: &[usize]) {
+    for place in places {
+        store_field::<RISING>(words, *place, *place as u64);
+    }
+}
+
+#[inline(always)]
+fn position<const RISING: bool>(place: usize) -> usize {
+    if RISING { place % 64 } else { 63 - place % 64 }
+}
+
+#[inline(never)]
+fn get_all<const RISING: bool>(words: &[u64], places: &[usize]) -> u64 {
+    let bit = |place: usize| words.get(place / 64).map_or(0, |word| word >> position::<RISING>(place) & 1);
+    places.iter().fold(0, |sum: u64, place| sum.wrapping_add(bit(*place)))
+}
+
+#[inline(never)]
+fn set_all<const RISING: bool>(words: &mut [u64], places: &[usize]) {
+    for place in places {
+        if let Some(word) = words.get_mut(place / 64) {
+            let position = position::<RISING>(*place);
+            *word = *word & !(1 << position) | ((place % 3 == 0) as u64) << position;
+        }
+    }
+}
+
+#[inline(never)]
+fn copy_all<const RISING: bool>(source: &[u64], words: &mut [u64], places: &[usize]) {
+    for place in places {
+        let count = (place ^ place >> 7) % 64 + 1;
+        let from = place ^ 0x2A5;
+        if from + count <= source.len() * 64 && place + count <= words.len() * 64 {
+            let bit = place % 64;
+            let part = (64 - bit).min(count);
+            put::<RISING>(&mut words[place / 64], word_at::<RISING>(source, from, bit, part), bit, part);
+            if part < count {
+                let rest = count - part;
+                put::<RISING>(&mut words[place / 64 + 1], word_at::<RISING>(source, from + part, 0, rest), 0, rest);
+            }
+        }
+    }
+}
+
+fn time_places<const RISING: bool>(order: &str) {
+    let random = || {
+        let mut word = 1u64;
+        (0..2 * WORDS + 17).map(move |_| {
+            word = word.wrapping_mul(6364136223846793005).wrapping_add(1442695040888963407);
+            word
+        })
+    };
+    let source: Vec<u64> = random().collect();
+    let mut memory: Vec<u64> = random().take(2 * WORDS).collect();
+    let fields: Vec<usize> = (0..WORDS).map(|n| n * 13).collect();
+    let places: Vec<usize> = random().take(WORDS).map(|word| (word >> 20) as usize % (WORDS * 128 - 1024)).collect();
+    let name = |job: &str| format!("{job}-{order}");
+    time(&name("load-13"), WORDS, || {
+        black_box(load_all::<RISING>(black_box(&memory), black_box(&fields)));
+    });
+    time(&name("store-13"), WORDS, || store_all::<RISING>(black_box(&mut memory), black_box(&fields)));
+    time(&name("get-random"), WORDS, || {
+        black_box(get_all::<RISING>(black_box(&memory), black_box(&places)));
+    });
+    time(&name("set-random"), WORDS, || set_all::<RISING>(black_box(&mut memory), black_box(&places)));
+    time(&name("copy-short"), WORDS, || copy_all::<RISING>(black_box(&source), black_box(&mut memory), black_box(&places)));
 }
 
 fn main() {
@@ -556,5 +926,10 @@ fn main() {
     time_other_copies(&source, &mut target);
     time_runs(&mut target);
     time_domains(&source, &mut target);
-    time_slices(&source);
+    time_reads::<true>("lsb0", &source);
+    time_reads::<false>("msb0", &source);
+    time_edits::<true>("lsb0", &mut target);
+    time_edits::<false>("msb0", &mut target);
+    time_places::<true>("lsb0");
+    time_places::<false>("msb0");
 }

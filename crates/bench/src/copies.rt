@@ -112,7 +112,7 @@ fn copy_across<
         to,
         count,
     };
-    if mode == Mode::Time {
+    if let Mode::Time(_) = mode {
         return time(rt, name, units, &mut job);
     }
     job.go();
@@ -141,7 +141,7 @@ fn copy_within<O: BitOrder<u64> + Formula>(
         to,
         count,
     };
-    if mode == Mode::Time {
+    if let Mode::Time(_) = mode {
         return time(rt, name, units(count), &mut job);
     }
     job.go();
@@ -170,19 +170,26 @@ fn one_order<O: BitOrder<u64> + Formula>(
     let name = Name {
         group,
         kind: "aligned",
+        unit: "word",
     };
     copy_across::<u64, O, u64, O>(rt, mode, name, source, ends(FRONT, FRONT), units)?;
     let name = Name {
         group,
         kind: "shifted",
+        unit: "word",
     };
     copy_across::<u64, O, u64, O>(rt, mode, name, source, ends(LOW, NEAR), units)?;
     let name = Name {
         group,
         kind: "down",
+        unit: "word",
     };
     copy_within::<O>(rt, mode, name, ends(HIGH, LOW))?;
-    let name = Name { group, kind: "up" };
+    let name = Name {
+        group,
+        kind: "up",
+        unit: "word",
+    };
     copy_within::<O>(rt, mode, name, ends(LOW, HIGH))
 }
 
@@ -195,12 +202,14 @@ pub fn copies(rt: HostRuntime, mode: Mode) -> io::Result<()> {
     let name = Name {
         group: "copy-lsb0-",
         kind: "shifted-200-bits",
+        unit: "copy",
     };
     let count = 200;
     copy_across::<u64, Lsb0, u64, Lsb0>(rt, mode, name, &source, Ends { from, to, count }, 1)?;
     let name = Name {
         group: "copy-u8-",
         kind: "u64",
+        unit: "word",
     };
     let count = (mode.words() - 4) * 8;
     let bytes = bytes(rt, mode.words())?;
@@ -216,6 +225,7 @@ pub fn copies(rt: HostRuntime, mode: Mode) -> io::Result<()> {
     let name = Name {
         group: "copy-lsb0-",
         kind: "msb0",
+        unit: "word",
     };
     copy_across::<u64, Lsb0, u64, Msb0>(
         rt,
@@ -228,6 +238,7 @@ pub fn copies(rt: HostRuntime, mode: Mode) -> io::Result<()> {
     let name = Name {
         group: "copy-hilo-",
         kind: "shifted",
+        unit: "word",
     };
     copy_across::<u64, HiLo, u64, HiLo>(
         rt,
@@ -251,13 +262,19 @@ fn wide_copies(rt: HostRuntime, mode: Mode, source: &[u64]) -> io::Result<()> {
     let name = Name {
         group,
         kind: "shifted",
+        unit: "word",
     };
     copy_across::<u128, Lsb0, u128, Lsb0>(rt, mode, name, &wide, ends, units)?;
-    let name = Name { group, kind: "u64" };
+    let name = Name {
+        group,
+        kind: "u64",
+        unit: "word",
+    };
     copy_across::<u128, Lsb0, u64, Lsb0>(rt, mode, name, &wide, ends, units)?;
     let name = Name {
         group: "copy-u64-",
         kind: "u128",
+        unit: "word",
     };
     copy_across::<u64, Lsb0, u128, Lsb0>(rt, mode, name, source, ends, units)
 }

@@ -107,21 +107,23 @@ fn passes(rt: HostRuntime, mode: Mode, span: BitSpan<u64, Lsb0>) -> io::Result<(
     if !span.fits(words.len()) {
         return Ok(());
     }
-    let units = 65536;
+    let units = mode.units();
     let group = "domain-";
     let whole = Name {
         group,
         kind: "pass",
+        unit: "word",
     };
     let inside = Name {
         group,
         kind: "body",
+        unit: "word",
     };
     let words = words.as_slice();
     let sum = 0;
     let mut pass = Pass { span, words, sum };
     let mut body = PassBody { span, words, sum };
-    if mode == Mode::Time {
+    if let Mode::Time(_) = mode {
         time(rt, whole, units, &mut pass)?;
         return time(rt, inside, units, &mut body);
     }
@@ -148,9 +150,10 @@ fn fill_all(rt: HostRuntime, mode: Mode, span: BitSpan<u64, Lsb0>) -> io::Result
     let name = Name {
         group: "fill",
         kind: "",
+        unit: "word",
     };
-    if mode == Mode::Time {
-        return time(rt, name, 65536, &mut job);
+    if let Mode::Time(_) = mode {
+        return time(rt, name, mode.units(), &mut job);
     }
     job.go();
     tell(rt, name, is_filled(&before, &memory))

@@ -2,26 +2,41 @@
 //!
 //! With no argument it copies, runs, fills and searches a few thousand words, compares each memory
 //! or answer with what a plain loop makes, and prints a line for each that agrees. With the
-//! argument `time` it prints a name and nanoseconds for each call: of a word, a request or a span.
+//! argument `time` it prints a name, a unit and the nanoseconds of one for each job; with `grow` it
+//! does so three times, each time with memories four times as large, so that what grows faster than
+//! its input shows.
 #![tactic(auto)]
 
 mod copies;
 mod domains;
+mod edits;
+mod places;
 mod runs;
 mod slices;
 mod timer;
 mod words;
 
-use crate::timer::Mode;
+use crate::timer::{Mode, Size};
 use std::{env, io};
 
 fn main(rt: HostRuntime) -> io::Result<()> {
-    let mode = match env::args(&rt)?.nth(1) {
-        Some(word) if word.as_str() == "time" => Mode::Time,
-        _ => Mode::Compare,
-    };
+    match env::args(&rt)?.nth(1) {
+        Some(word) if word.as_str() == "time" => jobs(rt, Mode::Time(Size::Large)),
+        Some(word) if word.as_str() == "grow" => {
+            jobs(rt, Mode::Time(Size::Small))?;
+            jobs(rt, Mode::Time(Size::Middle))?;
+            jobs(rt, Mode::Time(Size::Large))
+        }
+        _ => jobs(rt, Mode::Compare),
+    }
+}
+
+// All jobs.
+fn jobs(rt: HostRuntime, mode: Mode) -> io::Result<()> {
     copies::copies(rt, mode)?;
     runs::runs(rt, mode)?;
     domains::domains(rt, mode)?;
-    slices::slices(rt, mode)
+    slices::slices(rt, mode)?;
+    edits::edits(rt, mode)?;
+    places::acts(rt, mode)
 }

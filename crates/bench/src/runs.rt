@@ -4,12 +4,12 @@ ghost use Rattle.std.specs.Prelude.{◌≡◌, ◌<◌, length};
 ghost use Rattle.bitvec.specs.BitSpan.{span_of};
 ghost use Rattle.bitvec.specs.Run.{CanRun};
 
-use crate::timer::{Job, Mode, Name, tell, time};
+use crate::timer::{Job, Mode, Name, Size, tell, time};
 use crate::words::words;
 use bitvec::index::BitIdx;
 use bitvec::order::Lsb0;
 use bitvec::ptr::span::BitSpan;
-use bitvec::run::{Command, Reply, Request, can_run, run};
+use bitvec::run::{Command, Reply, Request, can_run, can_run_in, run};
 use std::alloc::AllocError;
 use std::io;
 
@@ -46,6 +46,26 @@ impl Job for Test<'_> {
     #[inline(never)]
     fn go(&mut self) {
         if can_run(self.spans, self.words) {
+            self.passed = self.passed.wrapping_add(1);
+        }
+    }
+}
+
+// The same of spans in any order, with room for a number for each.
+#[derive(Drop)]
+struct TestInRoom<'a> {
+    spans: &'a [BitSpan<u64, Lsb0>],
+    words: usize,
+    room: &'a mut [usize],
+    passed: u64,
+}
+
+impl Job for TestInRoom<'_> {
+    ghost ready = { λ s. length s.room.now ≡ length s.spans.now };
+
+    #[inline(never)]
+    fn go(&mut self) {
+        if can_run_in(self.spans, self.words, self.room) {
             self.passed = self.passed.wrapping_add(1);
         }
     }
@@ -162,7 +182,9 @@ fn counts(mode: Mode) -> (u16, u32)
 {
     match mode {
         Mode::Compare => (200, 4000),
-        Mode::Time => (2000, 1_000_000),
+        Mode::Time(Size::Small) => (500, 62_500),
+        Mode::Time(Size::Middle) => (1000, 250_000),
+        Mode::Time(Size::Large) => (2000, 1_000_000),
     }
 }
 
@@ -185,8 +207,9 @@ fn run_all(rt: HostRuntime, mode: Mode, kind: &str, requests: &[Request<u64>]) -
     let name = Name {
         group: "run-",
         kind,
+        unit: "request",
     };
-    if mode == Mode::Time {
+    if let Mode::Time(_) = mode {
         return time(rt, name, count, &mut job);
     }
     job.go();
@@ -211,8 +234,11 @@ fn is_right(rt: HostRuntime, count: u16, words: usize) -> Result<bool, AllocErro
 fn test_spans(rt: HostRuntime, mode: Mode, kind: &str, count: u16) -> io::Result<()>
     requires { 0 < count }
 {
-    let group = "can-run-";
-    let name = Name { group, kind };
+    let name = Name {
+        group: "can-run-",
+        kind,
+        unit: "span",
+    };
     if mode == Mode::Compare {
         let agrees = is_right(rt, count / 10, mode.words())?;
         return tell(rt, name, agrees);
@@ -226,11 +252,72 @@ fn test_spans(rt: HostRuntime, mode: Mode, kind: &str, count: u16) -> io::Result
     time(rt, name, u32::from(count), &mut job)
 }
 
+// How the places of spans follow one another.
+#[derive(Clone, Copy, PartialEq, Eq)]
+enum Order {
+    Falling,
+    Shuffled,
+}
+
+// Spans of ten bits, in another order than that of their places.
+fn in_order(
+    rt: HostRuntime,
+    count: u16,
+    order: Order,
+) -> Result<Vec<BitSpan<u64, Lsb0>>, AllocError> {
+    let rising = rising(rt, count)?;
+    let mut spans = Vec::new(rt.alloc());
+    for n in 0..rising.len() {
+        let i = match order {
+            Order::Falling => rising.len() - 1 - n,
+            Order::Shuffled => n.wrapping_mul(7919) % rising.len(),
+        };
+        spans.push(rising[i])?;
+    }
+    Ok(spans)
+}
+
+// The test of spans in no order: it passes them, and not where one of them stands twice.
+fn test_in_room(rt: HostRuntime, mode: Mode, kind: &str, order: Order) -> io::Result<()> {
+    let count = match mode {
+        Mode::Compare | Mode::Time(Size::Small) => 1000,
+        Mode::Time(Size::Middle) => 4000,
+        Mode::Time(Size::Large) => 16000,
+    };
+    let mut spans = in_order(rt, count, order)?;
+    let mut room = vec![in rt.alloc(); 0; spans.len()]?;
+    if room.len() != spans.len() {
+        return Ok(());
+    }
+    let mut job = TestInRoom {
+        spans: &spans,
+        words: mode.words(),
+        room: &mut room,
+        passed: 0,
+    };
+    let name = Name {
+        group: "can-run-",
+        kind,
+        unit: "span",
+    };
+    if let Mode::Time(_) = mode {
+        return time(rt, name, u32::from(count), &mut job);
+    }
+    job.go();
+    let passes = job.passed == 1;
+    if let [first, .., last] = &mut *spans {
+        *first = *last;
+    }
+    tell(rt, name, passes && !can_run(&spans, mode.words()))
+}
+
 /// The run, and the test of its spans.
 pub fn runs(rt: HostRuntime, mode: Mode) -> io::Result<()> {
     let (spans, count) = counts(mode);
     run_all(rt, mode, "store", &stores(rt, count, spans)?)?;
     run_all(rt, mode, "fill", &fills(rt, count, spans)?)?;
     test_spans(rt, mode, "2000", 2000)?;
-    test_spans(rt, mode, "4000", 4000)
+    test_spans(rt, mode, "4000", 4000)?;
+    test_in_room(rt, mode, "falling", Order::Falling)?;
+    test_in_room(rt, mode, "shuffled", Order::Shuffled)
 }

@@ -1,146 +1,285 @@
-//! Counts, finds and comparisons of bit slices.
+//! What slices count, find, compare and give bit by bit, under a rising and a falling order.
 
 ghost use Rattle.std.specs.Prelude.{⊤};
 
 use crate::timer::{Job, Mode, Name, tell, time};
-use crate::words::{bit, words};
-use bitvec::index::BitIdx;
-use bitvec::order::Lsb0;
+use crate::words::{Formula, bit, words};
+use bitvec::order::{BitOrder, Lsb0, Msb0};
+use bitvec::ptr::single::BitPtr;
 use bitvec::ptr::span::BitSpan;
 use bitvec_slice::slice::BitSlice;
+use std::alloc::AllocError;
 use std::io;
 
-// The ones of a slice, counted.
-#[derive(Drop)]
-struct Count<'a> {
-    slice: BitSlice<'a, u64, Lsb0>,
-    ones: usize,
+// A question to a slice, whose answer is a number.
+#[derive(Clone, Copy)]
+enum Ask {
+    // How many bits are one.
+    Ones,
+    // The first one.
+    First,
+    // The last one.
+    Last,
+    // The sum of the indices of the ones.
+    Sum,
+    // The first of so many zeros in a row.
+    Zeros(usize),
+    // How many bits are one, each asked for in turn.
+    Bits,
+    // Whether another slice has the same bits.
+    Equal,
 }
 
-impl Job for Count<'_> {
+// The sum of the indices of a slice's ones.
+fn sum_of_ones<O: BitOrder<u64>>(slice: &BitSlice<'_, u64, O>) -> usize {
+    let mut sum: usize = 0;
+    for i in slice.iter_ones() {
+        sum = sum.wrapping_add(i);
+    }
+    sum
+}
+
+// How many bits of a slice are one, each taken in turn.
+fn count_in_turn<O: BitOrder<u64>>(slice: &BitSlice<'_, u64, O>) -> usize {
+    let mut count: usize = 0;
+    for bit in slice.iter() {
+        count = count.wrapping_add(usize::from(bit));
+    }
+    count
+}
+
+// Two slices, and what is asked of the first.
+#[derive(Drop)]
+struct Reading<'a, O: BitOrder<u64>> {
+    slice: BitSlice<'a, u64, O>,
+    other: BitSlice<'a, u64, O>,
+    ask: Ask,
+    answer: usize,
+}
+
+impl<O: BitOrder<u64>> Job for Reading<'_, O> {
     ghost ready = { λ _. ⊤ };
 
     #[inline(never)]
     fn go(&mut self) {
-        self.ones = self.slice.count_ones();
+        self.answer = match self.ask {
+            Ask::Ones => self.slice.count_ones(),
+            Ask::First => self.slice.first_one().unwrap_or(0),
+            Ask::Last => self.slice.last_one().unwrap_or(0),
+            Ask::Sum => sum_of_ones(&self.slice),
+            Ask::Zeros(count) => self.slice.find_zeros(count).unwrap_or(0),
+            Ask::Bits => count_in_turn(&self.slice),
+            Ask::Equal => usize::from(self.slice.equals(&self.other)),
+        };
     }
 }
 
-// The first one of a slice, found.
-#[derive(Drop)]
-struct Find<'a> {
-    slice: BitSlice<'a, u64, Lsb0>,
-    first: Option<usize>,
+// So many bits of a memory from a place on, and as many of another from another place on.
+#[derive(Clone, Copy)]
+struct Pair<'a> {
+    words: &'a [u64],
+    place: usize,
+    other: &'a [u64],
+    beside: usize,
+    len: usize,
 }
 
-impl Job for Find<'_> {
-    ghost ready = { λ _. ⊤ };
+impl Pair<'_> {
+    // Bit i of the first.
+    fn bit<F: Formula>(self, i: usize) -> bool {
+        bit::<u64, F>(self.words, self.place.saturating_add(i))
+    }
 
-    #[inline(never)]
-    fn go(&mut self) {
-        self.first = self.slice.first_one();
+    // The first of so many zeros in a row.
+    fn zeros<F: Formula>(self, count: usize) -> usize {
+        let mut start = 0;
+        for i in 0..self.len {
+            if self.bit::<F>(i) {
+                start = i + 1;
+            } else if i - start + 1 >= count {
+                return start;
+            }
+        }
+        0
+    }
+
+    // The answer, bit by bit.
+    fn answer<F: Formula>(self, ask: Ask) -> usize {
+        let mut ones = (0..self.len).filter(|i| self.bit::<F>(*i));
+        match ask {
+            Ask::Ones | Ask::Bits => ones.count(),
+            Ask::First => ones.next().unwrap_or(0),
+            Ask::Last => ones.last().unwrap_or(0),
+            Ask::Sum => ones.fold(0, |sum: usize, i| sum.wrapping_add(i)),
+            Ask::Zeros(count) => self.zeros::<F>(count),
+            Ask::Equal => usize::from((0..self.len).all(|i| {
+                self.bit::<F>(i) == bit::<u64, F>(self.other, self.beside.saturating_add(i))
+            })),
+        }
     }
 }
 
-// Two slices, compared.
-#[derive(Drop)]
-struct Equal<'a> {
-    slice: BitSlice<'a, u64, Lsb0>,
-    other: BitSlice<'a, u64, Lsb0>,
-    same: bool,
-}
-
-impl Job for Equal<'_> {
-    ghost ready = { λ _. ⊤ };
-
-    #[inline(never)]
-    fn go(&mut self) {
-        self.same = self.slice.equals(&self.other);
+// Asks, and compares or times.
+fn read<O: BitOrder<u64> + Formula>(
+    rt: HostRuntime,
+    mode: Mode,
+    name: Name,
+    ask: Ask,
+    pair: Pair,
+) -> io::Result<()> {
+    let here: Result<BitSpan<u64, O>, _> = BitSpan::at(pair.place, pair.len);
+    let there: Result<BitSpan<u64, O>, _> = BitSpan::at(pair.beside, pair.len);
+    let (Ok(here), Ok(there)) = (here, there) else {
+        return Ok(());
+    };
+    let slice = BitSlice::new(here, pair.words);
+    let (Some(slice), Some(other)) = (slice, BitSlice::new(there, pair.other)) else {
+        return Ok(());
+    };
+    let mut job = Reading {
+        slice,
+        other,
+        ask,
+        answer: 0,
+    };
+    if let Mode::Time(_) = mode {
+        return time(rt, name, mode.units(), &mut job);
     }
+    job.go();
+    tell(rt, name, job.answer == pair.answer::<O>(ask))
 }
 
-// How many of the bits behind the first three and before the last four are one: bit by bit.
-fn ones(words: &[u64]) -> usize {
-    (3..4096 * 64 - 4)
-        .filter(|place| bit::<u64, Lsb0>(words, *place))
-        .count()
+// Words of which each n-th has one digit that is one, and all others are zero.
+fn sparse(rt: HostRuntime, count: usize, n: usize) -> Result<Vec<u64>, AllocError> {
+    let mut words = Vec::new(rt.alloc());
+    for k in 0..count {
+        let is_one = n == 0 || k % n == n / 2;
+        words.push(if is_one { 1 << (k % 61) as u32 } else { 0 })?;
+    }
+    Ok(words)
 }
 
-// The words of a memory with all bits zero but the last one before the last four.
-fn one_bit(rt: HostRuntime, count: usize) -> io::Result<Vec<u64>> {
+// Words with no two zeros in a row too many, but for the last two, which are zero.
+fn crowded(rt: HostRuntime, count: usize, ones: u64) -> Result<Vec<u64>, AllocError> {
+    let mut words = words(rt, count)?;
+    for word in words.iter_mut() {
+        *word = (*word & *word >> 7 & *word >> 13) | ones;
+    }
+    for word in words.iter_mut().rev().take(2) {
+        *word = 0;
+    }
+    Ok(words)
+}
+
+// The words of a memory with all bits zero but one digit of one word.
+fn one_bit(rt: HostRuntime, count: usize, at: usize) -> Result<Vec<u64>, AllocError> {
     let mut memory = vec![in rt.alloc(); 0; count]?;
-    if let Some(last) = memory.last_mut() {
-        *last = 1 << 59;
+    if let Some(word) = memory.get_mut(at) {
+        *word = 1 << 31;
     }
     Ok(memory)
 }
 
-fn count_bits(rt: HostRuntime, mode: Mode, span: BitSpan<u64, Lsb0>) -> io::Result<()> {
-    let memory = words(rt, mode.words())?;
-    let Some(slice) = BitSlice::new(span, &memory) else {
-        return Ok(());
-    };
-    let name = Name {
-        group: "count-",
-        kind: "ones",
-    };
-    let mut job = Count { slice, ones: 0 };
-    if mode == Mode::Time {
-        return time(rt, name, 65536, &mut job);
+// The words of a memory with bits of another from a place on, moved to another place.
+fn moved<O: BitOrder<u64>>(rt: HostRuntime, pair: Pair) -> Result<Vec<u64>, AllocError> {
+    let mut memory = vec![in rt.alloc(); 0; pair.words.len()]?;
+    let (from, to) = (
+        BitPtr::<u64, O>::at(pair.place),
+        BitPtr::<u64, O>::at(pair.beside),
+    );
+    if from.run_in(pair.words.len(), pair.len) && to.run_in(memory.len(), pair.len) {
+        from.copy_to(pair.words, to, &mut memory, pair.len);
     }
-    job.go();
-    tell(rt, name, job.ones == ones(&memory))
+    Ok(memory)
 }
 
-fn find_bit(rt: HostRuntime, mode: Mode, span: BitSpan<u64, Lsb0>) -> io::Result<()> {
-    let memory = one_bit(rt, mode.words())?;
-    let Some(slice) = BitSlice::new(span, &memory) else {
-        return Ok(());
-    };
-    let name = Name {
-        group: "first-",
-        kind: "one",
-    };
-    let mut job = Find { slice, first: None };
-    if mode == Mode::Time {
-        return time(rt, name, 65536, &mut job);
+// All bits of a memory but the first three and the last four.
+fn most(words: &[u64]) -> Pair<'_> {
+    let len = words.len().saturating_mul(64).saturating_sub(7);
+    Pair {
+        words,
+        place: 3,
+        other: words,
+        beside: 3,
+        len,
     }
-    job.go();
-    tell(rt, name, job.first == Some(4096 * 64 - 8))
 }
 
-fn compare_bits(rt: HostRuntime, mode: Mode, span: BitSpan<u64, Lsb0>) -> io::Result<()> {
-    let memory = words(rt, mode.words())?;
-    let copy = words(rt, mode.words())?;
-    let Some(slice) = BitSlice::new(span, &memory) else {
-        return Ok(());
+// What is found in memories made for it.
+fn finds<O: BitOrder<u64> + Formula>(rt: HostRuntime, mode: Mode, kind: &str) -> io::Result<()> {
+    let count = mode.words();
+    let name = |group| Name {
+        group,
+        kind,
+        unit: "word",
     };
-    let Some(other) = BitSlice::new(span, &copy) else {
-        return Ok(());
-    };
-    let name = Name {
-        group: "equal",
-        kind: "",
-    };
-    let mut job = Equal {
-        slice,
-        other,
-        same: false,
-    };
-    if mode == Mode::Time {
-        return time(rt, name, 65536, &mut job);
-    }
-    job.go();
-    tell(rt, name, job.same)
+    let memory = one_bit(rt, count, count - 1)?;
+    read::<O>(rt, mode, name("first-one-"), Ask::First, most(&memory))?;
+    let memory = one_bit(rt, count, 0)?;
+    read::<O>(rt, mode, name("last-one-"), Ask::Last, most(&memory))?;
+    let memory = sparse(rt, count, 0)?;
+    read::<O>(rt, mode, name("ones-64th-"), Ask::Sum, most(&memory))?;
+    let memory = sparse(rt, count, 64)?;
+    read::<O>(rt, mode, name("ones-4096th-"), Ask::Sum, most(&memory))?;
+    let memory = crowded(rt, count, 0x0101_0101_0101_0101)?;
+    read::<O>(
+        rt,
+        mode,
+        name("find-zeros-8-"),
+        Ask::Zeros(8),
+        most(&memory),
+    )?;
+    let memory = crowded(rt, count, 1 << 31)?;
+    read::<O>(
+        rt,
+        mode,
+        name("find-zeros-64-"),
+        Ask::Zeros(64),
+        most(&memory),
+    )
 }
 
-/// A count, a find and a comparison of all bits of a memory but the first three and the last four.
+// What is asked of words that look random.
+fn one_order<O: BitOrder<u64> + Formula>(
+    rt: HostRuntime,
+    mode: Mode,
+    kind: &str,
+    words: &[u64],
+) -> io::Result<()> {
+    let name = |group| Name {
+        group,
+        kind,
+        unit: "word",
+    };
+    let whole = most(words);
+    read::<O>(rt, mode, name("count-ones-"), Ask::Ones, whole)?;
+    read::<O>(rt, mode, name("ones-half-"), Ask::Sum, whole)?;
+    read::<O>(rt, mode, name("iter-bits-"), Ask::Bits, whole)?;
+    let copy = crate::words::words(rt, words.len())?;
+    let other = copy.as_slice();
+    read::<O>(
+        rt,
+        mode,
+        name("equal-"),
+        Ask::Equal,
+        Pair { other, ..whole },
+    )?;
+    let len = words.len().saturating_sub(1).saturating_mul(64);
+    let shifted = Pair {
+        beside: 14,
+        len,
+        ..whole
+    };
+    let copy = moved::<O>(rt, shifted)?;
+    let other = copy.as_slice();
+    let shifted = Pair { other, ..shifted };
+    read::<O>(rt, mode, name("equal-shifted-"), Ask::Equal, shifted)?;
+    finds::<O>(rt, mode, kind)
+}
+
+/// What is read of all bits of a memory but the first three and the last four.
 pub fn slices(rt: HostRuntime, mode: Mode) -> io::Result<()> {
-    let head = BitIdx::new_unchecked(3);
-    let Ok(span) = BitSpan::new(0, head, mode.words() * 64 - 7) else {
-        return Ok(());
-    };
-    count_bits(rt, mode, span)?;
-    find_bit(rt, mode, span)?;
-    compare_bits(rt, mode, span)
+    let words = words(rt, mode.words())?;
+    one_order::<Lsb0>(rt, mode, "lsb0", &words)?;
+    one_order::<Msb0>(rt, mode, "msb0", &words)
 }

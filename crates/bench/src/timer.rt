@@ -5,13 +5,21 @@ ghost use Rattle.std.specs.Prelude.{◌<◌, ◌≤◌};
 use std::io;
 use std::time::{Clock, Instant};
 
+/// How large the memories are.
+#[derive(Clone, Copy, PartialEq, Eq)]
+pub enum Size {
+    Small,
+    Middle,
+    Large,
+}
+
 /// What the program does with each job.
 #[derive(Clone, Copy, PartialEq, Eq)]
 pub enum Mode {
     /// It compares the job's result with that of a plain loop.
     Compare,
     /// It times the job.
-    Time,
+    Time(Size),
 }
 
 impl Mode {
@@ -21,17 +29,26 @@ impl Mode {
         ensures few { result ≤ 65536 }
     {
         match self {
-            Mode::Compare => 4096,
-            Mode::Time => 65536,
+            Mode::Compare | Mode::Time(Size::Small) => 4096,
+            Mode::Time(Size::Middle) => 16384,
+            Mode::Time(Size::Large) => 65536,
         }
+    }
+
+    /// The same as the number of a job's units.
+    pub fn units(self) -> u32
+        ensures some { 0 < result }
+    {
+        self.words() as u32
     }
 }
 
-/// The name of a job, in two parts.
+/// The name of a job, in two parts, and the unit that its time is of.
 #[derive(Clone, Copy)]
 pub struct Name<'a> {
     pub group: &'a str,
     pub kind: &'a str,
+    pub unit: &'a str,
 }
 
 /// A job that can be done again and again.
@@ -92,7 +109,10 @@ pub fn time<J: Job>(rt: HostRuntime, name: Name, units: u32, job: &mut J) -> io:
     let all = u128::from(best(&rt, job, repeats)?) * 1000;
     let thousandths = all / (u128::from(repeats.max(1)) * u128::from(units));
     let (whole, rest) = (thousandths / 1000, thousandths % 1000);
-    println!(rt; "{}{} {whole}.{rest:03}", name.group, name.kind)
+    println!(rt;
+        "{}{} {} {whole}.{rest:03}",
+        name.group, name.kind, name.unit
+    )
 }
 
 /// Prints whether a job agrees with a plain loop.

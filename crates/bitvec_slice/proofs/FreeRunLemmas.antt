@@ -16,7 +16,8 @@ use Rattle.bitvec_slice.specs.Bits.{AreFree}
 use Rattle.bitvec_slice.specs.Field.{position_of, IsSequential}
 use Rattle.bitvec.specs.Ones.{HasNoOne, IsLowestOne, IsHighestOne}
 use Rattle.bitvec_slice.specs.FreeRuns.{digit_of, AllPass, IsFirstRun, AreStarts, behind, is_free}
-use Rattle.bitvec_slice.proofs.FindLemmas.{IsLacking, test_at}
+use Rattle.bitvec_slice.proofs.FindLemmas.{test_at}
+use Rattle.bitvec_slice.proofs.PartMasks.{IsLacking}
 
 -- ---- the digits of a word
 

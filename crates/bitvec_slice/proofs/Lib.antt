@@ -8,6 +8,7 @@ pub mod FreeRunLemmas
 mod IterLemmas
 mod ListEdits
 pub mod OnesLemmas
+mod PartMasks
 pub mod SameWordsLemmas
 mod ShiftedLemmas
 mod SkipLemmas

@@ -8,7 +8,7 @@ use Rattle.bitvec.specs.Order.{IsMaskOf}
 use Rattle.bitvec.specs.Parts.{Part}
 use Rattle.bitvec.proofs.PartLemmas.{length-list_of}
 use Rattle.bitvec_slice.specs.BitSlice.{slice_memory, slice_span, bits_of}
-use Rattle.bitvec_slice.proofs.FindLemmas.{lacking_zeros, lacking_same}
+use Rattle.bitvec_slice.proofs.PartMasks.{lacking_zeros, lacking_same}
 use Rattle.bitvec_slice.proofs.SameWordsLemmas.{inner_digits}
 use Rattle.bitvec_slice.proofs.SkipLemmas.{number_at}
 use Rattle.bitvec_slice.proofs.FreeRunLemmas.{free_masked, free_whole}
