@@ -38,5 +38,5 @@ fn jobs(rt: HostRuntime, mode: Mode) -> io::Result<()> {
     domains::domains(rt, mode)?;
     slices::slices(rt, mode)?;
     edits::edits(rt, mode)?;
-    places::acts(rt, mode)
+    places::all_acts(rt, mode)
 }

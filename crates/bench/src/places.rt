@@ -30,9 +30,9 @@ enum Act {
 
 // The places in a memory at which something is done, and another memory of as many words.
 #[derive(Drop)]
-struct Acts<'a, O: Sequential<u64>> {
+struct Acts<'a, 'b, O: Sequential<u64>> {
     span: BitSpan<u64, O>,
-    memory: &'a mut [u64],
+    memory: &'b mut [u64],
     other: &'a [u64],
     places: &'a [usize],
     act: Act,
@@ -63,94 +63,127 @@ fn source_of(place: usize) -> usize {
     place ^ 0x2A5
 }
 
-impl<O: Sequential<u64>> Acts<'_, O> {
-    fn load_all(&mut self) {
-        let mut sum: u64 = 0;
-        if let Some(slice) = BitSlice::new(self.span, &*self.memory) {
-            for place in self.places {
-                sum = sum.wrapping_add(load(&slice, *place));
-            }
-        }
-        self.sum = sum;
+// The sum of the fields at some places.
+fn load_all<O: Sequential<u64>>(slice: &BitSlice<'_, u64, O>, places: &[usize]) -> u64 {
+    let mut sum: u64 = 0;
+    for place in places {
+        sum = sum.wrapping_add(load(slice, *place));
     }
+    sum
+}
 
-    fn store_all(&mut self) {
-        for place in self.places {
-            let part: Result<BitSpan<u64, O>, _> = BitSpan::at(*place, 13);
-            let Ok(part) = part else {
-                continue;
-            };
-            if part.fits(self.memory.len()) {
-                let mut slice = BitSliceMut::new_unchecked(part, self.memory);
-                if slice.len() <= 64 {
-                    if O::RISES {
-                        slice.store_le(*place as u64);
-                    } else {
-                        slice.store_be(*place as u64);
-                    }
-                }
-            }
-        }
+// The sum of the bits at some places.
+fn get_all<O: Sequential<u64>>(slice: &BitSlice<'_, u64, O>, places: &[usize]) -> u64 {
+    let mut sum: u64 = 0;
+    for place in places {
+        sum = sum.wrapping_add(u64::from(slice.get(*place).unwrap_or(false)));
     }
+    sum
+}
 
-    fn get_all(&mut self) {
-        let mut sum: u64 = 0;
-        if let Some(slice) = BitSlice::new(self.span, &*self.memory) {
-            for place in self.places {
-                sum = sum.wrapping_add(u64::from(slice.get(*place).unwrap_or(false)));
-            }
-        }
-        self.sum = sum;
+// Stores a field at a place.
+fn store<O: Sequential<u64>>(part: BitSpan<u64, O>, memory: &mut [u64], value: u64) {
+    if !part.fits(memory.len()) || part.len() > 64 {
+        return;
     }
-
-    fn set_all(&mut self) {
-        if !self.span.fits(self.memory.len()) {
-            return;
-        }
-        let mut slice = BitSliceMut::new_unchecked(self.span, self.memory);
-        for place in self.places {
-            if *place < slice.len() {
-                slice.set(*place, *place % 3 == 0);
-            }
-        }
+    let mut slice = BitSliceMut::new_unchecked(part, memory);
+    if O::RISES {
+        slice.store_le(value);
+    } else {
+        slice.store_be(value);
     }
+}
 
-    fn copy_all(&mut self) {
-        for place in self.places {
-            let count = length_at(*place);
-            let from: BitPtr<u64, O> = BitPtr::at(source_of(*place));
-            let to: BitPtr<u64, O> = BitPtr::at(*place);
-            if from.run_in(self.other.len(), count) && to.run_in(self.memory.len(), count) {
-                from.copy_to(self.other, to, self.memory, count);
-            }
+// Stores a field at each of some places.
+fn store_all<O: Sequential<u64>>(memory: &mut [u64], places: &[usize]) {
+    for place in places {
+        let part: Result<BitSpan<u64, O>, _> = BitSpan::at(*place, 13);
+        if let Ok(part) = part {
+            store(part, memory, *place as u64);
         }
     }
 }
 
-impl<O: Sequential<u64>> Job for Acts<'_, O> {
+// Writes a bit at each of some places.
+fn set_all<O: Sequential<u64>>(slice: &mut BitSliceMut<'_, u64, O>, places: &[usize]) {
+    for place in places {
+        if *place < slice.len() {
+            slice.set(*place, *place % 3 == 0);
+        }
+    }
+}
+
+// Copies some bits to each of some places.
+fn copy_all<O: Sequential<u64>>(source: &[u64], memory: &mut [u64], places: &[usize]) {
+    for place in places {
+        let count = length_at(*place);
+        let from: BitPtr<u64, O> = BitPtr::at(source_of(*place));
+        let to: BitPtr<u64, O> = BitPtr::at(*place);
+        if from.run_in(source.len(), count) && to.run_in(memory.len(), count) {
+            from.copy_to(source, to, memory, count);
+        }
+    }
+}
+
+// What is loaded or read, or 0.
+fn sum_all<O: Sequential<u64>>(
+    span: BitSpan<u64, O>,
+    memory: &[u64],
+    places: &[usize],
+    act: Act,
+) -> u64 {
+    match (BitSlice::new(span, memory), act) {
+        (Some(slice), Act::Load) => load_all(&slice, places),
+        (Some(slice), Act::Get) => get_all(&slice, places),
+        _ => 0,
+    }
+}
+
+// What is stored, written or copied.
+fn put_all<O: Sequential<u64>>(
+    span: BitSpan<u64, O>,
+    memory: &mut [u64],
+    other: &[u64],
+    places: &[usize],
+    act: Act,
+) {
+    match act {
+        Act::Store => store_all::<O>(memory, places),
+        Act::Copy => copy_all::<O>(other, memory, places),
+        Act::Set if span.fits(memory.len()) => {
+            let mut slice = BitSliceMut::new_unchecked(span, memory);
+            set_all(&mut slice, places);
+        }
+        _ => {}
+    }
+}
+
+impl<O: Sequential<u64>> Job for Acts<'_, '_, O> {
     ghost ready = { λ _. ⊤ };
 
     #[inline(never)]
     fn go(&mut self) {
-        match self.act {
-            Act::Load => self.load_all(),
-            Act::Store => self.store_all(),
-            Act::Get => self.get_all(),
-            Act::Set => self.set_all(),
-            Act::Copy => self.copy_all(),
-        }
+        let (span, other, places) = (self.span, self.other, self.places);
+        let act = self.act;
+        let memory = &mut *self.memory;
+        put_all(span, memory, other, places, act);
+        self.sum = sum_all(span, memory, places, act);
     }
 }
 
 // The sum of what is loaded or read, bit by bit.
 fn plain_sum<F: Formula>(words: &[u64], places: &[usize], act: Act, rises: bool) -> u64 {
-    let count = if let Act::Load = act { 13 } else { 1 };
+    let count: u32 = if let Act::Load = act { 13 } else { 1 };
     let mut sum: u64 = 0;
     for place in places {
         for j in 0..count {
-            let up = if rises { j } else { count - 1 - j };
+            let up = if rises {
+                j
+            } else {
+                count.saturating_sub(1 + j)
+            };
             if bit::<u64, F>(words, place.saturating_add(j as usize)) {
-                sum = sum.wrapping_add(1 << up);
+                sum = sum.wrapping_add(1 << (up % 64));
             }
         }
     }
@@ -199,7 +232,7 @@ fn places_of(rt: HostRuntime, mode: Mode, act: Act) -> Result<Vec<usize>, AllocE
     let many = mode.words() * 128 - 1024;
     for (n, word) in (0..mode.words()).zip(words(rt, mode.words())?) {
         places.push(match act {
-            Act::Load | Act::Store => n * 13,
+            Act::Load | Act::Store => n.saturating_mul(13),
             _ => (word >> 20) as usize % many,
         })?;
     }
@@ -262,7 +295,7 @@ fn one_order<O: Sequential<u64> + Formula>(
 }
 
 /// Fields, bits and short copies.
-pub fn acts(rt: HostRuntime, mode: Mode) -> io::Result<()> {
+pub fn all_acts(rt: HostRuntime, mode: Mode) -> io::Result<()> {
     one_order::<Lsb0>(rt, mode, "lsb0")?;
     one_order::<Msb0>(rt, mode, "msb0")
 }

@@ -53,19 +53,21 @@ impl Job for Test<'_> {
 
 // The same of spans in any order, with room for a number for each.
 #[derive(Drop)]
-struct TestInRoom<'a> {
+struct TestInRoom<'a, 'b> {
     spans: &'a [BitSpan<u64, Lsb0>],
     words: usize,
-    room: &'a mut [usize],
+    room: &'b mut [usize],
     passed: u64,
 }
 
-impl Job for TestInRoom<'_> {
+impl Job for TestInRoom<'_, '_> {
     ghost ready = { λ s. length s.room.now ≡ length s.spans.now };
 
     #[inline(never)]
     fn go(&mut self) {
-        if can_run_in(self.spans, self.words, self.room) {
+        let (spans, words) = (self.spans, self.words);
+        let room = &mut *self.room;
+        if can_run_in(spans, words, room) {
             self.passed = self.passed.wrapping_add(1);
         }
     }

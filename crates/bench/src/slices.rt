@@ -41,9 +41,12 @@ fn sum_of_ones<O: BitOrder<u64>>(slice: &BitSlice<'_, u64, O>) -> usize {
 
 // How many bits of a slice are one, each taken in turn.
 fn count_in_turn<O: BitOrder<u64>>(slice: &BitSlice<'_, u64, O>) -> usize {
+    let mut bits = slice.iter();
     let mut count: usize = 0;
-    for bit in slice.iter() {
-        count = count.wrapping_add(usize::from(bit));
+    for _ in 0..slice.len() {
+        if let Some(true) = bits.next() {
+            count = count.wrapping_add(1);
+        }
     }
     count
 }
@@ -92,12 +95,15 @@ impl Pair<'_> {
 
     // The first of so many zeros in a row.
     fn zeros<F: Formula>(self, count: usize) -> usize {
-        let mut start = 0;
+        let mut run: usize = 0;
         for i in 0..self.len {
-            if self.bit::<F>(i) {
-                start = i + 1;
-            } else if i - start + 1 >= count {
-                return start;
+            run = if self.bit::<F>(i) {
+                0
+            } else {
+                run.saturating_add(1)
+            };
+            if run >= count {
+                return i.saturating_sub(count.saturating_sub(1));
             }
         }
         0
