@@ -39,9 +39,9 @@ struct Acts<'a, 'b, O: Sequential<u64>> {
     sum: u64,
 }
 
-// The number of 13 bits of a memory from a place on.
-fn load<O: Sequential<u64>>(slice: &BitSlice<'_, u64, O>, place: usize) -> u64 {
-    match slice.get_range(place, place.saturating_add(13)) {
+// The number of a field of a memory, and 0 where it does not lie in it.
+fn load<O: Sequential<u64>>(part: BitSpan<u64, O>, memory: &[u64]) -> u64 {
+    match BitSlice::new(part, memory) {
         Some(field) if field.len() <= 64 => {
             if O::RISES {
                 field.load_le()
@@ -64,10 +64,13 @@ fn source_of(place: usize) -> usize {
 }
 
 // The sum of the fields at some places.
-fn load_all<O: Sequential<u64>>(slice: &BitSlice<'_, u64, O>, places: &[usize]) -> u64 {
+fn load_all<O: Sequential<u64>>(memory: &[u64], places: &[usize]) -> u64 {
     let mut sum: u64 = 0;
     for place in places {
-        sum = sum.wrapping_add(load(slice, *place));
+        let part: Result<BitSpan<u64, O>, _> = BitSpan::at(*place, 13);
+        if let Ok(part) = part {
+            sum = sum.wrapping_add(load(part, memory));
+        }
     }
     sum
 }
@@ -133,7 +136,7 @@ fn sum_all<O: Sequential<u64>>(
     act: Act,
 ) -> u64 {
     match (BitSlice::new(span, memory), act) {
-        (Some(slice), Act::Load) => load_all(&slice, places),
+        (_, Act::Load) => load_all::<O>(memory, places),
         (Some(slice), Act::Get) => get_all(&slice, places),
         _ => 0,
     }

@@ -1,5 +1,5 @@
 -- The numbers of a range that pass a test, and the indices of a list's ones and zeros.
-use Rattle.std.proofs.Common.{◌≡◌, ℕ, zero, suc, ◌+◌, ◌-◌, ◌<◌, ◌≤◌, Bool, true, false, not, List, [], ◌∷◌, ◌++◌, length, length-append, Some, refl, ap, ◌∙◌, inl, inr, arith}
+use Rattle.std.proofs.Common.{◌≡◌, ℕ, zero, suc, ◌+◌, ◌-◌, ◌<◌, ◌≤◌, Bool, true, false, not, List, [], ◌∷◌, ◌++◌, length, length-append, Option, Some, None, MatchOption, refl, sym, ap, ◌∙◌, inl, inr, arith}
 use Rattle.std.specs.List.{filter, range_with_len}
 use Rattle.std.specs.Iterator.{MakesProgress, item_count}
 use Rattle.std.proofs.lemmas.Bool.{cases_eq, cases_Bool}
@@ -52,6 +52,16 @@ ones_last xs from upto i last = let h = last.0 in let k = last.1 in filter_last 
 pub ones_past : (xs : List Bool) (at : ℕ) → ones_between xs at at ≡ []
 ones_past xs at = ones_none xs at at (λ j h k. absurd (omega arith))
 
+-- what is left behind the first of a list's ones, where there is one
+pub ones_behind : (xs ys : List Bool) (from upto next : ℕ) (found : Option ℕ) → ys ≡ xs
+    → MatchOption found (AllBetween false xs from upto) (IsFirstBetween true xs from upto) → MatchOption found (next ≡ from) (λ i. next ≡ i + 1)
+    → MatchOption found ((ones_between xs from upto ≡ []) × (ones_between ys next upto ≡ [])) (λ i. ones_between xs from upto ≡ i ∷ ones_between ys next upto)
+ones_behind xs ys from upto next None same none stays =
+    let e = ones_none xs from upto none in
+    (e, ap (λ zs. ones_between zs next upto) same ∙ ap (λ n. ones_between xs n upto) stays ∙ e)
+ones_behind xs ys from upto next (Some i) same first goes =
+    ones_first xs from upto i first ∙ ap (λ n. i ∷ ones_between xs n upto) (sym goes) ∙ ap (λ zs. i ∷ ones_between zs next upto) (sym same)
+
 -- the same of the indices of zeros
 pub zeros_none : (xs : List Bool) (from upto : ℕ) → AllBetween true xs from upto → zeros_between xs from upto ≡ []
 zeros_none xs from upto none = filter_none (λ i. not (element xs i)) from (upto - from) (λ j h k. ap not (none j h (omega arith)))
@@ -65,6 +75,15 @@ zeros_last xs from upto i last = let h = last.0 in let k = last.1 in filter_last
 pub zeros_past : (xs : List Bool) (at : ℕ) → zeros_between xs at at ≡ []
 zeros_past xs at = zeros_none xs at at (λ j h k. absurd (omega arith))
 
+pub zeros_behind : (xs ys : List Bool) (from upto next : ℕ) (found : Option ℕ) → ys ≡ xs
+    → MatchOption found (AllBetween true xs from upto) (IsFirstBetween false xs from upto) → MatchOption found (next ≡ from) (λ i. next ≡ i + 1)
+    → MatchOption found ((zeros_between xs from upto ≡ []) × (zeros_between ys next upto ≡ [])) (λ i. zeros_between xs from upto ≡ i ∷ zeros_between ys next upto)
+zeros_behind xs ys from upto next None same none stays =
+    let e = zeros_none xs from upto none in
+    (e, ap (λ zs. zeros_between zs next upto) same ∙ ap (λ n. zeros_between xs n upto) stays ∙ e)
+zeros_behind xs ys from upto next (Some i) same first goes =
+    zeros_first xs from upto i first ∙ ap (λ n. i ∷ zeros_between xs n upto) (sym goes) ∙ ap (λ zs. i ∷ zeros_between zs next upto) (sym same)
+
 -- a call that took the first or the last off a list made progress
 pub progress_first : {S A : Type 0} (can : S → Type 0) (rest : S → List A) (s : S) (x : A) (t : S) → can t → rest s ≡ x ∷ rest t → MakesProgress can (item_count rest) s (Some x) t
 progress_first can rest s x t h e =
@@ -75,3 +94,8 @@ pub progress_last : {S A : Type 0} (can : S → Type 0) (rest : S → List A) (s
 progress_last can rest s x t h e =
     let less : length (rest t) < length (rest s) = omega (arith, ap length e, length-append (rest t) (x ∷ [])) in
     record { on = λ _. (h, tt, less); keeps = h; rests = λ _. tt }
+
+-- the same of a call that took the first where there is one
+pub progress_behind : {S A : Type 0} (can : S → Type 0) (rest : S → List A) (s : S) (r : Option A) (t : S) → can t → MatchOption r ((rest s ≡ []) × (rest t ≡ [])) (λ x. rest s ≡ x ∷ rest t) → MakesProgress can (item_count rest) s r t
+progress_behind can rest s None t h e = record { on = λ _. tt; keeps = tt; rests = λ _. tt }
+progress_behind can rest s (Some x) t h e = progress_first can rest s x t h e

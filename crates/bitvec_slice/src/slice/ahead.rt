@@ -71,58 +71,51 @@ impl<'a, R: BitRegister, O: BitOrder<R>> Ahead<'a, R, O> {
         }
     }
 
-    // What is behind index `i`, where the bit is `bit`.
-    fn behind(&self, i: usize) -> Self
-        requires inside { i < slice_len self.now.slice }
-        requires here { element (bits_of self.now.slice) i ≡ self.now.bit }
-        ensures slice { result.slice ≡ self.now.slice }
-        ensures bit { result.bit ≡ self.now.bit }
-        ensures next { result.next ≡ i + 1 }
+    // Goes behind index `i`, where the bit is `bit`.
+    fn go_behind(&mut self, i: usize)
+        requires inside { i < slice_len self.old.slice }
+        requires here { element (bits_of self.old.slice) i ≡ self.old.bit }
+        ensures slice { self.new.slice ≡ self.old.slice }
+        ensures bit { self.new.bit ≡ self.old.bit }
+        ensures next { self.new.next ≡ i + 1 }
     {
         let head = self.slice.head();
         let width = mem::bits_of::<R>();
         let word = (head + i) / width;
         let upto = self.slice.len().min((word + 1) * width - head);
         let from = self.slice.chosen(word, i, upto, self.bit);
-        let left = turned_at::<R, O>(from, (head + i - word * width) as u8);
-        Ahead {
-            slice: self.slice,
-            bit: self.bit,
-            next: i + 1,
-            word,
-            upto,
-            left,
-        }
+        self.left = turned_at::<R, O>(from, (head + i - word * width) as u8);
+        self.next = i + 1;
+        self.word = word;
+        self.upto = upto;
     }
 
-    // The index of the first bit before index `end` that is `bit`, and what is behind it.
+    // The index of the first bit before index `end` that is `bit`, behind which it goes.
     #[inline(always)]
-    pub(super) fn step(&self, end: usize) -> Option<(usize, Self)>
-        requires { end ≤ slice_len self.now.slice }
-        ensures { MatchOption result
-            (AllBetween (not self.now.bit) (bits_of self.now.slice) self.now.next end)
-            (λ found. IsFirstBetween self.now.bit (bits_of self.now.slice) self.now.next end found.0
-            × (found.1.slice ≡ self.now.slice) × (found.1.bit ≡ self.now.bit)
-            × (found.1.next ≡ found.0 + 1)) }
+    pub(super) fn step(&mut self, end: usize) -> Option<usize>
+        requires { end ≤ slice_len self.old.slice }
+        ensures slice { self.new.slice ≡ self.old.slice }
+        ensures bit { self.new.bit ≡ self.old.bit }
+        ensures first { MatchOption result
+            (AllBetween (not self.old.bit) (bits_of self.old.slice) self.old.next end)
+            (IsFirstBetween self.old.bit (bits_of self.old.slice) self.old.next end) }
+        ensures next { MatchOption result (self.new.next ≡ self.old.next)
+            (λ i. self.new.next ≡ i + 1) }
     {
         if let Some(index) = first_index::<R, O>(self.left) {
             let i = self.word * mem::bits_of::<R>() + usize::from(index) - self.slice.head();
             if end <= i {
                 return None;
             }
-            let left = turned_at::<R, O>(self.left, index);
-            let rest = Ahead {
-                slice: self.slice,
-                bit: self.bit,
-                next: i + 1,
-                word: self.word,
-                upto: self.upto,
-                left,
-            };
-            return Some((i, rest));
+            self.left = turned_at::<R, O>(self.left, index);
+            self.next = i + 1;
+            return Some(i);
         }
         match self.slice.first_between(self.upto, end, self.bit) {
-            Some(i) => Some((i, self.behind(i))),
+            Some(i) => {
+                self.go_behind(i);
+                Some(i)
+            }
             None => None,
         }
     }

@@ -121,13 +121,7 @@ impl<'a, R: BitRegister, O: BitOrder<R>> Iterator for IterOnes<'a, R, O> {
     ghost remaining = { item_count ones_left };
 
     fn next(&mut self) -> Option<usize> {
-        match self.ahead.step(self.end) {
-            Some(found) => {
-                self.ahead = found.1;
-                Some(found.0)
-            }
-            None => None,
-        }
+        self.ahead.step(self.end)
     }
 }
 
@@ -163,13 +157,7 @@ impl<'a, R: BitRegister, O: BitOrder<R>> Iterator for IterZeros<'a, R, O> {
     ghost remaining = { item_count zeros_left };
 
     fn next(&mut self) -> Option<usize> {
-        match self.ahead.step(self.end) {
-            Some(found) => {
-                self.ahead = found.1;
-                Some(found.0)
-            }
-            None => None,
-        }
+        self.ahead.step(self.end)
     }
 }
 

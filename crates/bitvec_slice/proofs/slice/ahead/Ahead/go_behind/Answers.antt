@@ -3,7 +3,7 @@ use Rattle.std.proofs.lemmas.Nat.{div-add-mod'}
 use Rattle.bitvec_slice.specs.BitSlice.{slice_span}
 use Rattle.bitvec_slice.proofs.FindLemmas.{word_at}
 use Rattle.bitvec_slice.proofs.WordListLemmas.{chosen_here, chosen_behind}
-use Rattle.bitvec_slice.proofs.slice.ahead.Ahead.behind.Goals as goal
+use Rattle.bitvec_slice.proofs.slice.ahead.Ahead.go_behind.Goals as goal
 
 pub chosen-from-requires-clause-met : goal.chosen-from-requires-clause-met
 chosen-from-requires-clause-met g c =
@@ -11,8 +11,8 @@ chosen-from-requires-clause-met g c =
     let span = slice_span slice in
     (word_at g.R.BitRegister.BITS _ span.head _ span.len c.args.i c.bits_of-width.ensures.value c.head-head.ensures (omega (arith, g.met.R.BitRegister.width_at_least_8)) c.requires.inside).met
 
-pub invariant_of-result : goal.invariant_of-result
-invariant_of-result g c =
+pub invariant_of-self : goal.invariant_of-self
+invariant_of-self g c =
     let slice = c.args.self.now.slice in
     let bits = g.R.BitRegister.BITS in
     let span = slice_span slice in
@@ -30,5 +30,5 @@ invariant_of-result g c =
     record {
       ordered = omega (arith, more);
       inside = omega (arith, c.min-upto.ensures, c.len.ensures.value);
-      chosen = chosen_behind c.chosen-from.ensures g.met.O.BitOrder.one_to_one index i _ (chosen_here c.chosen-from.ensures more c.requires.here index place) back c.turned_at-left.ensures;
+      chosen = chosen_behind c.chosen-from.ensures g.met.O.BitOrder.one_to_one index i _ (chosen_here c.chosen-from.ensures more c.requires.here index place) back c.turned_at-self.ensures;
     }
