@@ -1,11 +1,11 @@
 -- The lowest and the highest digit of a number that is one, as the counts of its zeros at both ends give them.
-use Rattle.std.proofs.Common.{◌≡◌, ℕ, zero, suc, ◌+◌, ◌-◌, ◌*◌, ◌/◌, ◌%◌, ◌^◌, ◌<◌, ◌≤◌, ◌==◌, true, false, ◌⊎◌, inl, inr, refl, sym, ap, ◌∙◌, subst, arith, lit<}
+use Rattle.std.proofs.Common.{◌≡◌, ℕ, suc, ◌-◌, ◌/◌, ◌%◌, ◌^◌, ◌<◌, ◌≤◌, ◌==◌, true, ◌⊎◌, inl, inr, sym, ap, ◌∙◌, subst, arith}
 use Rattle.std.proofs.Math.Numerals.{one-add}
 use Rattle.std.proofs.Math.Pow.{shr_lt, pow_mono}
 use Rattle.std.proofs.lemmas.Bool.{cases_lt}
 use Rattle.std.proofs.lemmas.Nat.{le-div, pow_pos, leading_top}
 use Rattle.std.proofs.lemmas.Nat.Bits.{bit_at-trailing_zeros}
-use Rattle.std.specs.Int.{bit_at, w128, trailing_zeros, leading_zeros}
+use Rattle.std.specs.Int.{w128, trailing_zeros, leading_zeros}
 use Rattle.bitvec_mem.specs.Digit.{digit}
 use Rattle.bitvec_mem.specs.Ones.{HasNoOne, IsLowestOne, IsHighestOne}
 use Rattle.bitvec_mem.proofs.DigitLemmas.{digit_above, digit-zero, true_not_false}

@@ -1,4 +1,4 @@
-use Rattle.std.proofs.Common.{◌≡◌, ℕ, ◌-◌, sym, subst, arith}
+use Rattle.std.proofs.Common.{◌-◌, sym, subst, arith}
 use Rattle.std.specs.Int.{w128, leading_zeros}
 use Rattle.bitvec_mem.specs.Ones.{IsHighestOne}
 use Rattle.bitvec_mem.proofs.EndDigits.{no_one, highest}

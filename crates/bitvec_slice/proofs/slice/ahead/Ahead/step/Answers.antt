@@ -1,5 +1,5 @@
-use Rattle.std.proofs.Common.{◌≡◌, ◌+◌, ◌-◌, ◌*◌, ◌<◌, ◌≤◌, refl, ap, ◌∙◌, arith}
-use Rattle.bitvec_slice.specs.BitSlice.{slice_span, bits_of}
+use Rattle.std.proofs.Common.{◌+◌, ◌-◌, ◌*◌, ap, ◌∙◌, arith}
+use Rattle.bitvec_slice.specs.BitSlice.{bits_of}
 use Rattle.bitvec_slice.proofs.FindLemmas.{first_later}
 use Rattle.bitvec_slice.proofs.SkipLemmas.{all_joined}
 use Rattle.bitvec_slice.proofs.WordListLemmas.{chosen_none, chosen_first, chosen_behind}
