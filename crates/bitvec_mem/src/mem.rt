@@ -124,12 +124,12 @@ pub trait BitRegister: Copy + Default + Eq + Ord + Hash + Debug {
         ensures count { result ≡ count_below (digit (number self)) BITS }
         ensures below { number self < 2 ^ BITS };
 
-    /// The number of the value. Our own, in place of the Rust crate's conversions.
+    /// The number of the value. In place of the Rust crate's conversions.
     fn to_u128(self) -> u128
         ensures number { result ≡ number self }
         ensures below { number self < 2 ^ BITS };
 
-    /// The value of the number; `None` where `n` is `2^BITS` or more. Our own.
+    /// The value of the number; `None` where `n` is `2^BITS` or more. Not in the Rust crate.
     fn from_u128(n: u128) -> Option<Self>
         ensures refused { IsNone result ↔ (2 ^ BITS ≤ n) }
         ensures made { IfSome result (λ value. number value ≡ n) };
@@ -174,7 +174,7 @@ pub fn bits_of<R: BitRegister>() -> usize
     R::BITS as usize
 }
 
-/// How many registers hold so many bits: `bits / BITS`, and one more where a remainder is left.
+/// How many registers hold `bits` bits: `bits / BITS`, and one more where a remainder is left.
 /// Constant time.
 pub const fn elts<R: BitRegister>(bits: usize) -> usize
     ensures { result ≡ bits / R.BITS + (if bits % R.BITS == 0 then 0 else 1) }

@@ -1,7 +1,7 @@
 //! The one digit writer that all texts of the layer use, in any base from 2 to 16.
 //!
-//! Our own: the Rust crate's texts go through the number types' formatting, which here would follow
-//! the caller's flags. What is written here never does.
+//! Not in the Rust crate: its texts go through the number types' formatting, which here would
+//! follow the caller's flags. What is written here never does.
 
 ghost use Rattle.std.specs.Prelude.{◌≡◌, ◌≤◌, ◌<◌, ◌+◌, ◌-◌, drop, IsAscii};
 ghost use Rattle.std.specs.Fmt.{WritesStyledOnOk, WritesOnOk, digit_glyph};
@@ -47,7 +47,7 @@ fn encode(n: u128, base: u8, upper: bool, least: usize, out: &mut [u8; 128]) -> 
 
 /// The digits of a number in the base, highest first, with zeros before them up to `least` digits;
 /// `upper` chooses the letters' case. They stand in the buffer that is handed in. Costs by the
-/// digits that are written. Our own.
+/// digits that are written. Not in the Rust crate.
 pub fn numeral_in(n: u128, base: u8, upper: bool, least: usize, buffer: &mut [u8; 128]) -> &str
     requires low { 2 ≤ base }
     requires high { base ≤ 16 }

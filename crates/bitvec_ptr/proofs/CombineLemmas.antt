@@ -38,14 +38,14 @@ pub without_none : (n p : ℕ) (b : Bool) → n ≡ 0 → (b && not (digit n p))
 without_none n p b e = ap (λ d. b && not d) (digit-of_zero n p e) ∙ without_false b
 
 module _ {A B C : Type 0} (f : A → B → C) where
-  long-zip_with : (xs : List A) (ys : List B) (n : ℕ) → n ≤ length xs → n ≤ length ys → n ≤ length (zip_with f xs ys)
+  pub long-zip_with : (xs : List A) (ys : List B) (n : ℕ) → n ≤ length xs → n ≤ length ys → n ≤ length (zip_with f xs ys)
   unfolding zip_with
   long-zip_with [] ys n a b = a
   long-zip_with (x ∷ xs) [] n a b = b
   long-zip_with (x ∷ xs) (y ∷ ys) zero a b = omega arith
   long-zip_with (x ∷ xs) (y ∷ ys) (suc n) a b = let rest = long-zip_with xs ys n (omega arith) (omega arith) in omega (arith, rest)
 
-  get_or-zip_with : (xs : List A) (ys : List B) (i : ℕ) (c : A) (d : B) (e : C) → i < length xs → i < length ys
+  pub get_or-zip_with : (xs : List A) (ys : List B) (i : ℕ) (c : A) (d : B) (e : C) → i < length xs → i < length ys
       → get_or (zip_with f xs ys) i e ≡ f (get_or xs i c) (get_or ys i d)
   unfolding zip_with
   get_or-zip_with [] ys i c d e a b = absurd (omega arith)

@@ -2,7 +2,7 @@
 use Rattle.std.specs.Prelude.{ℕ, pos, nat_abs, ◌+◌, Bool, List, map}
 use Rattle.std.proofs.Common.{zero-le}
 use Rattle.bitvec_ptr.specs.declared.ptr.single.BitPtr.{BitPtr}
-use Rattle.bitvec_ptr.specs.Memory.{memory_bits}
+use Rattle.bitvec_ptr.specs.Memory.{memory_bits, bit_of}
 use Rattle.bitvec_ptr.specs.Place.{Ptr, index_of, words_met}
 
 -- the word and the bit of a pointer
@@ -20,6 +20,10 @@ index_at {a = own} ptr = index_of own.BITS (ptr_of ptr)
 -- the bits of a memory of such words as the pointer is into, by the positions of an order
 abbrev pub bits_by : {R O : Type 0} {a b c d e f g : _} → BitPtr R O a b c d e f g → (ℕ → ℕ) → List R → List Bool
 bits_by {a = own} ptr at words = memory_bits own.BITS at (map own.number words)
+
+-- bit j of those from a pointer on, in a memory of such words as it is into, by the positions of an order
+abbrev pub bit_by : {R O : Type 0} {a b c d e f g : _} → BitPtr R O a b c d e f g → (ℕ → ℕ) → List R → ℕ → Bool
+bit_by {a = own} ptr at words j = bit_of own.BITS at (map own.number words) (index_of own.BITS (ptr_of ptr) + j)
 
 -- the edge of words behind those that `count` bits from a pointer on meet
 abbrev pub far_edge : {R O : Type 0} {a b c d e f g : _} → BitPtr R O a b c d e f g → ℕ → ℕ

@@ -3,6 +3,7 @@ pub mod BitPtrRange
 pub mod Combinations
 pub mod Cursor
 pub mod Memory
+pub mod Pairs
 pub mod Place
 pub mod PtrRange
 pub mod PtrRangeLemmas

@@ -19,7 +19,7 @@ use std::alloc::AllocError;
 /// Where a candidate is not a lawful order of a register: what it gave, and what it should have
 /// given.
 ///
-/// Our own: the Rust crate panics there.
+/// Not in the Rust crate, which panics there.
 ///
 /// # Examples
 ///
@@ -75,7 +75,8 @@ impl<R: BitRegister> Clone for OrderFault<R> {
     }
 }
 
-/// The first register where a candidate is not a lawful order, with its fault there. Our own.
+/// The first register where a candidate is not a lawful order, with its fault there. Not in the
+/// Rust crate.
 ///
 /// # Examples
 ///

@@ -5,7 +5,9 @@ ghost use Rattle.bitvec_order.specs.Order.{mask_start, mask_end, plain_mask_of};
 
 use bitvec_mem::mem::{BitElement, BitRegister, highest_one, lowest_one};
 use bitvec_order::index::{BitEnd, BitIdx, BitMask, BitPos, BitSel, Limits, MaskLimits};
-use bitvec_order::order::{BitAt, Direction, Lsb0, Msb0, OrderCandidate, direction_of};
+use bitvec_order::order::{
+    BitAt, Direction, Lsb0, Msb0, OrderCandidate, direction_of, first_index, last_index,
+};
 use bitvec_order::positions::{
     ByNumbers, ByPosition, Numbers, Positions, plain_mask_between, plain_selector,
 };
@@ -172,6 +174,20 @@ fn a_direction(rt: HostRuntime) {
     assert_eq!(rt; direction_of::<u8, Lsb0>(), Direction::Rises);
     assert_eq!(rt; direction_of::<u8, Msb0>(), Direction::Falls);
     assert_eq!(rt; direction_of::<u8, ByPosition<Swapped>>(), Direction::Other);
+}
+
+#[test]
+fn the_first_index_of_a_one(rt: HostRuntime) {
+    assert_eq!(rt; first_index::<u8, Lsb0>(0x28), Some(3));
+    assert_eq!(rt; first_index::<u8, Msb0>(0x28), Some(2));
+    assert_eq!(rt; first_index::<u8, Msb0>(0x00), None);
+}
+
+#[test]
+fn the_last_index_of_a_one(rt: HostRuntime) {
+    assert_eq!(rt; last_index::<u8, Lsb0>(0x28), Some(5));
+    assert_eq!(rt; last_index::<u8, Msb0>(0x28), Some(4));
+    assert_eq!(rt; last_index::<u8, Msb0>(0x00), None);
 }
 
 #[test]

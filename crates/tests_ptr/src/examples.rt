@@ -69,6 +69,38 @@ fn bits_are_combined(rt: HostRuntime) {
 }
 
 #[test]
+fn pairs_are_counted(rt: HostRuntime) {
+    let memory = [0x2Cu8];
+    let others = [0xFF0Fu16];
+    let from: BitPtr<u8, Lsb0> = BitPtr::new(0, BitIdx::MIN);
+    let other: BitPtr<u16, Lsb0> = BitPtr::new(0, BitIdx::MIN);
+    assert_eq!(rt;
+        from.count_with::<And, u16, Lsb0>(&memory, other, &others, 8),
+        2
+    );
+    assert_eq!(rt;
+        from.count_with::<AndNot, u16, Lsb0>(&memory, other, &others, 8),
+        1
+    );
+}
+
+#[test]
+fn the_first_pair_is_found(rt: HostRuntime) {
+    let memory = [0x2Cu8];
+    let others = [0xFF0Fu16];
+    let from: BitPtr<u8, Lsb0> = BitPtr::new(0, BitIdx::MIN);
+    let other: BitPtr<u16, Lsb0> = BitPtr::new(0, BitIdx::MIN);
+    assert_eq!(rt;
+        from.first_with::<AndNot, u16, Lsb0>(&memory, other, &others, 8),
+        Some(5)
+    );
+    assert_eq!(rt;
+        from.first_with::<AndNot, u16, Lsb0>(&memory, other, &others, 5),
+        None
+    );
+}
+
+#[test]
 fn bits_are_combined_through_a_writer(rt: HostRuntime) {
     let memory = [0x0Fu8];
     let mut target = [0x33u8, 0x33];

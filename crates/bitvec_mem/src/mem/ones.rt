@@ -7,7 +7,7 @@ use crate::mem::BitRegister;
 
 /// The position of the lowest digit of a word that is one, and `None` where none is.
 ///
-/// Constant time. Our own: the Rust crate calls `trailing_zeros` of the word.
+/// Constant time. Not in the Rust crate, which calls `trailing_zeros` of the word.
 ///
 /// # Examples
 ///
@@ -29,7 +29,7 @@ pub fn lowest_one<R: BitRegister>(word: R) -> Option<u8>
 
 /// The position of the highest digit of a word that is one, and `None` where none is.
 ///
-/// Constant time. Our own: the Rust crate calls `leading_zeros` of the word.
+/// Constant time. Not in the Rust crate, which calls `leading_zeros` of the word.
 ///
 /// # Examples
 ///

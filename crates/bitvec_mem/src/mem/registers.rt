@@ -1,4 +1,5 @@
-//! The registers: `u8`, `u16`, `u32`, `u64` and `usize`, and, our own, `u128`.
+//! The registers: `u8`, `u16`, `u32`, `u64` and `usize`, and `u128`, which is not in the Rust
+//! crate.
 //!
 //! One impl of the same shape for each.
 

@@ -13,7 +13,7 @@ use bitvec_mem::mem::BitRegister;
 /// here, and a new one says its bit as the ghost `of` and has two functions on words: the source's
 /// bits are gathered into the word that [`ground`](Combine::ground) gives, and
 /// [`word`](Combine::word) combines the two words whole. There is such a word only where each bit
-/// of the target has a bit of the source that leaves it as it is. Our own.
+/// of the target has a bit of the source that leaves it as it is. Not in the Rust crate.
 ///
 /// # Examples
 ///
@@ -39,19 +39,20 @@ pub trait Combine {
             ≡ of (digit (R.number old) p) (digit (R.number with) p) };
 }
 
-/// The source's bit, as in a copy. Our own.
+/// The source's bit, as in a copy. Not in the Rust crate.
 pub struct Source;
 
-/// Whether both bits are set, as for the intersection of two sets. Our own.
+/// Whether both bits are set, as for the intersection of two sets. Not in the Rust crate.
 pub struct And;
 
-/// Whether at least one of the bits is set, as for the union of two sets. Our own.
+/// Whether at least one of the bits is set, as for the union of two sets. Not in the Rust crate.
 pub struct Or;
 
-/// Whether just one of the bits is set, as for the symmetric difference of two sets. Our own.
+/// Whether just one of the bits is set, as for the symmetric difference of two sets. Not in the
+/// Rust crate.
 pub struct Xor;
 
-/// Whether the target's bit alone is set, as for the difference of two sets. Our own.
+/// Whether the target's bit alone is set, as for the difference of two sets. Not in the Rust crate.
 pub struct AndNot;
 
 impl Combine for Source {

@@ -12,6 +12,8 @@ ghost use Rattle.bitvec_ptr.specs.Steps.{RangeIsIn, AreApart};
 ghost use Rattle.bitvec_ptr.specs.WordWriter.{writer_memory, writer_of};
 
 mod gather;
+mod pairs;
+mod question;
 mod words;
 
 use crate::ptr::combine::{Combine, Source};
@@ -31,7 +33,8 @@ impl<R: BitRegister, O: BitOrder<R>> BitPtr<R, O> {
     /// one, after its last if it is a falling one. Then the mark stands at the target's other edge,
     /// and [`writes`](WordWriter::writes) has grown by the number of words that the target meets.
     /// With count 0 the writer stays as it is. Costs by words where both orders rise, both fall, or
-    /// are one order with both ranges at the same bit of a word; else by bits. Our own.
+    /// are one order with both ranges at the same bit of a word; else by bits. Not in the Rust
+    /// crate.
     #[inline(always)]
     pub fn copy_through<R2: BitRegister, O2: BitOrder<R2>>(
         self,
@@ -74,7 +77,7 @@ impl<R: BitRegister, O: BitOrder<R>> BitPtr<R, O> {
     /// [`Source`]. It takes some operations for each word of the target, and some for each bit
     /// where the orders differ and neither both rise nor both fall. Costs by words where both
     /// orders rise, both fall, or are one order with both ranges at the same bit of a word; else by
-    /// bits. Our own.
+    /// bits. Not in the Rust crate.
     ///
     /// # Examples
     ///
@@ -131,7 +134,7 @@ impl<R: BitRegister, O: BitOrder<R>> BitPtr<R, O> {
     /// what [`copy_through`](BitPtr::copy_through) does, and, where there are bits to copy, a
     /// rising writer where `dest` is at or before this pointer and a falling one otherwise. Mark
     /// and writes move as there. Costs by words where both orders rise, both fall, or are one order
-    /// with both ranges at the same bit of a word; else by bits. Our own.
+    /// with both ranges at the same bit of a word; else by bits. Not in the Rust crate.
     #[inline(always)]
     pub fn copy_within_through(self, dest: Self, writer: &mut WordWriter<R>, count: usize)
         requires from_in { RangeIsIn R.BITS (ptr_of self) (length (writer_of writer.old).words)
@@ -171,7 +174,7 @@ impl<R: BitRegister, O: BitOrder<R>> BitPtr<R, O> {
     /// What is required, and how the mark and the count of writes move, is as for
     /// [`copy_within_through`](BitPtr::copy_within_through), which is this call with [`Source`].
     /// Costs by words where both orders rise, both fall, or are one order with both ranges at the
-    /// same bit of a word; else by bits. Our own.
+    /// same bit of a word; else by bits. Not in the Rust crate.
     ///
     /// # Examples
     ///
@@ -268,7 +271,7 @@ impl<R: BitRegister, O: BitOrder<R>> BitPtr<R, O> {
     /// Bit j of the target's range becomes what `C` makes of it and of bit j of this range,
     /// whatever their registers and orders are. With [`Source`] it is [`copy_to`](BitPtr::copy_to).
     /// Costs by words where both orders rise, both fall, or are one order with both ranges at the
-    /// same bit of a word; else by bits. Our own.
+    /// same bit of a word; else by bits. Not in the Rust crate.
     ///
     /// # Examples
     ///
@@ -368,8 +371,8 @@ impl<R: BitRegister, O: BitOrder<R>> BitPtr<R, O> {
     ///
     /// The two ranges may overlap, and what is copied is what was there before the call. Costs by
     /// words where both orders rise, both fall, or are one order with both ranges at the same bit
-    /// of a word; else by bits. Our own, for the Rust crate's `copy_to` where both pointers are
-    /// into one memory.
+    /// of a word; else by bits. In place of the Rust crate's `copy_to` where both pointers are into
+    /// one memory.
     pub fn copy_within(self, memory: &mut [R], dest: Self, count: usize)
         requires from_in { RangeIsIn R.BITS (ptr_of self) (length memory.old) count }
         requires to_in { RangeIsIn R.BITS (ptr_of dest) (length memory.old) count }
@@ -386,7 +389,7 @@ impl<R: BitRegister, O: BitOrder<R>> BitPtr<R, O> {
     /// The two ranges may overlap, and each bit is combined with what was there before the call.
     /// With [`Source`] it is [`copy_within`](BitPtr::copy_within). Costs by words where both orders
     /// rise, both fall, or are one order with both ranges at the same bit of a word; else by bits.
-    /// Our own.
+    /// Not in the Rust crate.
     ///
     /// # Examples
     ///
@@ -415,7 +418,7 @@ impl<R: BitRegister, O: BitOrder<R>> BitPtr<R, O> {
     ///
     /// It is [`copy_within`](BitPtr::copy_within) with the two sides in each other's place. Costs
     /// by words where both orders rise, both fall, or are one order with both ranges at the same
-    /// bit of a word; else by bits. Our own, for the Rust crate's `copy_from` where both pointers
+    /// bit of a word; else by bits. In place of the Rust crate's `copy_from` where both pointers
     /// are into one memory.
     pub fn copy_from_within(self, memory: &mut [R], src: Self, count: usize)
         requires from_in { RangeIsIn R.BITS (ptr_of src) (length memory.old) count }
@@ -432,8 +435,8 @@ impl<R: BitRegister, O: BitOrder<R>> BitPtr<R, O> {
     ///
     /// Each is to be short enough for a span: at most 2305843009213693951 bits, and an `isize` for
     /// the word of the place after the last. Costs by words where both orders rise, both fall, or
-    /// are one order with both ranges at the same bit of a word; else by bits. Our own, for the
-    /// Rust crate's `copy_to_nonoverlapping` where both pointers are into one memory.
+    /// are one order with both ranges at the same bit of a word; else by bits. In place of the Rust
+    /// crate's `copy_to_nonoverlapping` where both pointers are into one memory.
     pub fn copy_within_nonoverlapping(self, memory: &mut [R], dest: Self, count: usize)
         requires from_in { RangeIsIn R.BITS (ptr_of self) (length memory.old) count }
         requires to_in { RangeIsIn R.BITS (ptr_of dest) (length memory.old) count }

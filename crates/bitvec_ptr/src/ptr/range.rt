@@ -77,8 +77,8 @@ impl<R: BitRegister, O> EmptyRange for BitPtrRange<R, O> {
 impl<R: BitRegister, O> BitPtrRange<R, O> {
     ghost use Rattle.bitvec_ptr.specs.BitPtrRange.{range_of};
 
-    /// Whether the start is not past the end, and their distance is an `isize`. Constant time. Our
-    /// own.
+    /// Whether the start is not past the end, and their distance is an `isize`. Constant time. Not
+    /// in the Rust crate.
     pub fn can_range(range: &Range<BitPtr<R, O>>) -> bool
         ensures { IsTrue result ↔ CanRange R.BITS (ptr_of range.now.start) (ptr_of range.now.end) }
     {

@@ -75,8 +75,8 @@ impl<R: BitRegister, O> Dangling for BitPtr<R, O> {
 impl<R: BitRegister, O> BitPtr<R, O> {
     ghost use Rattle.bitvec_ptr.specs.BitPtr.{ptr_of};
 
-    /// The pointer to the bit `bit` of the word `word`, which may be any word. Constant time. Our
-    /// own.
+    /// The pointer to the bit `bit` of the word `word`, which may be any word. Constant time. Not
+    /// in the Rust crate.
     pub fn new(word: isize, bit: BitIdx<R>) -> Self
         ensures { ptr_of result ≡ record { word = word; bit = bit } }
     {
@@ -88,7 +88,7 @@ impl<R: BitRegister, O> BitPtr<R, O> {
     }
 
     /// The pointer to the bit number `place` of a memory, where the first bit of the first word has
-    /// number 0. Constant time. Our own.
+    /// number 0. Constant time. Not in the Rust crate.
     ///
     /// # Examples
     ///
@@ -191,7 +191,7 @@ impl<R: BitRegister, O> BitPtr<R, O> {
     /// Whether a step by `count` bits stays in range.
     ///
     /// It does exactly where the bit and `count` have a sum that is an `isize`, and the word on
-    /// which the step ends is one too. Constant time. Our own.
+    /// which the step ends is one too. Constant time. Not in the Rust crate.
     pub fn can_offset(self, count: isize) -> bool
         ensures { IsTrue result ↔ CanOffset R.BITS (ptr_of self) count }
     {
@@ -274,7 +274,7 @@ impl<R: BitRegister, O> BitPtr<R, O> {
         self.wrapping_offset(count.cast_signed().wrapping_neg())
     }
 
-    /// Whether the distance from `origin` is an `isize`. Constant time. Our own.
+    /// Whether the distance from `origin` is an `isize`. Constant time. Not in the Rust crate.
     pub fn can_offset_from(self, origin: Self) -> bool
         ensures { IsTrue result ↔ FitsSigned w64 (distance R.BITS (ptr_of self) (ptr_of origin)) }
     {
@@ -290,7 +290,7 @@ impl<R: BitRegister, O> BitPtr<R, O> {
         (self.place() - origin.place()) as isize
     }
 
-    /// Whether the pointer's word is one of `words` words. Constant time. Our own.
+    /// Whether the pointer's word is one of `words` words. Constant time. Not in the Rust crate.
     pub fn is_in(self, words: usize) -> bool
         ensures { IsTrue result ↔ IsIn (ptr_of self) words }
     {
@@ -306,7 +306,8 @@ impl<R: BitRegister, O> BitPtr<R, O> {
 
     /// Whether the words that `count` bits from this one on meet are among the first `words` of a
     /// memory. For no bits, which meet no word, it is whether the pointer's word is from 0 to
-    /// `words`, so that the place behind the last word is let in. Constant time. Our own.
+    /// `words`, so that the place behind the last word is let in. Constant time. Not in the Rust
+    /// crate.
     pub fn run_in(self, words: usize, count: usize) -> bool
         ensures { IsTrue result ↔ RangeIsIn R.BITS (ptr_of self) words count }
     {
@@ -417,7 +418,7 @@ impl<R: BitRegister, O: BitOrder<R>> BitPtr<R, O> {
     }
 
     /// Exchanges two bits of one memory, and changes no other bit: [`is_in`](BitPtr::is_in) is the
-    /// test of each. Constant time. Our own, for the Rust crate's `swap` where both pointers are
+    /// test of each. Constant time. In place of the Rust crate's `swap` where both pointers are
     /// into one memory.
     pub fn swap_within(self, memory: &mut [R], with: Self)
         requires self_in { IsIn (ptr_of self) (length memory.old) }

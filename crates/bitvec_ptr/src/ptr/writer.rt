@@ -23,7 +23,7 @@ pub(super) fn near_edge(rising: bool, first: usize, count: usize) -> usize
 ///
 /// The mark is an edge between two words. A rising writer puts no word below its mark, a falling
 /// one none at or above it, and each `put` moves the mark over the word that it wrote. When the
-/// loan ends, the memory is the writer's words. Our own.
+/// loan ends, the memory is the writer's words. Not in the Rust crate.
 ///
 /// # Examples
 ///

@@ -165,8 +165,36 @@ fn mask_between<R: BitRegister, O: BitOrder<R>>(bit: u8, count: u8) -> R
     O::mask(Some(from), Some(upto)).into_inner()
 }
 
+// The mask of `count` indices from `bit` on, in an order whose positions rise, or fall: digits side
+// by side.
+#[inline(always)]
+fn stretch_mask<R: BitRegister, O: BitAt<R>>(rising: bool, bit: u8, count: u8) -> R
+    requires some { 0 < count }
+    requires end { bit + count ≤ R.BITS }
+    requires rising { rising ≡ true → Rises R.BITS O.at_of }
+    requires falling { rising ≡ false → Falls R.BITS O.at_of }
+    ensures { IsMaskOf R.BITS O.at_of bit (bit + count) (R.number result) }
+{
+    let position = if rising { bit } else { R::BITS - bit - count };
+    R::ALL.shr(R::BITS - count).shl(position)
+}
+
+// The word with its bits under a mask, those of `count` indices from `bit` on, as another word has
+// them.
+#[inline(always)]
+fn under_mask<R: BitRegister, O: BitOrder<R>>(word: R, with: R, mask: R, bit: u8, count: u8) -> R
+    requires end { bit + count ≤ R.BITS }
+    requires mask { IsMaskOf R.BITS O.at_of bit (bit + count) (R.number mask) }
+    ensures inside { (j : ℕ) → j < count → digit (R.number result) (O.at_of (bit + j))
+        ≡ digit (R.number with) (O.at_of (bit + j)) }
+    ensures outside { (j : ℕ) → j < R.BITS → (j < bit) ⊎ (bit + count ≤ j)
+        → digit (R.number result) (O.at_of j) ≡ digit (R.number word) (O.at_of j) }
+{
+    word.and(mask.not()).or(with.and(mask))
+}
+
 // The word with `count` of its bits, from index `bit` on, as another word has them.
-fn with_bits<R: BitRegister, O: BitOrder<R>>(word: R, with: R, bit: u8, count: u8) -> R
+pub(super) fn with_bits<R: BitRegister, O: BitOrder<R>>(word: R, with: R, bit: u8, count: u8) -> R
     requires start { bit < R.BITS }
     requires end { bit + count ≤ R.BITS }
     ensures inside { (j : ℕ) → j < count → digit (R.number result) (O.at_of (bit + j))
@@ -179,7 +207,29 @@ fn with_bits<R: BitRegister, O: BitOrder<R>>(word: R, with: R, bit: u8, count: u
         return with;
     }
     let mask = mask_between::<R, O>(bit, count);
-    word.and(mask.not()).or(with.and(mask))
+    under_mask::<R, O>(word, with, mask, bit, count)
+}
+
+// The same in an order whose positions rise, or fall.
+#[inline(always)]
+fn with_stretch<R: BitRegister, O: BitOrder<R>>(
+    rising: bool,
+    word: R,
+    with: R,
+    bit: u8,
+    count: u8,
+) -> R
+    requires some { 0 < count }
+    requires end { bit + count ≤ R.BITS }
+    requires rising { rising ≡ true → Rises R.BITS O.at_of }
+    requires falling { rising ≡ false → Falls R.BITS O.at_of }
+    ensures inside { (j : ℕ) → j < count → digit (R.number result) (O.at_of (bit + j))
+        ≡ digit (R.number with) (O.at_of (bit + j)) }
+    ensures outside { (j : ℕ) → j < R.BITS → (j < bit) ⊎ (bit + count ≤ j)
+        → digit (R.number result) (O.at_of j) ≡ digit (R.number word) (O.at_of j) }
+{
+    let mask = stretch_mask::<R, O>(rising, bit, count);
+    under_mask::<R, O>(word, with, mask, bit, count)
 }
 
 // The word with `count` of its bits, from index `bit` on, read one by one from those of another
@@ -273,13 +323,13 @@ fn gathered_from_word<R: BitRegister, O: BitOrder<R>, R2: BitRegister, O2: BitOr
     match way {
         Way::Rising => {
             let with = carried::<R, R2>(read, from, bit, count);
-            return with_bits::<R2, O2>(word, with, bit, count);
+            return with_stretch::<R2, O2>(true, word, with, bit, count);
         }
         Way::Falling => {
             let lowest = R::BITS - from - count;
             let position = R2::BITS - bit - count;
             let with = carried::<R, R2>(read, lowest, position, count);
-            return with_bits::<R2, O2>(word, with, bit, count);
+            return with_stretch::<R2, O2>(false, word, with, bit, count);
         }
         Way::Whole | Way::Singly => {}
     }
@@ -318,11 +368,11 @@ pub(super) fn gathered_from_pair<R: BitRegister, O: BitOrder<R>, R2: BitRegister
         }
         Way::Rising => {
             let with = lined_up::<R, O, R2, O2>(true, low, high, shift, bit);
-            return with_bits::<R2, O2>(word, with, bit, count);
+            return with_stretch::<R2, O2>(true, word, with, bit, count);
         }
         Way::Falling => {
             let with = lined_up::<R, O, R2, O2>(false, low, high, shift, bit);
-            return with_bits::<R2, O2>(word, with, bit, count);
+            return with_stretch::<R2, O2>(false, word, with, bit, count);
         }
         Way::Singly => {}
     }

@@ -184,7 +184,7 @@ fn combine_row_falling_within<C: Combine, R: BitRegister, O: BitOrder<R>>(
 }
 
 // Whether all of `count` bits from an index of a word on lie in that word.
-fn is_in_one_word<R: BitRegister>(bit: u8, count: usize) -> bool
+pub(super) fn is_in_one_word<R: BitRegister>(bit: u8, count: usize) -> bool
     requires some { 0 < count }
     requires bit_in { bit < R.BITS }
     ensures met { result ≡ true → words_met R.BITS bit count ≡ 1 }
@@ -217,18 +217,18 @@ fn whole_and_last<R: BitRegister>(bit: u8, count: usize) -> (usize, u8)
 // word, how many words there are between, and how many bits lie in the last; with the places from
 // which the two later ones are read.
 #[derive(Drop)]
-struct Sections<R: BitRegister> {
-    first: u8,
-    whole: usize,
-    last: u8,
-    middle: Cursor<R>,
-    end: Cursor<R>,
+pub(super) struct Sections<R: BitRegister> {
+    pub(super) first: u8,
+    pub(super) whole: usize,
+    pub(super) last: u8,
+    pub(super) middle: Cursor<R>,
+    pub(super) end: Cursor<R>,
 }
 
 // The sections of a target of `count` bits from an index of a word on, which is combined with the
 // bits from a place on.
 #[inline(always)]
-fn sections_of<R: BitRegister, R2: BitRegister>(
+pub(super) fn sections_of<R: BitRegister, R2: BitRegister>(
     from: Cursor<R>,
     bit: u8,
     count: usize,

@@ -15,7 +15,7 @@ returns-in-Falling-clause-inside g c =
     let carried : IsCarriedFalling bits g.O.BitAt.at_of bits2 g.O2.BitAt.at_of from bit count
     (c.BITS.result - from - count) (c.BITS-in-Falling.result - bit - count)
     (g.R.BitRegister.number c.args.read)
-    (g.R2.BitRegister.number c.carried-with-in-Falling.result) (g.R2.BitRegister.number c.with_bits-in-Falling.result) =
+    (g.R2.BitRegister.number c.carried-with-in-Falling.result) (g.R2.BitRegister.number c.with_stretch-in-Falling.result) =
     record {
       falls = falls.0;
       falls2 = falls.1;
@@ -24,6 +24,6 @@ returns-in-Falling-clause-inside g c =
       lowest_is = omega arith;
       position_is = omega arith;
       moved = c.carried-with-in-Falling.ensures;
-      put = c.with_bits-in-Falling.ensures.inside;
+      put = c.with_stretch-in-Falling.ensures.inside;
     } in
     falling_bits carried

@@ -1,0 +1,12 @@
+use Rattle.std.proofs.Common.{◌≡◌, ◌+◌, ◌*◌, map}
+use Rattle.bitvec_mem.specs.Digit.{count_below}
+use Rattle.bitvec_ptr.specs.Pairs.{pair_of}
+use Rattle.bitvec_ptr.proofs.ptr.copy.pairs.count_row.Given as goal
+
+-- the pairs of the words before this one are counted
+abbrev pub invariant-loop-k : goal.invariant-loop-k
+invariant-loop-k g l =
+    let R = g.R.BitRegister in
+    let R2 = g.R2.BitRegister in
+    l.total ≡ count_below (pair_of g.C.Combine.of R.BITS g.O.BitAt.at_of (map R.number l.memory) (l.to * R.BITS) R2.BITS g.O2.BitAt.at_of (map R2.number l.other)
+    (l.from.word * R2.BITS + l.from.bit)) (l.k * R.BITS)

@@ -1,0 +1,15 @@
+use Rattle.std.proofs.Common.{◌+◌, ◌-◌, ◌*◌, ◌≤◌, map}
+use Rattle.bitvec_ptr.specs.Pairs.{pair_of, NoneBelow}
+use Rattle.bitvec_ptr.proofs.ptr.copy.pairs.first_in_row.Given as goal
+
+-- no pair of the words that were looked at is one
+abbrev pub invariant-loop-done : goal.invariant-loop-done
+invariant-loop-done g l =
+    let R = g.R.BitRegister in
+    let R2 = g.R2.BitRegister in
+    (l.done ≤ l.count)
+    × NoneBelow (pair_of g.C.Combine.of R.BITS g.O.BitAt.at_of (map R.number l.memory) (l.to * R.BITS) R2.BITS g.O2.BitAt.at_of (map R2.number l.other)
+    (l.from.word * R2.BITS + l.from.bit)) (l.done * R.BITS)
+
+abbrev pub decreases-loop-done : goal.decreases-loop-done
+decreases-loop-done g l = l.count - l.done
