@@ -212,7 +212,7 @@ all-becomes bits at span old new ys n same h edit =
     becomes-same bits at span old new _ _ ((λ m. take_all n ys (omega (arith, same, h)) m ++ drop_all n xs (omega (arith, long, h)) m)
     ∙ append-nil ys) edit
 
--- a span lies in a memory of so many words of that width
+-- a span lies in a memory of words of that width
 pub record LiesIn (bits : ℕ) (span : Span) (words : ℕ) : Type 0 where
   pub in_head : span.head < bits
   pub fits : Fits bits span words

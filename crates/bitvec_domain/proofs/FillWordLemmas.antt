@@ -1,20 +1,20 @@
 -- Lists whose bits in some of their words were made the same, and edits that make them.
 use Rattle.std.proofs.Common.{◌≡◌, ℕ, ◌+◌, ◌-◌, ◌/◌, ◌<◌, ◌≤◌, Bool, false, ◌&&◌, nat_le, nat_lt, if◌then◌else◌, List, replicate, length, refl, sym, ap, ◌∙◌, arith, inl, inr}
-use Rattle.std.specs.Prelude.{slice_set, nat_abs}
+use Rattle.std.specs.Prelude.{slice_index, slice_set, nat_abs}
 use Rattle.std.proofs.lemmas.List.{get_or-replicate, length-replicate}
 use Rattle.std.proofs.lemmas.Nat.{div-add-mod', le-div}
 use Rattle.std.proofs.lemmas.Bool.{cases_eq, cases_lt, eq-eqb, ne_eqb, le-leb, lt-leb, lt-ltb, le-ltb}
 use Rattle.bitvec_mem.specs.Digit.{digit}
-use Rattle.bitvec_order.specs.Order.{IsOneToOne}
+use Rattle.bitvec_order.specs.Order.{IsOneToOne, IsMaskOf}
+use Rattle.bitvec_order.proofs.IndexLemmas.{digit-mask_at}
 use Rattle.bitvec_ptr.specs.Place.{words_met}
 use Rattle.bitvec_ptr.proofs.MemoryLemmas.{tabulate_same, tabulate-from_elements, length-tabulate, get_or-tabulate}
 use Rattle.bitvec_ptr.proofs.PlaceLemmas.{words_met-some}
 use Rattle.bitvec_domain.specs.Span.{Span, Fits, BecomesList, list_of, element, with_word, with_words}
 use Rattle.bitvec_domain.specs.Parts.{part_head, part_tail}
-use Rattle.bitvec_domain.specs.Slot.{slot_of, EditsPart}
 use Rattle.bitvec_domain.proofs.BecomesLemmas.{becomes, becomes-same, becomes-then}
-use Rattle.bitvec_domain.proofs.PartEditLemmas.{becomes-put, becomes-edited}
-use Rattle.bitvec_domain.proofs.PartLemmas.{length-list_of}
+use Rattle.bitvec_domain.proofs.PartEditLemmas.{becomes-put}
+use Rattle.bitvec_domain.proofs.PartLemmas.{length-list_of, part_tail-most}
 
 -- whether a word is one of some
 among : (from upto w : ℕ) (bit b : Bool) → from ≤ w → w < upto → (if nat_le from w && nat_lt w upto then bit else b) ≡ bit
@@ -91,12 +91,18 @@ module _ (bits : ℕ) (at : ℕ → ℕ) (span : Span) (bit : Bool) (old : List 
   pub fills-none : (k : ℕ) → Fills k k old
   fills-none k = becomes bits at span old old _ (sym (words-none bits span.head first bit k)) (λ place out. refl) refl
 
-  -- the part in one word
-  pub part-fills : (k : ℕ) (new : List ℕ) (answer : ℕ) → IsOneToOne bits at → span.head < bits → Fits bits span (length old)
-      → k < words_met bits span.head span.len → EditsPart bits at (slot_of bits span k) (λ i. bit) old new answer → Fills k (k + 1) new
-  part-fills k new answer law in_head fits met edits =
+  -- the part in one word, by a mask of its positions
+  pub part-fills : (k : ℕ) (new : List ℕ) (mask word : ℕ) → IsOneToOne bits at → span.head < bits → Fits bits span (length old)
+      → k < words_met bits span.head span.len → IsMaskOf bits at (part_head span.head k) (part_tail bits span.head span.len k) mask
+      → new ≡ slice_set old (nat_abs span.word + k) word
+      → ((p : ℕ) → p < bits → digit word p ≡ (if digit mask p then bit else digit (slice_index old (nat_abs span.word + k)) p)) → Fills k (k + 1) new
+  part-fills k new mask word law in_head fits met ones put digits =
       becomes-same bits at span old new _ _ (words-one bits span.head first bit k)
-      (becomes-edited bits at span k (λ i. bit) old new answer law in_head fits met edits (λ j. bit) (λ j h e. refl))
+      (becomes-put bits at span k (λ i. bit) old new word in_head fits met put
+      (λ i h. digits (at i) (law.below i h)
+      ∙ ap (λ b. if b then bit else digit (slice_index old (nat_abs span.word + k)) (at i))
+      (digit-mask_at bits at (part_head span.head k) (part_tail bits span.head span.len k) mask i law (part_tail-most bits span.head span.len k (omega (arith, in_head)) met) ones h))
+      (λ j. bit) (λ j h e. refl))
 
   -- a whole word
   pub word-fills : (k : ℕ) (new : List ℕ) (word : ℕ) → IsOneToOne bits at → span.head < bits → Fits bits span (length old) → 0 < k

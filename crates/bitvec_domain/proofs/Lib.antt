@@ -1,6 +1,7 @@
 pub mod AppendLemmas
 pub mod BecomesLemmas
 pub mod ByteLemmas
+pub mod CombineSpanLemmas
 pub mod CoverLemmas
 pub mod DisjointLemmas
 pub mod EditLemmas
@@ -11,6 +12,8 @@ pub mod LeftLemmas
 pub mod LentSlices
 pub mod LoanEnds
 pub mod LoanLemmas
+pub mod MappedLemmas
+pub mod PairSpanLemmas
 pub mod PartEditLemmas
 pub mod PartLemmas
 pub mod PointerLemmas
@@ -21,3 +24,4 @@ pub mod SplitLemmas
 pub mod StretchLemmas
 pub mod TextLemmas
 pub mod WordsLemmas
+pub mod ZipLemmas

@@ -4,7 +4,7 @@ use Rattle.std.specs.Prelude.{slice_index, nat_abs}
 use Rattle.std.proofs.Math.Bool.{and_comm}
 use Rattle.std.proofs.lemmas.Bool.{cases_eq, cases_lt, eq-eqb, ne_eqb, le-leb, lt-leb, lt-ltb, le-ltb}
 use Rattle.std.proofs.lemmas.List.{get_or_past}
-use Rattle.std.proofs.lemmas.Nat.{mul-le, div-add-mod', div-mul-add, mod-mul-add}
+use Rattle.std.proofs.lemmas.Nat.{mul-le, div-add-mod', div-mul-add, mod-mul-add, mod_below}
 use Rattle.bitvec_mem.specs.Digit.{digit}
 use Rattle.bitvec_order.specs.Order.{IsOneToOne, IsMaskOf, number_of}
 use Rattle.bitvec_order.proofs.IndexLemmas.{digit-mask_at, number_of-from_digits}
@@ -138,6 +138,15 @@ past_part bits head len k i in_word met past =
           let product : k * bits ≡ (head + len - 1) / bits * bits = ap (λ n. n * bits) same in
           omega arith)
       | inr differ ↦ absurd (let row : (k + 1) * bits ≤ (head + len - 1) / bits * bits = mul-le (k + 1) bits ((head + len - 1) / bits) bits (omega arith) (omega arith) in omega arith)
+    ]
+
+-- a part ends in its word
+pub part_tail-most : (bits head len k : ℕ) → 0 < bits → k < words_met bits head len → part_tail bits head len k ≤ bits
+part_tail-most bits head len k some met =
+    elim (cases_eq (k + 1) (words_met bits head len)) [
+      | inl e ↦ rw (eq-eqb (k + 1) (words_met bits head len) e)
+          (omega (arith, tail_of-some bits head len (some_len bits head len k met), mod_below (head + len - 1) bits some))
+      | inr differ ↦ rw (ne_eqb (k + 1) (words_met bits head len) differ) (omega arith)
     ]
 
 -- parts with the same word and bounds are the same

@@ -9,6 +9,7 @@ pub mod DomainMut
 pub mod ItemText
 pub mod Lending
 pub mod Loans
+pub mod Mapped
 pub mod PartialElementMut
 pub mod Parts
 pub mod Pieces
@@ -19,6 +20,7 @@ pub mod Span
 pub mod SpanLemmas
 pub mod SpanText
 pub mod Stretch
+pub mod Truths
 pub use Rattle.bitvec_mem.specs.Digit
 pub use Rattle.bitvec_mem.specs.Numeral
 pub use Rattle.bitvec_order.specs.Order

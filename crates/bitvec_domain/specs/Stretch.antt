@@ -23,6 +23,6 @@ no_stretch = record { first = 0; count = 0; head = 0; len = 0 }
 abbrev pub slot_stretch : Slot → Stretch
 slot_stretch slot = record { first = slot.word; count = 1; head = slot.head; len = slot.tail - slot.head }
 
--- all bits of so many words, from a memory's first on
+-- all bits of some words, from a memory's first on
 abbrev pub whole_stretch : ℕ → ℕ → Stretch
 whole_stretch bits count = record { first = 0; count = count; head = 0; len = count * bits }

@@ -21,7 +21,7 @@ use std::marker::PhantomData;
 /// The bits that a span has in the words of a memory borrowed for writing: one stretch of them, or
 /// those of a head, of whole words and of a tail.
 ///
-/// Our own, for the Rust crate's `BitDomain` over a mutable memory.
+/// In place of the Rust crate's `BitDomain` over a mutable memory.
 ///
 /// # Examples
 ///
@@ -257,7 +257,7 @@ impl<'a, R: BitRegister, O> DomainMut<'a, R, O> {
     ///
     /// Each stretch has the loan of its part, and lies in it where the part does; an absent part is
     /// a stretch without bits. Requires a body that is no longer than one span's can be, as each
-    /// from [`domain_mut`](BitSpan::domain_mut) is. Constant time. Our own, for the Rust crate's
+    /// from [`domain_mut`](BitSpan::domain_mut) is. Constant time. In place of the Rust crate's
     /// `into_bit_domain` over a mutable memory.
     pub fn into_bit_domain(self) -> BitDomainMut<'a, R, O>
         requires { HasShortBody R.BITS (lent_parts R.number self) }
@@ -289,7 +289,7 @@ impl<R: BitRegister, O> BitSpan<R, O> {
     /// last words of the head's loan, of the body's and of the tail's, one behind the other; the
     /// words of an absent part are as before. The loans are those of
     /// [`domain_mut`](BitSpan::domain_mut). Requires that the span lies within the memory. Constant
-    /// time. Our own, for the Rust crate's `bit_domain_mut`.
+    /// time. In place of the Rust crate's `bit_domain_mut`.
     pub fn bit_domain_mut<'a>(self, memory: &'a mut [R]) -> BitDomainMut<'a, R, O>
         requires { Fits R.BITS (span_of self) (length memory.old) }
         ensures* ends { sem 𝓛 (LendsBits R.row R.BITS (span_of self) memory.entry result) }

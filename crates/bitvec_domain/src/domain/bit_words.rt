@@ -20,7 +20,7 @@ use std::marker::PhantomData;
 /// Some bits that lie one behind another: borrowed words, the index of the first bit in the first
 /// of them, and how many bits there are.
 ///
-/// Our own, for the Rust crate's bit slices.
+/// In place of the Rust crate's bit slices.
 ///
 /// # Examples
 ///
@@ -105,7 +105,7 @@ pub(super) fn word_pointer<R: BitRegister, O>(head: u8, i: usize) -> BitPtr<R, O
 impl<'a, R: BitRegister, O: BitOrder<R>> BitWords<'a, R, O> {
     ghost use Rattle.bitvec_domain.specs.BitDomain.{word_bits};
 
-    /// The bit `i` places after the first. Constant time.
+    /// Bit `i`. Constant time.
     pub fn read(&self, i: usize) -> bool
         requires { i < (word_bits R.number self.now).len }
         ensures { slice_get (bits_list R.BITS O.at_of (word_bits R.number self.now)) i

@@ -17,8 +17,8 @@ use std::marker::PhantomData;
 /// Some bits that lie one behind another in words borrowed for writing: the words, the index of the
 /// first bit in the first of them, and how many bits there are.
 ///
-/// It borrows the memory in which the words lie, and changes these bits alone. Our own, for the
-/// Rust crate's mutable bit slices.
+/// It borrows the memory in which the words lie, and changes these bits alone. In place of the Rust
+/// crate's mutable bit slices.
 ///
 /// # Examples
 ///
@@ -137,7 +137,7 @@ impl<'a, R: BitRegister, O: BitOrder<R>> BitWordsMut<'a, R, O> {
     ghost use Rattle.bitvec_domain.specs.BitWordsMut.{words_memory, memory_numbers, stretch_in};
     ghost use Rattle.bitvec_domain.specs.BitWordsMut.{bit_number};
 
-    /// The bit `i` places after the first. Constant time.
+    /// Bit `i`. Constant time.
     pub fn read(&self, i: usize) -> bool
         requires { i < (stretch_in self.now).len }
         ensures { slice_get (bits_list R.BITS O.at_of
@@ -147,8 +147,8 @@ impl<'a, R: BitRegister, O: BitOrder<R>> BitWordsMut<'a, R, O> {
         word_pointer::<R, O>(self.head, i).read(self.words())
     }
 
-    /// Writes the bit `i` places after the first, and returns the bit before; no other bit of the
-    /// memory changes. Constant time.
+    /// Writes bit `i`, and returns the bit before; no other bit of the memory changes. Constant
+    /// time.
     pub fn replace(&mut self, i: usize, bit: bool) -> bool
         requires { i < (stretch_in self.old).len }
         ensures reference { (words_memory self.new).ghost_name

@@ -26,7 +26,7 @@ use bitvec_order::order::{BitOrder, Lsb0};
 /// The words that a span meets, borrowed for writing: one part of a word, or whole words with
 /// perhaps a part before them and perhaps a part behind them.
 ///
-/// Our own, for the Rust crate's `Domain` over a mutable memory.
+/// In place of the Rust crate's `Domain` over a mutable memory.
 ///
 /// # Examples
 ///
@@ -250,7 +250,7 @@ impl<R: BitRegister, O> BitSpan<R, O> {
     /// words up to its own, which is its last, and the tail's all words from its own on. When the
     /// loans end, the memory is what they leave, one behind the other; words that no loan has are
     /// as before. Requires a span that [`fits`](BitSpan::fits), and the body is no longer than one
-    /// span's can be. Constant time. Our own, for the Rust crate's domains over a mutable memory.
+    /// span's can be. Constant time. In place of the Rust crate's domains over a mutable memory.
     pub fn domain_mut<'a>(self, memory: &'a mut [R]) -> DomainMut<'a, R, O>
         requires { Fits R.BITS (span_of self) (length memory.old) }
         ensures* ends { sem 𝓛 (LendsDomain R.row R.BITS (span_of self) memory.entry result) }

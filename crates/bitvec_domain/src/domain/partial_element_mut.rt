@@ -20,7 +20,7 @@ use std::marker::PhantomData;
 
 /// Some bits of one word, borrowed for writing: those with indices from a head to before a tail.
 ///
-/// It borrows the memory in which the word lies, and changes that word alone. Our own, for the Rust
+/// It borrows the memory in which the word lies, and changes that word alone. In place of the Rust
 /// crate's `PartialElement` over a mutable word.
 ///
 /// # Examples
@@ -257,7 +257,7 @@ impl<R: BitRegister, O> BitSpan<R, O> {
 
     /// The part of the `k`-th word that the span meets, counted from 0, for writing.
     ///
-    /// Its bounds are those of [`part`](BitSpan::part). Constant time. Our own.
+    /// Its bounds are those of [`part`](BitSpan::part). Constant time. Not in the Rust crate.
     pub fn part_mut<'a>(self, memory: &'a mut [R], k: usize) -> PartialElementMut<'a, R, O>
         requires fits { Fits R.BITS (span_of self) (length memory.old) }
         requires met { k < words_met R.BITS (span_of self).head (span_of self).len }

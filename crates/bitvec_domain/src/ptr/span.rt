@@ -11,8 +11,10 @@ ghost use Rattle.bitvec_domain.specs.Span.{span_at, span_places, span_upto, span
 ghost use Rattle.bitvec_domain.specs.Span.{list_of, BecomesList};
 ghost use Rattle.bitvec_domain.specs.Parts.{part_head, part_tail};
 
+mod combine;
 mod edit;
 mod error;
+mod question;
 
 pub use crate::ptr::span::error::BitSpanError;
 use bitvec_mem::mem::{BitRegister, elts};
@@ -73,7 +75,7 @@ pub trait SpanLimits: Sized {
     /// The greatest length, in bits.
     const REGION_MAX_BITS: usize;
 
-    /// The greatest number of words that so many bits can meet.
+    /// The greatest number of words that a span can meet.
     const REGION_MAX_ELTS: usize;
 
     ghost EMPTY: { Self };
@@ -158,7 +160,7 @@ impl<R: BitRegister, O> BitSpan<R, O> {
     /// The span of `bits` bits from a pointer on, refused as [`new`](BitSpan::new) of its word and
     /// bit is.
     ///
-    /// Our own, for the Rust crate's private `BitPtr::span`. Constant time.
+    /// In place of the Rust crate's private `BitPtr::span`. Constant time.
     pub fn from_bitptr(pointer: BitPtr<R, O>, bits: usize) -> Result<Self, BitSpanError<R>>
         ensures accepted { IsOk result
             ↔ ((bits ≤ region_max_bits)
@@ -180,8 +182,8 @@ impl<R: BitRegister, O> BitSpan<R, O> {
     /// the first word has number 0.
     ///
     /// It refuses `TooLong(len)` where there are more than 2305843009213693951 bits. Constant time.
-    /// Our own: the way to a span for who counts bits, as [`new`](BitSpan::new) is for who has a
-    /// word and an index in it.
+    /// Not in the Rust crate. It is the way to a span for who counts bits, as [`new`](BitSpan::new)
+    /// is for who has a word and an index in it.
     ///
     /// # Examples
     ///
@@ -204,7 +206,7 @@ impl<R: BitRegister, O> BitSpan<R, O> {
 
     /// The span of `len` bits from the bit number `place` of a memory on.
     ///
-    /// Requires at most 2305843009213693951 bits. Constant time. Our own.
+    /// Requires at most 2305843009213693951 bits. Constant time. Not in the Rust crate.
     pub fn at_unchecked(place: usize, len: usize) -> Self
         requires { len ≤ region_max_bits }
         ensures { span_of result ≡ span_at R.BITS place len }
@@ -273,10 +275,10 @@ impl<R: BitRegister, O> BitSpan<R, O> {
         BitPtr::new(self.word, self.head())
     }
 
-    /// The pointer to the bit `index` places after the first.
+    /// The pointer to bit `index` of the span.
     ///
     /// Requires an index below the length. The pointer lies in each memory that the span
-    /// [`fits`](BitSpan::fits). Constant time. Our own.
+    /// [`fits`](BitSpan::fits). Constant time. Not in the Rust crate.
     pub fn bitptr(self, index: usize) -> BitPtr<R, O>
         requires { index < (span_of self).len }
         ensures place { place_of R.BITS (ptr_of result)
@@ -332,7 +334,7 @@ impl<R: BitRegister, O> BitSpan<R, O> {
     /// the 3 bits there and the 5 from bit 5 on; split at 6, the second part starts at bit 0 of
     /// word 1; and split at 8, it has no bits, at bit 2 of that word. Both parts lie in each memory
     /// that the span [`fits`](BitSpan::fits), where their lists of bits, joined, are the span's.
-    /// Constant time. Our own.
+    /// Constant time. Not in the Rust crate.
     pub fn split_at(self, mid: usize) -> (Self, Self)
         requires { mid ≤ (span_of self).len }
         ensures first { span_of result.0 ≡ span_upto (span_of self) mid }
@@ -357,7 +359,7 @@ impl<R: BitRegister, O> BitSpan<R, O> {
     ///
     /// Requires that `from` is at most `to`, and `to` at most the length. The range lies in each
     /// memory that the span [`fits`](BitSpan::fits), its list there is that range of the span's
-    /// list, and an edit of its list is one of the span's. Constant time. Our own.
+    /// list, and an edit of its list is one of the span's. Constant time. Not in the Rust crate.
     ///
     /// # Examples
     ///
@@ -441,7 +443,7 @@ impl<R: BitRegister, O> BitSpan<R, O> {
 
     /// Whether the words that the span meets are among the first `words` of a memory. For an empty
     /// span, which meets no word, it is whether its word is from 0 to `words`, so that the place
-    /// behind the last word is let in. Constant time. Our own.
+    /// behind the last word is let in. Constant time. Not in the Rust crate.
     ///
     /// # Examples
     ///
@@ -457,7 +459,7 @@ impl<R: BitRegister, O> BitSpan<R, O> {
         0 <= self.word && elements <= words && self.word as usize <= words - elements
     }
 
-    /// Whether no bit is in both spans, as it is where one of them has none. Our own.
+    /// Whether no bit is in both spans, as it is where one of them has none. Not in the Rust crate.
     ///
     /// Spans of one word are disjoint too where their bits are. Constant time.
     pub fn is_disjoint(&self, other: &Self) -> bool

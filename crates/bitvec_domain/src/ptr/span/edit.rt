@@ -1,13 +1,16 @@
 //! Edits of a span's bits in a memory that it fits: each says what the span's list becomes, and
 //! leaves every other bit of the memory as it is.
 
-ghost use Rattle.std.specs.Prelude.{◌≡◌, ℕ, ◌+◌, ◌<◌, ◌≤◌, length, replicate, slice_set};
+ghost use Rattle.std.specs.Prelude.{◌≡◌, ℕ, ◌+◌, ◌<◌, ◌≤◌, if◌then◌else◌, length, replicate};
+ghost use Rattle.std.specs.Prelude.{slice_set};
 ghost use Rattle.std.specs.List.{swap};
 ghost use Rattle.bitvec_mem.specs.Digit.{digit};
+ghost use Rattle.bitvec_order.specs.Order.{IsMaskOf};
 ghost use Rattle.bitvec_ptr.specs.Memory.{list_with_copy};
 ghost use Rattle.bitvec_ptr.specs.Place.{words_met};
 ghost use Rattle.bitvec_domain.specs.Span.{Fits, element, with_words};
 ghost use Rattle.bitvec_domain.specs.BitSpan.{span_of, list_by, Becomes};
+ghost use Rattle.bitvec_domain.specs.Parts.{part_head, part_tail};
 
 use crate::ptr::span::BitSpan;
 use bitvec_mem::mem::BitRegister;
@@ -20,11 +23,23 @@ fn same_bits<R: BitRegister>(bit: bool) -> R
     if bit { R::ALL } else { R::ZERO }
 }
 
+// The word with the digits of a mask all the same.
+#[inline(always)]
+fn filled<R: BitRegister>(word: R, mask: R, bit: bool) -> R
+    ensures { (p : ℕ) → p < R.BITS → digit (R.number result) p
+        ≡ (if digit (R.number mask) p then bit else digit (R.number word) p) }
+{
+    if bit {
+        word.or(mask)
+    } else {
+        word.and(mask.not())
+    }
+}
+
 impl<R: BitRegister, O: BitOrder<R>> BitSpan<R, O> {
-    /// The bit `i` places after the span's first, in a memory that the span
-    /// [`fits`](BitSpan::fits).
+    /// Bit `i` of the span, in a memory that the span [`fits`](BitSpan::fits).
     ///
-    /// Requires that there is one. Constant time. Our own, for the Rust crate's
+    /// Requires that there is one. Constant time. In place of the Rust crate's
     /// `BitSlice::get_unchecked`.
     pub fn read(self, memory: &[R], i: usize) -> bool
         requires fits { Fits R.BITS (span_of self) (length memory.now) }
@@ -34,10 +49,10 @@ impl<R: BitRegister, O: BitOrder<R>> BitSpan<R, O> {
         self.bitptr(i).read(memory)
     }
 
-    /// Writes the bit `i` places after the span's first, and leaves every other bit as it is.
+    /// Writes bit `i` of the span, and leaves every other bit as it is.
     ///
     /// Requires a span that [`fits`](BitSpan::fits), and that there is such a bit. Constant time.
-    /// Our own, for the Rust crate's `BitSlice::set_unchecked`.
+    /// In place of the Rust crate's `BitSlice::set_unchecked`.
     ///
     /// # Examples
     ///
@@ -57,10 +72,10 @@ impl<R: BitRegister, O: BitOrder<R>> BitSpan<R, O> {
         self.bitptr(i).write(memory, bit);
     }
 
-    /// Writes the bit `i` places after the span's first as [`write`](BitSpan::write) does, and
-    /// returns the bit that was there.
+    /// Writes bit `i` of the span as [`write`](BitSpan::write) does, and returns the bit that was
+    /// there.
     ///
-    /// Constant time. Our own, for the Rust crate's `BitSlice::replace_unchecked`.
+    /// Constant time. In place of the Rust crate's `BitSlice::replace_unchecked`.
     pub fn replace(self, memory: &mut [R], i: usize, bit: bool) -> bool
         requires fits { Fits R.BITS (span_of self) (length memory.old) }
         requires inside { i < (span_of self).len }
@@ -73,11 +88,10 @@ impl<R: BitRegister, O: BitOrder<R>> BitSpan<R, O> {
         previous
     }
 
-    /// Exchanges the bits `i` and `j` places after the span's first, and leaves every other bit as
-    /// it is.
+    /// Exchanges bits `i` and `j` of the span, and leaves every other bit as it is.
     ///
     /// Requires a span that [`fits`](BitSpan::fits), and that there are both bits; they may be one.
-    /// Constant time. Our own, for the Rust crate's `BitSlice::swap_unchecked`.
+    /// Constant time. In place of the Rust crate's `BitSlice::swap_unchecked`.
     pub fn swap(self, memory: &mut [R], i: usize, j: usize)
         requires fits { Fits R.BITS (span_of self) (length memory.old) }
         requires first { i < (span_of self).len }
@@ -96,7 +110,7 @@ impl<R: BitRegister, O: BitOrder<R>> BitSpan<R, O> {
     /// was there before the call.
     ///
     /// Requires a span that [`fits`](BitSpan::fits), and that both ranges end within it. Costs by
-    /// words. Our own, for the Rust crate's `BitSlice::copy_within_unchecked`.
+    /// words. In place of the Rust crate's `BitSlice::copy_within_unchecked`.
     pub fn copy_within(self, memory: &mut [R], from: usize, to: usize, count: usize)
         requires fits { Fits R.BITS (span_of self) (length memory.old) }
         requires source_inside { from + count ≤ (span_of self).len }
@@ -124,7 +138,7 @@ impl<R: BitRegister, O: BitOrder<R>> BitSpan<R, O> {
     /// span's, and leaves every other bit as it is.
     ///
     /// Requires that each span [`fits`](BitSpan::fits) its memory, and that they have as many bits.
-    /// Costs by words. Our own, for the Rust crate's `BitSlice::copy_from_bitslice`.
+    /// Costs by words. In place of the Rust crate's `BitSlice::copy_from_bitslice`.
     ///
     /// # Examples
     ///
@@ -154,7 +168,7 @@ impl<R: BitRegister, O: BitOrder<R>> BitSpan<R, O> {
 
     /// Makes each bit of the span in a memory the same, and leaves every other bit as it is.
     ///
-    /// Requires a span that [`fits`](BitSpan::fits). Costs by words. Our own.
+    /// Requires a span that [`fits`](BitSpan::fits). Costs by words. Not in the Rust crate.
     ///
     /// # Examples
     ///
@@ -187,12 +201,21 @@ impl<R: BitRegister, O: BitOrder<R>> BitSpan<R, O> {
         ensures { Becomes self O.at_of memory.old memory.new (with_words R.BITS (span_of self).head
             (list_by self O.at_of memory.old) k (k + 1) bit) }
     {
-        let mut part = self.part_mut(memory, k);
-        if bit {
-            part.set();
-        } else {
-            part.clear();
-        }
+        let word = self.address() as usize + k;
+        let mask = self.mask_among(k);
+        memory[word] = filled(memory[word], mask, bit);
+    }
+
+    // The positions of the span's bits in the `k`-th word that it meets.
+    #[inline(always)]
+    fn mask_among(self, k: usize) -> R
+        requires { k < words_met R.BITS (span_of self).head (span_of self).len }
+        ensures { IsMaskOf R.BITS O.at_of (part_head (span_of self).head k)
+            (part_tail R.BITS (span_of self).head (span_of self).len k) (R.number result) }
+    {
+        let (elements, tail) = self.extent();
+        let (head, tail) = self.bounds_among(k, elements, tail);
+        O::mask(Some(head), Some(tail)).into_inner()
     }
 
     // Makes each bit of the words behind the first and before the last, the word `last`, the same.
@@ -213,7 +236,7 @@ impl<R: BitRegister, O: BitOrder<R>> BitSpan<R, O> {
     /// Makes the bits of the span in a memory those of a list of as many, and leaves every other
     /// bit as it is.
     ///
-    /// Requires a span that [`fits`](BitSpan::fits). Costs by bits. Our own, for the Rust crate's
+    /// Requires a span that [`fits`](BitSpan::fits). Costs by bits. In place of the Rust crate's
     /// `BitSlice::clone_from_bitslice`.
     pub fn write_bits(self, memory: &mut [R], bits: &[bool])
         requires fits { Fits R.BITS (span_of self) (length memory.old) }

@@ -1,4 +1,4 @@
-//! Why there is no span of so many bits from a place on.
+//! Why there is no span of a number of bits from a place on.
 
 ghost use Rattle.std.specs.Prelude.{Some};
 ghost use Rattle.std.specs.Fmt.{DisplaysOnOk, WritesStyledOnOk};
@@ -13,7 +13,7 @@ use std::error::Error;
 use std::fmt;
 use std::marker::PhantomData;
 
-/// Why there is no span of so many bits from a place on.
+/// Why there is no span of a number of bits from a place on.
 ///
 /// # Examples
 ///
