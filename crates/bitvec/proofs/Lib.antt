@@ -12,8 +12,10 @@ pub mod RisingLemmas
 pub mod TurnLemmas
 pub use Rattle.bitvec_mem.proofs.DigitLemmas
 pub use Rattle.bitvec_order.proofs.Block
+pub use Rattle.bitvec_order.proofs.CountLemmas
 pub use Rattle.bitvec_order.proofs.IndexLemmas
 pub use Rattle.bitvec_ptr.proofs.BitLemmas
+pub use Rattle.bitvec_ptr.proofs.CombineLemmas
 pub use Rattle.bitvec_ptr.proofs.CopyLemmas
 pub use Rattle.bitvec_ptr.proofs.MemoryLemmas
 pub use Rattle.bitvec_ptr.proofs.PlaceLemmas
@@ -24,3 +26,4 @@ pub use Rattle.bitvec_domain.proofs.PartEditLemmas
 pub use Rattle.bitvec_domain.proofs.PartLemmas
 pub use Rattle.bitvec_domain.proofs.PointerLemmas
 pub use Rattle.bitvec_domain.proofs.SplitLemmas
+pub use Rattle.bitvec_domain.proofs.ZipLemmas

@@ -1,20 +1,22 @@
 -- Spans taken in another order: relations of each two of them, and the last one with bits in an order in which places rise.
-use Rattle.std.proofs.Common.{◌≡◌, ℕ, negsuc, ◌*◌, ℤ, pos, ◌+◌, ◌<◌, ◌≤◌, ◌+ℤ◌, ◌≤ℤ◌, ◌<ℤ◌, ◌⊎◌, List, length, get_or, [], ◌∷◌, zero-add, refl, sym, ◌∙◌, subst, ap, inl, inr, arith}
+use Rattle.std.proofs.Common.{◌≡◌, ℕ, ℤ, ◌*◌, pos, negsuc, ◌+◌, ◌<◌, ◌≤◌, ◌≤ℤ◌, ◌⊎◌, List, length, get_or, [], ◌∷◌, zero-add, refl, sym, ◌∙◌, subst, ap, inl, inr, arith}
 use Rattle.std.specs.Prelude.{nat_abs, map, All, AllPairs, swap}
+use Rattle.std.specs.Int.{w64, cast_unsigned}
 use Rattle.std.specs.List.{range_with_len}
 use Rattle.std.specs.List.Sorted.{IsPermutation, IsNonDecreasingBy}
 use Rattle.std.proofs.lemmas.Bool.{cases_eq, cases_lt}
-use Rattle.std.proofs.lemmas.Int.{ints, by_lt_z}
+use Rattle.std.proofs.lemmas.Int.{ints}
 use Rattle.std.proofs.lemmas.List.{get_or_default}
 use Rattle.std.proofs.lemmas.List.Edits.{length-swap, swapped_from_swap}
 use Rattle.std.proofs.lemmas.List.FromFn.{fill_by_all, length-range_with_len, get_or-range_with_len}
 use Rattle.std.proofs.lemmas.List.Sorted.{IsPermutation-keeps, All-permutation, IsPermutation-sym}
+use Rattle.std.proofs.lemmas.Nat.{mul-le}
 use Rattle.std.proofs.lemmas.Option.{slice_get_read}
 use Rattle.bitvec_ptr.specs.Place.{place_at}
 use Rattle.bitvec_domain.specs.Span.{Span, AreDisjoint}
 use Rattle.bitvec_domain.proofs.DisjointLemmas.{disjoint-sym}
-use Rattle.bitvec.specs.Run.{span_in, span_or_empty}
-use Rattle.bitvec.proofs.RisingLemmas.{ComesBefore}
+use Rattle.bitvec.specs.Run.{span_in, span_or_empty, start_in}
+use Rattle.bitvec.proofs.RisingLemmas.{place_number}
 
 -- each two elements at different indices are related
 abbrev pub EachTwo : {X : Type 0} → (X → X → Type 0) → List X → Type 0
@@ -133,21 +135,58 @@ below_in_order n order moved =
     let long = length-range_with_len 0 n in
     All-permutation (λ i. i < n) (range_with_len 0 n) order moved (λ k d h. rw (get_or-range_with_len 0 n k d (omega arith)) (omega arith))
 
--- a list along which a number does not fall
-pub rises_from_sort : (key : ℕ → ℕ) (xs : List ℕ) → IsNonDecreasingBy key xs → AllPairs (λ x y. key x ≤ key y) xs
-rises_from_sort key xs sorted i j d below high = sorted i j d (omega arith) high
+-- what holds of each span of a list, and so by its number
+pub span_in-each : {S : Type 0} (P : Span → Type 0) (view : S → Span) (xs : List S) (i : ℕ) → i < length xs → All (λ x. P (view x)) xs → P (span_in view xs i)
+span_in-each P view [] i within all = absurd (omega arith)
+span_in-each P view (x ∷ rest) i within all = subst P (sym (span_in-at view (x ∷ rest) i x within)) (all i x within)
 
--- two places from word 0 on, by their numbers
-pub le_by_number : (bits i j : ℕ) (a b : ℤ) → pos 0 ≤ℤ a → pos 0 ≤ℤ b → nat_abs a * bits + i ≤ nat_abs b * bits + j → place_at bits a i ≤ℤ place_at bits b j
-le_by_number bits i j (pos m) (pos n) low_a low_b h = omega (arith, ints, h)
-le_by_number bits i j (pos m) (negsuc n) low_a low_b h = absurd (omega (arith, ints, low_b))
-le_by_number bits i j (negsuc m) b low_a low_b h = absurd (omega (arith, ints, low_a))
+-- a word above an index in it, as one number
+abbrev pub key_of : Span → ℕ
+key_of span = cast_unsigned w64 span.word * 18446744073709551616 + span.head
 
--- of two disjoint spans of which the second has bits and starts no lower, the first comes before it
-pub before_from_disjoint : (bits : ℕ) (a b : Span) → place_at bits a.word a.head ≤ℤ place_at bits b.word b.head → AreDisjoint bits a b → 0 < b.len → ComesBefore bits a b
-before_from_disjoint bits a b rises apart some =
-    let p = place_at bits a.word a.head in
-    let q = place_at bits b.word b.head in
-    by_lt_z q (p +ℤ pos a.len)
-    (λ (inside : q <ℤ (p +ℤ pos a.len)). absurd (apart q (rises, inside) (omega (arith, ints), omega (arith, ints, some))))
-    (λ (past : (p +ℤ pos a.len) ≤ℤ q). inr past)
+unsigned-pos : (word : ℤ) → pos 0 ≤ℤ word → cast_unsigned w64 word ≡ nat_abs word
+unsigned-pos (pos m) low = refl
+unsigned-pos (negsuc m) low = absurd (omega (arith, ints, low))
+
+-- it rises as the places of spans from word 0 on do
+pub starts-by-key : (bits : ℕ) (a b : Span) → bits ≤ 128 → pos 0 ≤ℤ a.word → pos 0 ≤ℤ b.word → a.head < bits → b.head < bits
+    → key_of a ≤ key_of b → nat_abs a.word * bits + a.head ≤ nat_abs b.word * bits + b.head
+starts-by-key bits a b small low_a low_b in_a in_b rises =
+    let m = nat_abs a.word in
+    let n = nat_abs b.word in
+    let order : m * 18446744073709551616 + a.head ≤ n * 18446744073709551616 + b.head = omega (arith, unsigned-pos a.word low_a, unsigned-pos b.word low_b, rises) in
+    elim (cases_lt m n) [
+      | inl below ↦ (let rows : (m + 1) * bits ≤ n * bits = mul-le (m + 1) bits n bits (omega (arith, below)) (omega arith) in omega (arith, rows, in_a))
+      | inr past ↦ (
+          let same : m ≡ n = omega (arith, past, order, in_a, in_b, small) in
+          let rows : m * bits ≡ n * bits = ap (λ k. k * bits) same in
+          omega (arith, rows, same, order))
+    ]
+
+-- an order of the numbers of spans along which it does not fall
+pub rises_from_sort : {S : Type 0} (bits : ℕ) (view : S → Span) (spans : List S) (order : List ℕ) → bits ≤ 128
+    → All (λ s. pos 0 ≤ℤ (view s).word) spans → All (λ s. (view s).head < bits) spans → All (λ i. i < length spans) order
+    → IsNonDecreasingBy (λ i. key_of (span_in view spans i)) order → AllPairs (λ i j. start_in bits view spans i ≤ start_in bits view spans j) order
+rises_from_sort bits view spans order small low heads inside sorted i j d below high =
+    let m = get_or order i d in
+    let n = get_or order j d in
+    let in_m = inside i d (omega (arith, below, high)) in
+    let in_n = inside j d high in
+    starts-by-key bits (span_in view spans m) (span_in view spans n) small
+    (span_in-each (λ s. pos 0 ≤ℤ s.word) view spans m in_m low) (span_in-each (λ s. pos 0 ≤ℤ s.word) view spans n in_n low)
+    (span_in-each (λ s. s.head < bits) view spans m in_m heads) (span_in-each (λ s. s.head < bits) view spans n in_n heads)
+    (sorted i j d (omega (arith, below)) high)
+
+-- Two spans have a place in common where the second has bits, and starts at the first's start or above, but below its end.
+pub meet_from_numbers : (bits : ℕ) (a b : Span) → pos 0 ≤ℤ a.word → pos 0 ≤ℤ b.word → 0 < b.len
+    → nat_abs a.word * bits + a.head ≤ nat_abs b.word * bits + b.head → nat_abs b.word * bits + b.head < nat_abs a.word * bits + a.head + a.len
+    → AreDisjoint bits a b → ⊥
+meet_from_numbers bits a b low_a low_b some starts inside apart =
+    let p = place_number bits a.head a.word low_a in
+    let q = place_number bits b.head b.word low_b in
+    apart (place_at bits b.word b.head) (omega (arith, ints, p, q, starts), omega (arith, ints, p, q, inside)) (omega (arith, ints), omega (arith, ints, some))
+
+-- where a number is not 0, one of the first i spans of an order ends there
+abbrev pub IsEndOf : ℕ → (ℕ → Span) → List ℕ → ℕ → ℕ → Type 0
+IsEndOf bits view order i upto =
+    0 < upto → (l : ℕ) × (l < i) × (nat_abs (view (get_or order l 0)).word * bits + (view (get_or order l 0)).head + (view (get_or order l 0)).len ≡ upto)

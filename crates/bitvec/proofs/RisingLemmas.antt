@@ -1,50 +1,58 @@
--- Spans in a list whose places rise: each is apart from all before it where it is from the last of these that has bits.
-use Rattle.std.proofs.Common.{◌≡◌, ℕ, ℤ, pos, ◌+◌, ◌<◌, ◌+ℤ◌, ◌≤ℤ◌, ◌<ℤ◌, ◌⊎◌, List, length, get_or, Some, sym, ◌∙◌, subst, ap, inl, inr, arith}
-use Rattle.std.specs.Prelude.{slice_get}
-use Rattle.std.proofs.lemmas.Bool.{cases_eq}
+-- Spans in a list whose places rise: each is apart from all before it where it starts at their greatest end or above.
+use Rattle.std.proofs.Common.{◌≡◌, ℕ, ℤ, pos, negsuc, ◌+◌, ◌-◌, ◌*◌, ◌/◌, ◌<◌, ◌≤◌, ◌+ℤ◌, ◌≤ℤ◌, ◌<ℤ◌, List, length, get_or, Some, sym, ◌∙◌, subst, ap, inl, inr, arith}
+use Rattle.std.specs.Prelude.{nat_abs, slice_get}
+use Rattle.std.proofs.lemmas.Bool.{cases_eq, cases_lt}
 use Rattle.std.proofs.lemmas.Int.{ints}
 use Rattle.std.proofs.lemmas.List.{get_or_default}
+use Rattle.std.proofs.lemmas.Nat.{mul-le, div-add-mod'}
 use Rattle.std.proofs.lemmas.Option.{get_or_from_slice_get}
 use Rattle.bitvec_ptr.specs.Place.{place_at}
-use Rattle.bitvec_domain.specs.Span.{Span, Covers, AreDisjoint}
+use Rattle.bitvec_ptr.proofs.CopyLemmas.{met_covers}
+use Rattle.bitvec_ptr.proofs.PlaceLemmas.{words_met-some}
+use Rattle.bitvec_domain.specs.Span.{Span, Covers, Fits, AreDisjoint}
 use Rattle.bitvec_domain.proofs.DisjointLemmas.{disjoint-none, disjoint-sym}
 
--- what has bits in `a` ends where `b` ends or before, and `b` has bits then
-pub record EndsBy (bits : ℕ) (a b : Span) : Type 0 where
-  pub each : (place : ℤ) → Covers bits a place → (0 < b.len) × (place <ℤ (place_at bits b.word b.head +ℤ pos b.len))
+-- the place of a bit from word 0 on is a number
+pub place_number : (bits i : ℕ) (word : ℤ) → pos 0 ≤ℤ word → place_at bits word i ≡ pos (nat_abs word * bits + i)
+place_number bits i (pos m) low = omega (arith, ints)
+place_number bits i (negsuc m) low = absurd (omega (arith, ints, low))
 
--- `a` has no bits, or ends before `b` starts
-abbrev pub ComesBefore : ℕ → Span → Span → Type 0
-ComesBefore bits a b = (a.len ≡ 0) ⊎ ((place_at bits a.word a.head +ℤ pos a.len) ≤ℤ place_at bits b.word b.head)
+-- a span that has bits lies in a memory where its end does
+pub end_from_fits : (bits : ℕ) (span : Span) (words : ℕ) → 0 < bits → 0 < span.len → Fits bits span words
+    → nat_abs span.word * bits + span.head + span.len ≤ words * bits
+end_from_fits bits span words wide some fits = met_covers bits (nat_abs span.word) span.head span.len words wide some fits.1
 
-pub ends_by-self : (bits : ℕ) (a : Span) → EndsBy bits a a
-ends_by-self bits a = record { each = λ place h. let low = h.0 in let high = h.1 in (omega (arith, ints, low, high), high) }
+pub fits_from_end : (bits : ℕ) (span : Span) (words : ℕ) → 0 < bits → 0 < span.len → pos 0 ≤ℤ span.word
+    → nat_abs span.word * bits + span.head + span.len ≤ words * bits → Fits bits span words
+fits_from_end bits span words wide some low within =
+    let first = nat_abs span.word in
+    let last = (span.head + span.len - 1) / bits in
+    let row : last * bits ≤ span.head + span.len - 1 = omega (arith, div-add-mod' (span.head + span.len - 1) bits) in
+    let met = words_met-some bits span.head span.len some in (
+      low,
+      elim (cases_lt (first + last) words) [
+        | inl below ↦ omega (arith, below, met)
+        | inr past ↦ absurd (let rows : words * bits ≤ (first + last) * bits = mul-le words bits (first + last) bits past (omega arith) in omega (arith, rows, row, within, some))
+      ],
+    )
 
-pub ends_by-none : (bits : ℕ) (a b : Span) → a.len ≡ 0 → EndsBy bits a b
-ends_by-none bits a b none = record { each = λ place h. let low = h.0 in let high = h.1 in absurd (omega (arith, ints, low, high, none)) }
+-- every place of a span is below a number
+abbrev pub IsBelow : ℕ → Span → ℕ → Type 0
+IsBelow bits a upto = (place : ℤ) → Covers bits a place → place <ℤ pos upto
 
-pub ends_by-next : (bits : ℕ) (a b next : Span) → EndsBy bits a b → ComesBefore bits b next → 0 < next.len → EndsBy bits a next
-ends_by-next bits a b next ends before some = record {
-  each = λ place h.
-      let known = ends.each place h in
-      let has = known.0 in
-      let under = known.1 in
-      elim before [
-        | inl none ↦ absurd (omega (arith, has, none))
-        | inr le ↦ (some, omega (arith, ints, under, le))
-      ];
-}
+pub below-own : (bits : ℕ) (a : Span) (upto : ℕ) → (place_at bits a.word a.head +ℤ pos a.len) ≡ pos upto → IsBelow bits a upto
+below-own bits a upto ends place here = omega (arith, ints, here.1, ends)
 
-pub apart_next : (bits : ℕ) (a b next : Span) → EndsBy bits a b → ComesBefore bits b next → AreDisjoint bits a next
-apart_next bits a b next ends before place here there =
-    let known = ends.each place here in
-    let has = known.0 in
-    let under = known.1 in
-    let low = there.0 in
-    elim before [
-      | inl none ↦ absurd (omega (arith, has, none))
-      | inr le ↦ absurd (omega (arith, ints, under, le, low))
-    ]
+pub below-none : (bits : ℕ) (a : Span) (upto : ℕ) → a.len ≡ 0 → IsBelow bits a upto
+below-none bits a upto none place here = absurd (omega (arith, ints, here.0, here.1, none))
+
+pub below-more : (bits : ℕ) (a next : Span) (upto more : ℕ) → IsBelow bits a upto → pos upto ≤ℤ place_at bits next.word next.head
+    → (place_at bits next.word next.head +ℤ pos next.len) ≡ pos more → IsBelow bits a more
+below-more bits a next upto more below starts ends place here = omega (arith, ints, below place here, starts, ends)
+
+-- a span that starts there or above is apart from it
+pub apart_above : (bits : ℕ) (a next : Span) (upto : ℕ) → IsBelow bits a upto → pos upto ≤ℤ place_at bits next.word next.head → AreDisjoint bits a next
+apart_above bits a next upto below starts place here there = absurd (omega (arith, ints, below place here, starts, there.0))
 
 pub apart_none : (bits : ℕ) (a b : Span) → b.len ≡ 0 → AreDisjoint bits a b
 apart_none bits a b none = disjoint-sym bits b a (disjoint-none bits b a none)
@@ -86,38 +94,30 @@ pair_at R xs i j x y is_x is_y all above below =
 abbrev pub AreApartBelow : {X : Type 0} → ℕ → (X → Span) → List X → ℕ → Type 0
 AreApartBelow bits view xs i = ArePairsBelow (λ x y. AreDisjoint bits (view x) (view y)) xs i
 
--- each of them ends where the one at `last` ends or before
-abbrev pub AllEndBy : {X : Type 0} → ℕ → (X → Span) → List X → ℕ → ℕ → Type 0
-AllEndBy {X} bits view xs i last = (a : ℕ) (d : X) → a < i → EndsBy bits (view (get_or xs a d)) (view (get_or xs last d))
+-- every place of each of them is below a number
+abbrev pub AllBelow : {X : Type 0} → ℕ → (X → Span) → List X → ℕ → ℕ → Type 0
+AllBelow {X} bits view xs i upto = (a : ℕ) (d : X) → a < i → IsBelow bits (view (get_or xs a d)) upto
 
--- a span with bits that the last one comes before
-pub one_more_rises : {X : Type 0} (bits : ℕ) (view : X → Span) (xs : List X) (last i : ℕ) (y : X)
-    → slice_get xs i ≡ Some y → AreApartBelow bits view xs i → AllEndBy bits view xs i last
-    → ((d : X) → ComesBefore bits (view (get_or xs last d)) (view y)) → 0 < (view y).len
-    → AreApartBelow bits view xs (i + 1) × AllEndBy bits view xs (i + 1) i
-one_more_rises {X} bits view xs last i y is apart behind before some =
-    let at : ℕ → X → Span = λ a d. view (get_or xs a d) in
-    let next : (a : ℕ) (d : X) → a < i → EndsBy bits (at a d) (view y) = λ a d h.
-    ends_by-next bits (at a d) (at last d) (view y) (behind a d h) (before d) some in (
-      pairs_more (λ a b. AreDisjoint bits (view a) (view b)) xs i y is apart
-          (λ a d h. apart_next bits (at a d) (at last d) (view y) (behind a d h) (before d)),
-      λ a d h. subst (λ v. EndsBy bits (at a d) (view v)) (sym (get_or_from_slice_get xs i y d is))
-          (each_more (λ v. EndsBy bits (view v) (view y)) xs i y is next (ends_by-self bits (view y)) a d h),
-    )
+-- a span that starts there or above
+pub one_more_rises : {X : Type 0} (bits : ℕ) (view : X → Span) (xs : List X) (i upto more : ℕ) (y : X)
+    → slice_get xs i ≡ Some y → AreApartBelow bits view xs i → AllBelow bits view xs i upto
+    → pos upto ≤ℤ place_at bits (view y).word (view y).head → (place_at bits (view y).word (view y).head +ℤ pos (view y).len) ≡ pos more
+    → AreApartBelow bits view xs (i + 1) × AllBelow bits view xs (i + 1) more
+one_more_rises {X} bits view xs i upto more y is apart below starts ends = (
+  pairs_more (λ a b. AreDisjoint bits (view a) (view b)) xs i y is apart
+      (λ a d h. apart_above bits (view (get_or xs a d)) (view y) upto (below a d h) starts),
+  each_more (λ v. IsBelow bits (view v) more) xs i y is
+      (λ a d h. below-more bits (view (get_or xs a d)) (view y) upto more (below a d h) starts ends)
+      (below-own bits (view y) more ends),
+)
 
 -- a span of no bits
-pub one_more_empty : {X : Type 0} (bits : ℕ) (view : X → Span) (xs : List X) (last i : ℕ) (y : X)
-    → slice_get xs i ≡ Some y → AreApartBelow bits view xs i → AllEndBy bits view xs i last
+pub one_more_empty : {X : Type 0} (bits : ℕ) (view : X → Span) (xs : List X) (i upto : ℕ) (y : X)
+    → slice_get xs i ≡ Some y → AreApartBelow bits view xs i → AllBelow bits view xs i upto
     → (view y).len ≡ 0
-    → AreApartBelow bits view xs (i + 1) × AllEndBy bits view xs (i + 1) last
-one_more_empty bits view xs last i y is apart behind none = (
+    → AreApartBelow bits view xs (i + 1) × AllBelow bits view xs (i + 1) upto
+one_more_empty bits view xs i upto y is apart below none = (
   pairs_more (λ a b. AreDisjoint bits (view a) (view b)) xs i y is apart
       (λ a d h. apart_none bits (view (get_or xs a d)) (view y) none),
-  λ a d h. elim (cases_eq a i) [
-    | inl same ↦ (
-        let found = ap (λ n. get_or xs n d) same ∙ get_or_from_slice_get xs i y d is in
-        let empty = ap (λ v. (view v).len) found ∙ none in
-        ends_by-none bits (view (get_or xs a d)) (view (get_or xs last d)) empty)
-    | inr other ↦ behind a d (omega arith)
-  ],
+  each_more (λ v. IsBelow bits (view v) upto) xs i y is below (below-none bits (view y) upto none),
 )

@@ -18,11 +18,11 @@ abbrev pub own_replies : {W : Type 0} → ℕ → List (Request W) → List (Rep
 own_replies s (request ∷ requests) (reply ∷ replies) = if request.span == s then reply ∷ own_replies s requests replies else own_replies s requests replies
 own_replies s requests replies = []
 
--- two lists of requests give each of so many spans the same commands in the same order
+-- two lists of requests give each of `spans` spans the same commands in the same order
 abbrev pub HaveSameOwnCommands : {W : Type 0} → ℕ → List (Request W) → List (Request W) → Type 0
 HaveSameOwnCommands spans requests other_requests = (s : ℕ) → s < spans → own_commands s requests ≡ own_commands s other_requests
 
--- each of so many spans has the same replies in the same order, in two lists of replies to two lists of requests
+-- each of `spans` spans has the same replies in the same order, in two lists of replies to two lists of requests
 abbrev pub HaveSameOwnReplies : {W : Type 0} → ℕ → List (Request W) → List (Reply ℕ) → List (Request W) → List (Reply ℕ) → Type 0
 HaveSameOwnReplies spans requests replies other_requests other_replies = (s : ℕ) → s < spans → own_replies s requests replies ≡ own_replies s other_requests other_replies
 

@@ -11,11 +11,13 @@ pub use Rattle.bitvec_order.specs.Masks
 pub use Rattle.bitvec_order.specs.Order
 pub use Rattle.bitvec_order.specs.OrderLemmas
 pub use Rattle.bitvec_order.specs.Text
+pub use Rattle.bitvec_order.specs.WordEnds
 pub use Rattle.bitvec_verify.specs.Scan
 pub use Rattle.bitvec_verify.specs.Verified
 pub use Rattle.bitvec_ptr.specs.BitPtr
 pub use Rattle.bitvec_ptr.specs.BitPtrRange
 pub use Rattle.bitvec_ptr.specs.Memory
+pub use Rattle.bitvec_ptr.specs.Pairs
 pub use Rattle.bitvec_ptr.specs.Place
 pub use Rattle.bitvec_ptr.specs.PtrRange
 pub use Rattle.bitvec_ptr.specs.PtrRangeLemmas
@@ -40,3 +42,4 @@ pub use Rattle.bitvec_domain.specs.Span
 pub use Rattle.bitvec_domain.specs.SpanLemmas
 pub use Rattle.bitvec_domain.specs.SpanText
 pub use Rattle.bitvec_domain.specs.Stretch
+pub use Rattle.bitvec_domain.specs.Truths

@@ -12,7 +12,7 @@ use Rattle.bitvec.specs.declared.run.command.Reply.{Reply}
 use Rattle.bitvec.specs.declared.run.command.Reply.TheVariants.{NoSpan}
 use Rattle.bitvec.specs.Commands.{outcome, reply_in, list_in, alone, own_commands}
 
--- all spans lie within so many words, and no two have a place in common; `view` gives a span's numbers
+-- all spans lie within `words` words, and no two have a place in common; `view` gives a span's numbers
 abbrev pub CanRun : {S : Type 0} → ℕ → (S → Span) → List S → ℕ → Type 0
 CanRun bits view spans words = All (λ span. Fits bits (view span) words) spans × AllPairs (λ a b. AreDisjoint bits (view a) (view b)) spans
 

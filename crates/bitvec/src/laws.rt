@@ -2,7 +2,7 @@
 //!
 //! Each speaks of the commands of one span alone, the definition that the contract of
 //! [`run`](crate::run::run) says a span's replies and list by. So with that contract a law carries
-//! to any two calls of `run`. Both are our own.
+//! to any two calls of `run`. Neither is in the Rust crate.
 
 ghost use Rattle.bitvec.specs.Laws.{BitCommandsAgree, TurnedOrdersAgree};
 

@@ -12,6 +12,7 @@ pub use crate::domain::{
 pub use crate::index::{BitEnd, BitIdx, BitIdxError, BitMask, BitPos, BitSel, Limits, MaskLimits};
 pub use crate::mem::{BitElement, BitRegister};
 pub use crate::order::{BitAt, BitOrder, LocalBits, Lsb0, Msb0, OrderCandidate};
+pub use crate::ptr::combine::{And, AndNot, Combine, Or, Xor};
 pub use crate::ptr::range::{BitPtrRange, EmptyRange};
 pub use crate::ptr::single::{BitPtr, Dangling};
 pub use crate::ptr::span::{BitSpan, BitSpanError, SpanLimits};

@@ -1,16 +1,16 @@
 //! Commands through disjoint spans of one memory.
 //!
 //! Each span's list of bits goes its own way: what its commands answer, and what they leave, is
-//! what they give on that list alone. All of it is our own.
+//! what they give on that list alone. None of it is in the Rust crate.
 
-ghost use Rattle.std.specs.Prelude.{◌≡◌, ℕ, pos, ◌+ℤ◌, ◌≤ℤ◌, ◌⊎◌, ◌↔◌, IsTrue, IfSome, All};
+ghost use Rattle.std.specs.Prelude.{◌≡◌, ℕ, pos, ◌≤ℤ◌, ◌≤◌, ◌↔◌, IsTrue, IsSome, IfSome, All};
 ghost use Rattle.std.specs.Prelude.{nat_abs, ◌+◌, ◌*◌};
 ghost use Rattle.std.specs.Prelude.{AllPairs, List, [], ◌∷◌, length, map};
-ghost use Rattle.bitvec_ptr.specs.Place.{place_at};
+ghost use Rattle.std.specs.Int.{w64, cast_unsigned};
 ghost use Rattle.bitvec_domain.specs.Span.{AreDisjoint, Fits};
 ghost use Rattle.bitvec_domain.specs.BitSpan.{span_of};
 ghost use Rattle.bitvec.specs.Commands.{reply_number};
-ghost use Rattle.bitvec.specs.Run.{CanRun, IsRun, IsRising, start_in};
+ghost use Rattle.bitvec.specs.Run.{CanRun, IsRun, IsRising, span_in};
 
 use crate::mem::BitRegister;
 use crate::order::BitOrder;
@@ -44,42 +44,107 @@ fn are_apart<R: BitRegister, O>(spans: &[BitSpan<R, O>]) -> bool
     true
 }
 
-// Whether each span lies within a memory of so many words.
+// The number of a span's first bit in its memory; the word's distance from word 0 counts.
+fn start<R: BitRegister, O>(span: BitSpan<R, O>) -> u128
+    ensures { result ≡ nat_abs (span_of span).word * R.BITS + (span_of span).head }
+{
+    let head = span.head().into_inner();
+    span.address().unsigned_abs() as u128 * u128::from(R::BITS) + u128::from(head)
+}
+
+// The number of the bit behind a span's last.
+fn end<R: BitRegister, O>(span: BitSpan<R, O>) -> u128
+    ensures { result ≡ nat_abs (span_of span).word * R.BITS + (span_of span).head
+        + (span_of span).len }
+{
+    start(span) + span.len() as u128
+}
+
+// Whether a span lies within a memory of `words` words, by the number of its end.
+fn lies_within<R: BitRegister, O>(span: BitSpan<R, O>, words: usize) -> bool
+    ensures { IsTrue result ↔ Fits R.BITS (span_of span) words }
+{
+    if span.address() < 0 {
+        return false;
+    }
+    if span.is_empty() {
+        span.address() as usize <= words
+    } else {
+        end(span) <= words as u128 * u128::from(R::BITS)
+    }
+}
+
+// Whether each span lies within a memory of `words` words.
 fn all_fit<R: BitRegister, O>(spans: &[BitSpan<R, O>], words: usize) -> bool
     ensures { IsTrue result ↔ All (λ span. Fits R.BITS (span_of span) words) spans.now }
 {
-    spans.iter().all(|span| span.fits(words))
+    spans.iter().all(|span| lies_within(*span, words))
 }
 
-// Whether a span has no bits, or ends before another starts.
-fn comes_before<R: BitRegister, O>(span: BitSpan<R, O>, next: BitSpan<R, O>) -> bool
-    ensures { IsTrue result ↔ (((span_of span).len ≡ 0)
-        ⊎ ((place_at R.BITS (span_of span).word (span_of span).head +ℤ pos (span_of span).len)
-        ≤ℤ place_at R.BITS (span_of next).word (span_of next).head)) }
+// So few words that the number of each of their bits, and of a bit as far behind them as a span
+// is long, is a `usize` in each register. No memory of today has more.
+const FEW_WORDS: usize = 0x80_0000_0000_0000;
+
+// Whether a span's first word is one of `words` words, or the edge behind them.
+#[inline(always)]
+fn starts_within<R: BitRegister, O>(span: BitSpan<R, O>, words: usize) -> bool
+    ensures { IsTrue result
+        ↔ ((pos 0 ≤ℤ (span_of span).word) × (nat_abs (span_of span).word ≤ words)) }
 {
-    span.is_empty() || span.to_bitptr_range().end() <= next.to_bitptr()
+    0 <= span.address() && span.address() as usize <= words
 }
 
-// Whether the spans lie within so many words and no two have a bit in common, by one pass that
-// tests each with the last one before it that has bits; `None` where a span that has bits starts
-// before that one.
+// The number of a span's first bit, where its word is one of few.
+#[inline(always)]
+fn first_bit<R: BitRegister, O>(span: BitSpan<R, O>) -> usize
+    requires low { pos 0 ≤ℤ (span_of span).word }
+    requires few { nat_abs (span_of span).word ≤ 36028797018963968 }
+    ensures { result ≡ nat_abs (span_of span).word * R.BITS + (span_of span).head }
+{
+    let head = usize::from(span.head().into_inner());
+    span.address() as usize * usize::from(R::BITS) + head
+}
+
+// The numbers of a span's first bit and of the bit behind its last, where it lies within `words`
+// words.
+#[inline(always)]
+fn bits_within<R: BitRegister, O>(span: BitSpan<R, O>, words: usize) -> Option<(usize, usize)>
+    requires { words ≤ 36028797018963968 }
+    ensures inside { IsSome result ↔ Fits R.BITS (span_of span) words }
+    ensures start { IfSome result (λ it. it.0
+        ≡ nat_abs (span_of span).word * R.BITS + (span_of span).head) }
+    ensures end { IfSome result (λ it. it.1 ≡ it.0 + (span_of span).len) }
+{
+    if !starts_within(span, words) {
+        return None;
+    }
+    let start = first_bit(span);
+    let end = start + span.len();
+    if start < end && end > words * usize::from(R::BITS) {
+        return None;
+    }
+    Some((start, end))
+}
+
+// Whether the spans lie within `words` words and no two have a bit in common, by one pass that
+// tests the start of each with the end of the last one before it that has bits; `None` where a span
+// that has bits starts before that one, or where there are more than `FEW_WORDS`.
 fn rising_can_run<R: BitRegister, O>(spans: &[BitSpan<R, O>], words: usize) -> Option<bool>
     ensures { IfSome result (λ can. IsTrue can ↔ CanRun R.BITS span_of spans.now words) }
 {
-    if spans.is_empty() {
-        return Some(true);
-    }
-    if !spans[0].fits(words) {
-        return Some(false);
+    if words > FEW_WORDS {
+        return None;
     }
     let mut last = 0;
-    for i in 1..spans.len() {
-        let (before, span) = (spans[last], spans[i]);
-        if !span.fits(words) {
+    let mut upto = 0;
+    for i in 0..spans.len() {
+        let span = spans[i];
+        let Some((start, end)) = bits_within(span, words) else {
             return Some(false);
-        }
-        if !span.is_empty() {
-            if !comes_before(before, span) {
+        };
+        if start < end {
+            if start < upto {
+                let before = spans[last];
                 return if before.is_disjoint(&span) {
                     None
                 } else {
@@ -87,17 +152,18 @@ fn rising_can_run<R: BitRegister, O>(spans: &[BitSpan<R, O>], words: usize) -> O
                 };
             }
             last = i;
+            upto = end;
         }
     }
     Some(true)
 }
 
-/// Whether each span lies within a memory of so many words and no two have a bit in common: the
+/// Whether each span lies within a memory of `words` words and no two have a bit in common: the
 /// test of [`run`].
 ///
 /// Spans whose places rise, each that has bits behind the one before it that has, take one pass,
 /// and so do those that meet a neighbour in it; spans in no order are tested each with each, which
-/// [`can_run_in`] spares who has room for a number for each. Our own.
+/// [`can_run_in`] spares who has room for a number for each. Not in the Rust crate.
 ///
 /// # Examples
 ///
@@ -117,49 +183,53 @@ pub fn can_run<R: BitRegister, O>(spans: &[BitSpan<R, O>], words: usize) -> bool
     }
 }
 
-// The number of a span's first bit in its memory; the word's distance from word 0 counts.
-fn start<R: BitRegister, O>(span: BitSpan<R, O>) -> u128
-    ensures { result ≡ nat_abs (span_of span).word * R.BITS + (span_of span).head }
+// The word of a span's first bit above the bit's index in it, as one number: it rises as the places
+// of spans from word 0 on do.
+fn key<R: BitRegister, O>(span: BitSpan<R, O>) -> u128
+    ensures { result ≡ cast_unsigned w64 (span_of span).word * 18446744073709551616
+        + (span_of span).head }
 {
-    let head = span.head().into_inner();
-    span.address().unsigned_abs() as u128 * u128::from(R::BITS) + u128::from(head)
+    let word = span.address().cast_unsigned();
+    word as u128 * 0x1_0000_0000_0000_0000 + u128::from(span.head().into_inner())
 }
 
-// The number of the first bit of a span of a list, and 0 where there is no such span.
-fn start_of<R: BitRegister, O>(spans: &[BitSpan<R, O>], i: usize) -> u128
-    ensures { result ≡ start_in R.BITS span_of spans.now i }
+// That of a span of a list, and 0 where there is no such span.
+fn key_of<R: BitRegister, O>(spans: &[BitSpan<R, O>], i: usize) -> u128
+    ensures { result ≡ cast_unsigned w64 (span_in span_of spans.now i).word * 18446744073709551616
+        + (span_in span_of spans.now i).head }
 {
-    if i < spans.len() { start(spans[i]) } else { 0 }
+    if i < spans.len() { key(spans[i]) } else { 0 }
 }
 
 // Puts the numbers of the spans in an order in which their first bits rise.
 fn sort_places<R: BitRegister, O>(spans: &[BitSpan<R, O>], order: &mut [usize])
-    requires { length order.old ≡ length spans.now }
+    requires room { length order.old ≡ length spans.now }
+    requires fit { All (λ span. pos 0 ≤ℤ (span_of span).word) spans.now }
     ensures { IsRising R.BITS span_of spans.now order.new }
 {
     for i in 0..order.len() {
         order[i] = i;
     }
-    order.sort_unstable_by_key(|i| start_of(spans, *i));
+    order.sort_unstable_by_key(|i| key_of(spans, *i));
 }
 
 // Whether no two spans have a bit in common, by one pass in an order in which their places rise:
-// each is tested with the last one before it that has bits.
+// the start of each is tested with the end of the last one before it that has bits.
 fn sorted_apart<R: BitRegister, O>(spans: &[BitSpan<R, O>], order: &[usize]) -> bool
     requires rising { IsRising R.BITS span_of spans.now order.now }
     requires fit { All (λ span. pos 0 ≤ℤ (span_of span).word) spans.now }
     ensures { IsTrue result ↔ AllPairs (λ a b. AreDisjoint R.BITS (span_of a) (span_of b))
         spans.now }
 {
-    let mut last = 0;
-    for i in 1..order.len() {
-        let (lower, upper) = (order[last], order[i]);
-        let (before, span) = (spans[lower], spans[upper]);
-        if !before.is_disjoint(&span) {
-            return false;
-        }
+    let mut upto = 0;
+    for i in 0..order.len() {
+        let number = order[i];
+        let span = spans[number];
         if !span.is_empty() {
-            last = i;
+            if start(span) < upto {
+                return false;
+            }
+            upto = end(span);
         }
     }
     true
@@ -170,7 +240,7 @@ fn sorted_apart<R: BitRegister, O>(spans: &[BitSpan<R, O>], order: &[usize]) -> 
 ///
 /// The room has as many numbers as there are spans. Where all spans fit, it holds their numbers
 /// afterwards, each once, in an order in which their first bits rise; where one does not, it stays
-/// as it was. Our own.
+/// as it was. Not in the Rust crate.
 ///
 /// # Examples
 ///
@@ -229,7 +299,7 @@ fn serve<R: BitRegister, O: BitOrder<R>>(
 /// alone; a request that names no span gets [`Reply::NoSpan`]. In the end each span has the list
 /// that its commands leave, and every other bit of the memory is as before. A refused command
 /// changes nothing. Each request costs what its command does: constant time for one word or bit,
-/// else as the span's `copy_within` or `fill`. Our own.
+/// else as the span's `copy_within` or `fill`. Not in the Rust crate.
 ///
 /// # Examples
 ///

@@ -4,6 +4,7 @@ use bitvec::domain::BitDomain;
 use bitvec::index::BitIdx;
 use bitvec::mem::BitRegister;
 use bitvec::order::{BitOrder, Lsb0, Msb0};
+use bitvec::ptr::combine::{And, Or, Xor};
 use bitvec::ptr::span::{BitSpan, BitSpanError};
 use bitvec::run::{Command, Reply, Request, can_run, can_run_in, run, step};
 use std::marker::PhantomData;
@@ -49,6 +50,96 @@ fn a_range_of_a_span(rt: HostRuntime) {
     let span: BitSpan<u8, Lsb0> = BitSpan::at(2, 12).unwrap();
     span.range(2, 8).fill(&mut memory, true);
     assert_eq!(rt; memory, [0xF0, 0x03]);
+}
+
+#[test]
+fn a_span_combined_with_another(rt: HostRuntime) {
+    let source = [0x0Fu16];
+    let from: BitSpan<u16, Msb0> = BitSpan::at(8, 8).unwrap();
+    let mut memory = [0x30u8, 0x03];
+    let span: BitSpan<u8, Lsb0> = BitSpan::at(4, 8).unwrap();
+    span.combine_from::<Xor, u16, Msb0>(&mut memory, from, &source);
+    assert_eq!(rt; memory, [0x30, 0x0C]);
+}
+
+#[test]
+fn the_pairs_of_two_spans_are_counted(rt: HostRuntime) {
+    let memory = [0x3Cu8, 0x0F];
+    let span: BitSpan<u8, Lsb0> = BitSpan::at(4, 8).unwrap();
+    let others = [0x00F3u16];
+    let other: BitSpan<u16, Msb0> = BitSpan::at(8, 8).unwrap();
+    assert_eq!(rt;
+        span.count_with::<And, u16, Msb0>(&memory, other, &others),
+        4
+    );
+}
+
+#[test]
+fn where_two_spans_differ_first(rt: HostRuntime) {
+    let memory = [0x3Cu8, 0x0F];
+    let span: BitSpan<u8, Lsb0> = BitSpan::at(4, 8).unwrap();
+    let others = [0x00F3u16];
+    let other: BitSpan<u16, Msb0> = BitSpan::at(8, 8).unwrap();
+    assert_eq!(rt;
+        span.first_with::<Xor, u16, Msb0>(&memory, other, &others),
+        Some(2)
+    );
+    assert_eq!(rt;
+        span.first_with::<Xor, u8, Lsb0>(&memory, span, &memory),
+        None
+    );
+}
+
+#[test]
+fn the_intersection_of_two_spans(rt: HostRuntime) {
+    let source = [0x0Fu8];
+    let mut memory = [0x3Cu8];
+    let span: BitSpan<u8, Lsb0> = BitSpan::at(0, 8).unwrap();
+    span.and_from(&mut memory, span, &source);
+    assert_eq!(rt; memory, [0x0C]);
+}
+
+#[test]
+fn the_union_of_two_spans(rt: HostRuntime) {
+    let source = [0x0Fu8];
+    let mut memory = [0x3Cu8];
+    let span: BitSpan<u8, Lsb0> = BitSpan::at(0, 8).unwrap();
+    span.or_from(&mut memory, span, &source);
+    assert_eq!(rt; memory, [0x3F]);
+}
+
+#[test]
+fn the_symmetric_difference_of_two_spans(rt: HostRuntime) {
+    let source = [0x0Fu8];
+    let mut memory = [0x3Cu8];
+    let span: BitSpan<u8, Lsb0> = BitSpan::at(0, 8).unwrap();
+    span.xor_from(&mut memory, span, &source);
+    assert_eq!(rt; memory, [0x33]);
+}
+
+#[test]
+fn the_difference_of_two_spans(rt: HostRuntime) {
+    let source = [0x0Fu8];
+    let mut memory = [0x3Cu8];
+    let span: BitSpan<u8, Lsb0> = BitSpan::at(0, 8).unwrap();
+    span.and_not_from(&mut memory, span, &source);
+    assert_eq!(rt; memory, [0x30]);
+}
+
+#[test]
+fn a_span_combined_with_a_range_of_its_own(rt: HostRuntime) {
+    let mut memory = [0x01u8, 0x80];
+    let span: BitSpan<u8, Lsb0> = BitSpan::at(0, 16).unwrap();
+    span.combine_within::<Or>(&mut memory, 0, 3, 13);
+    assert_eq!(rt; memory, [0x09, 0x80]);
+}
+
+#[test]
+fn a_span_turned_over(rt: HostRuntime) {
+    let mut memory = [0x12u8, 0x34, 0x56];
+    let span: BitSpan<u8, Lsb0> = BitSpan::at(4, 16).unwrap();
+    span.invert(&mut memory);
+    assert_eq!(rt; memory, [0xE2, 0xCB, 0x59]);
 }
 
 #[test]

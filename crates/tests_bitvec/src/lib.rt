@@ -12,6 +12,8 @@ mod isolation;
 #[cfg(test)]
 mod laws;
 #[cfg(test)]
+mod names;
+#[cfg(test)]
 mod no_memory;
 #[cfg(test)]
 mod prelude;

@@ -18,7 +18,7 @@ fn elements_are_the_words_with_a_bit<R: BitRegister, O>(span: BitSpan<R, O>, wor
     first <= word && word.abs_diff(first) < span.elements()
 }
 
-// Whether the span of so many bits from place 4 on has a bit in the words from -1 to 3.
+// Whether the span of `bits` bits from place 4 on has a bit in the words from -1 to 3.
 fn words_with_a_bit(bits: usize) -> Option<[bool; 5]> {
     let span: BitSpan<u8, Lsb0> = BitSpan::new(0, BitIdx::new(4).ok()?, bits).ok()?;
     Some([-1, 0, 1, 2, 3].map(|word| elements_are_the_words_with_a_bit(span, word)))

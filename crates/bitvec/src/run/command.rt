@@ -1,6 +1,6 @@
 //! What is asked of a span, and what it returns.
 
-/// A command to one span. Our own.
+/// A command to one span. Not in the Rust crate.
 ///
 /// A `k` counts the words that the span meets, from 0 on; a bit is named by its place in the span,
 /// from 0 to before the span's length. Which commands are refused, [`Reply::PastEnd`] says.
@@ -57,7 +57,7 @@ pub enum Command<R> {
     },
 }
 
-/// A command to the span of a number, from 0 on. Our own.
+/// A command to the span of a number, from 0 on. Not in the Rust crate.
 ///
 /// # Examples
 ///
@@ -79,7 +79,7 @@ pub struct Request<R> {
     pub command: Command<R>,
 }
 
-/// The reply to a request. Our own.
+/// The reply to a request. Not in the Rust crate.
 ///
 /// # Examples
 ///

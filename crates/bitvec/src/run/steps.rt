@@ -199,7 +199,7 @@ fn fill<R: BitRegister, O: BitOrder<R>>(
 /// names a word or a bit past the span's end, and the memory stays then; it never replies
 /// [`Reply::NoSpan`]. Otherwise the span has the list that the command leaves, and every other bit
 /// of the memory is as before, and so is the list of every span that is disjoint from this one. A
-/// `Copy` or a `Fill` costs by words, and each other command constant time. Our own.
+/// `Copy` or a `Fill` costs by words, and each other command constant time. Not in the Rust crate.
 ///
 /// # Examples
 ///

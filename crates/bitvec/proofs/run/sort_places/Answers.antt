@@ -1,17 +1,25 @@
-use Rattle.std.proofs.Common.{length, subst, arith, rules}
+use Rattle.std.proofs.Common.{length, get_or, subst, arith, rules}
+use Rattle.std.specs.List.{range_with_len}
 use Rattle.std.specs.List.Sorted.{IsPermutation}
 use Rattle.std.proofs.lemmas.List.Sorted.{IsNonDecreasingBy-from_sort_by_key}
+use Rattle.bitvec_ptr.proofs.PlaceOrder.{bit_below}
 use Rattle.bitvec_domain.specs.BitSpan.{span_of}
-use Rattle.bitvec.specs.Run.{start_in}
-use Rattle.bitvec.proofs.OrderLemmas.{numbered, rises_from_sort}
+use Rattle.bitvec.specs.Run.{span_in}
+use Rattle.bitvec.proofs.OrderLemmas.{key_of, below_in_order, numbered, rises_from_sort}
 use Rattle.bitvec.proofs.run.sort_places.Goals as goal
 
 pub returns : goal.returns
 returns g c =
+    let width = g.R.BitRegister.BITS in
     let spans = c.args.spans.now in
+    let sorted = c.sort_unstable_by_key.new.self in
     let filled = numbered c.loop-i.order (length c.args.spans.now) (omega arith) (λ k below. c.loop-i.invariant k (omega arith)) in
+    let each : IsPermutation (range_with_len 0 (length spans)) sorted =
+    subst (λ xs. IsPermutation xs sorted) filled c.sort_unstable_by_key.ensures.permutation in
     record {
-      each = subst (λ xs. IsPermutation xs c.sort_unstable_by_key.new.self) filled c.sort_unstable_by_key.ensures.permutation;
-      rises = rises_from_sort (λ n. start_in g.R.BitRegister.BITS span_of spans n) c.sort_unstable_by_key.new.self
-          (IsNonDecreasingBy-from_sort_by_key (λ n. start_in g.R.BitRegister.BITS span_of spans n) _ c.sort_unstable_by_key.ensures.sorted (λ a r q k. search rules));
+      each = each;
+      rises = rises_from_sort width span_of spans sorted (omega (arith, g.met.R.BitRegister.width_at_most_128)) c.requires.fit
+          (λ i d below. bit_below width _ g.met.R.BitRegister.width_at_least_8 (get_or spans i d).in_word)
+          (below_in_order (length spans) sorted each)
+          (IsNonDecreasingBy-from_sort_by_key (λ n. key_of (span_in span_of spans n)) _ c.sort_unstable_by_key.ensures.sorted (λ a r q k. search rules));
     }

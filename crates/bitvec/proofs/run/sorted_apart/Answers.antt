@@ -1,109 +1,101 @@
-use Rattle.std.proofs.Common.{◌≡◌, ℕ, pos, ◌≤◌, ◌+◌, ◌<◌, ◌≤ℤ◌, length, get_or, sym, subst, refl, arith, rules}
+use Rattle.std.proofs.Common.{◌≡◌, ◌≢◌, ℕ, pos, ◌≤◌, ◌+◌, ◌*◌, ◌<◌, ◌+ℤ◌, ◌≤ℤ◌, length, get_or, ap, ◌∙◌, sym, subst, refl, arith, rules}
+use Rattle.std.proofs.lemmas.Int.{ints}
 use Rattle.std.proofs.lemmas.List.{get_or_default}
 use Rattle.std.proofs.lemmas.Option.{slice_get_read}
+use Rattle.std.specs.Prelude.{nat_abs}
+use Rattle.bitvec_ptr.specs.Place.{place_at}
 use Rattle.bitvec_domain.specs.BitSpan.{span_of}
 use Rattle.bitvec_domain.specs.Span.{Span, AreDisjoint}
 use Rattle.bitvec.specs.Run.{span_in, start_in}
-use Rattle.bitvec.proofs.OrderLemmas.{apart_along, apart_back, below_in_order, before_from_disjoint, span_in-read, le_by_number}
-use Rattle.bitvec.proofs.RisingLemmas.{ComesBefore, AllEndBy, pair_at, one_more_rises, one_more_empty}
+use Rattle.bitvec.proofs.OrderLemmas.{IsEndOf, apart_along, apart_back, below_in_order, meet_from_numbers, span_in-at, span_in-read}
+use Rattle.bitvec.proofs.RisingLemmas.{AllBelow, pair_at, place_number, one_more_rises, one_more_empty}
 use Rattle.bitvec.proofs.run.sorted_apart.Goals as goal
-use Rattle.bitvec.proofs.run.sorted_apart.Goals.{then-not-is_empty, else-not-is_empty}
+use Rattle.bitvec.proofs.run.sorted_apart.Goals.{then-not-is_empty+else-start-upto, else-not-is_empty}
 
-pub bounds-spans-lower : goal.bounds-spans-lower
-bounds-spans-lower g c =
-    let last_within : c.loop-i.last < length c.args.order.now = omega (arith, c.loop-i.invariant.last_in) in
-    let lower_in : get_or c.args.order.now c.loop-i.last 0 < length c.args.spans.now = below_in_order (length c.args.spans.now) c.args.order.now c.requires.rising.each c.loop-i.last 0 last_within in
-    search rules
-
-pub offset_bounds-spans-lower : goal.offset_bounds-spans-lower
-offset_bounds-spans-lower g c =
-    let last_within : c.loop-i.last < length c.args.order.now = omega (arith, c.loop-i.invariant.last_in) in
-    let lower_in : get_or c.args.order.now c.loop-i.last 0 < length c.args.spans.now = below_in_order (length c.args.spans.now) c.args.order.now c.requires.rising.each c.loop-i.last 0 last_within in
-    search rules
-
-pub bounds-spans-upper : goal.bounds-spans-upper
-bounds-spans-upper g c =
+pub bounds-spans-number : goal.bounds-spans-number
+bounds-spans-number g c =
     let within : c.loop-i.i < length c.args.order.now = omega arith in
-    let upper_in : get_or c.args.order.now c.loop-i.i 0 < length c.args.spans.now = below_in_order (length c.args.spans.now) c.args.order.now c.requires.rising.each c.loop-i.i 0 within in
+    let inside : get_or c.args.order.now c.loop-i.i 0 < length c.args.spans.now = below_in_order (length c.args.spans.now) c.args.order.now c.requires.rising.each c.loop-i.i 0 within in
     search rules
 
-pub offset_bounds-spans-upper : goal.offset_bounds-spans-upper
-offset_bounds-spans-upper g c =
+pub offset_bounds-spans-number : goal.offset_bounds-spans-number
+offset_bounds-spans-number g c =
     let within : c.loop-i.i < length c.args.order.now = omega arith in
-    let upper_in : get_or c.args.order.now c.loop-i.i 0 < length c.args.spans.now = below_in_order (length c.args.spans.now) c.args.order.now c.requires.rising.each c.loop-i.i 0 within in
+    let inside : get_or c.args.order.now c.loop-i.i 0 < length c.args.spans.now = below_in_order (length c.args.spans.now) c.args.order.now c.requires.rising.each c.loop-i.i 0 within in
     search rules
-
-pub returns-then-not-is_disjoint : goal.returns-then-not-is_disjoint
-returns-then-not-is_disjoint g c =
-    let width = g.R.BitRegister.BITS in
-    let spans = c.args.spans.now in
-    let order = c.args.order.now in
-    let within : c.loop-i.i < length c.args.order.now = omega arith in
-    let last_within : c.loop-i.last < length c.args.order.now = omega (arith, c.loop-i.invariant.last_in, within) in
-    let inside = below_in_order (length spans) order c.requires.rising.each in
-    let lower = get_or order c.loop-i.last 0 in
-    let upper = get_or order c.loop-i.i 0 in
-    let at_lower = span_in-read span_of spans lower c.index-spans-lower.result (inside c.loop-i.last 0 last_within) c.index-spans-lower.is in
-    let at_upper = span_in-read span_of spans upper c.index-spans-upper.result (inside c.loop-i.i 0 within) c.index-spans-upper.is in (
-      λ no. cc,
-      λ apart. c.if-not-is_disjoint.ensures.1
-          (subst (λ s. AreDisjoint width s (span_of c.index-spans-upper.result)) at_lower
-          (subst (λ s. AreDisjoint width (span_in span_of spans lower) s) at_upper
-          (pair_at (λ (a b : ℕ). AreDisjoint width (span_in span_of spans a) (span_in span_of spans b)) order c.loop-i.last c.loop-i.i lower upper
-          (get_or_default order c.loop-i.last 0 lower last_within) (get_or_default order c.loop-i.i 0 upper within)
-          (apart_along width span_of spans order c.requires.rising.each apart) c.loop-i.invariant.last_in within))),
-    )
 
 pub loop-i-preserved : goal.loop-i-preserved
 loop-i-preserved g c =
     let width = g.R.BitRegister.BITS in
     let spans = c.args.spans.now in
     let order = c.args.order.now in
-    let last = c.loop-i.last in
+    let i = c.loop-i.i in
     let so_far = c.loop-i.invariant in
     let within : c.loop-i.i < length c.args.order.now = omega arith in
-    let last_within : c.loop-i.last < length c.args.order.now = omega (arith, so_far.last_in, within) in
-    let inside = below_in_order (length spans) order c.requires.rising.each in
-    let lower = get_or order last 0 in
-    let upper = get_or order c.loop-i.i 0 in
-    let before = c.index-spans-lower.result in
-    let span = c.index-spans-upper.result in
+    let inside = below_in_order (length spans) order c.requires.rising.each i 0 within in
+    let upper = get_or order i 0 in
+    let span = c.index-spans-number.result in
     let view : ℕ → Span = λ n. span_in span_of spans n in
-    let at_lower : view lower ≡ span_of before = span_in-read span_of spans lower before (inside last 0 last_within) c.index-spans-lower.is in
-    let at_upper : view upper ≡ span_of span = span_in-read span_of spans upper span (inside c.loop-i.i 0 within) c.index-spans-upper.is in
-    let is_lower = get_or_default order last 0 lower last_within in
-    let is_upper = get_or_default order c.loop-i.i 0 upper within in
-    let is = slice_get_read order (length order) c.loop-i.i upper refl within is_upper in
+    let at_upper : view upper ≡ span_of span = span_in-read span_of spans upper span inside c.index-spans-number.is in
+    let is = slice_get_read order (length order) i upper refl within (get_or_default order i 0 upper within) in
     elim c.if-not-is_empty.branch [
-      | then-not-is_empty w ↦ (
-          let some : 0 < span.len = search (rules, arith) in
-          let apart : AreDisjoint width (span_of before) (span_of span) = c.if-not-is_disjoint.ensures.0 (search rules) in
-          let apart_here : AreDisjoint width (view lower) (view upper) =
-          subst (λ s. AreDisjoint width s (view upper)) (sym at_lower) (subst (λ s. AreDisjoint width (span_of before) s) (sym at_upper) apart) in
-          let some_here : 0 < (view upper).len = subst (λ (s : Span). 0 < s.len) (sym at_upper) some in
-          let starts = pair_at (λ (a b : ℕ). start_in width span_of spans a ≤ start_in width span_of spans b) order last c.loop-i.i lower upper
-          is_lower is_upper c.requires.rising.rises so_far.last_in within in
-          let low_lower : pos 0 ≤ℤ (view lower).word = subst (λ (s : Span). pos 0 ≤ℤ s.word) (sym at_lower) (subst (λ x. pos 0 ≤ℤ (span_of x).word) (sym c.index-spans-lower.is) (c.requires.fit lower before (inside last 0 last_within))) in
-          let low_upper : pos 0 ≤ℤ (view upper).word = subst (λ (s : Span). pos 0 ≤ℤ s.word) (sym at_upper) (subst (λ x. pos 0 ≤ℤ (span_of x).word) (sym c.index-spans-upper.is) (c.requires.fit upper span (inside c.loop-i.i 0 within))) in
-          let places = le_by_number width (view lower).head (view upper).head (view lower).word (view upper).word low_lower low_upper starts in
-          let rises = before_from_disjoint width (view lower) (view upper) places apart_here some_here in
-          let next = one_more_rises width view order last c.loop-i.i upper is so_far.apart so_far.behind
-          (λ d. subst (λ n. ComesBefore width (view n) (view upper)) (get_or_default order last 0 d last_within) rises) some_here in
+      | then-not-is_empty+else-start-upto w ↦ (
+          let low : pos 0 ≤ℤ span.word = subst (λ x. pos 0 ≤ℤ (span_of x).word) (sym c.index-spans-number.is) (c.requires.fit upper span inside) in
+          let place = place_number width span.head span.word low in
+          let starts : pos c.loop-i.upto ≤ℤ place_at width (view upper).word (view upper).head =
+          subst (λ (s : Span). pos c.loop-i.upto ≤ℤ place_at width s.word s.head) (sym at_upper) (omega (arith, ints, place, w.start.ensures, w.if-start-upto.false)) in
+          let ends : (place_at width (view upper).word (view upper).head +ℤ pos (view upper).len) ≡ pos c.if-not-is_empty.upto =
+          subst (λ (s : Span). (place_at width s.word s.head +ℤ pos s.len) ≡ pos c.if-not-is_empty.upto) (sym at_upper) (omega (arith, ints, place, w.end-upto.ensures, w.upto-is)) in
+          let next = one_more_rises width view order i c.loop-i.upto c.if-not-is_empty.upto upper is so_far.apart so_far.below starts ends in
           record {
-            last_in = omega (arith, w.last-is);
             apart = next.0;
-            behind = subst (λ n. AllEndBy width view order (c.loop-i.i + 1) n) (sym w.last-is) next.1;
+            below = next.1;
+            end = λ some. (i, omega arith, ap (λ (s : Span). nat_abs s.word * width + s.head + s.len) at_upper ∙ omega (arith, w.end-upto.ensures, w.upto-is));
           })
       | else-not-is_empty w ↦ (
           let none : span.len ≡ 0 = w.if-not-is_empty.ensures.0 (search rules) in
-          let none_here : (view upper).len ≡ 0 = subst (λ (s : Span). s.len ≡ 0) (sym at_upper) none in
-          let next = one_more_empty width view order last c.loop-i.i upper is so_far.apart so_far.behind none_here in
+          let none_here : (view upper).len ≡ 0 = ap (λ (s : Span). s.len) at_upper ∙ none in
+          let next = one_more_empty width view order i c.loop-i.upto upper is so_far.apart so_far.below none_here in
           record {
-            last_in = omega (arith, w.last-is, so_far.last_in);
             apart = next.0;
-            behind = subst (λ n. AllEndBy width view order (c.loop-i.i + 1) n) (sym w.last-is) next.1;
+            below = subst (λ n. AllBelow width view order (i + 1) n) (sym w.upto-is) next.1;
+            end = subst (λ n. IsEndOf width view order (i + 1) n) (sym w.upto-is)
+                (λ some. let found = so_far.end some in (found.0, omega (arith, found.1), found.2));
           })
     ]
+
+pub returns-then-start-upto : goal.returns-then-start-upto
+returns-then-start-upto g c =
+    let width = g.R.BitRegister.BITS in
+    let spans = c.args.spans.now in
+    let order = c.args.order.now in
+    let i = c.loop-i.i in
+    let within : c.loop-i.i < length c.args.order.now = omega arith in
+    let inside = below_in_order (length spans) order c.requires.rising.each in
+    let found = c.loop-i.invariant.end (omega arith) in
+    let last = found.0 in
+    let last_within : last < length c.args.order.now = omega (arith, found.1, within) in
+    let lower = get_or order last 0 in
+    let upper = get_or order i 0 in
+    let span = c.index-spans-number.result in
+    let view : ℕ → Span = λ n. span_in span_of spans n in
+    let at_upper : view upper ≡ span_of span = span_in-read span_of spans upper span (inside i 0 within) c.index-spans-number.is in
+    let is_lower = get_or_default order last 0 lower last_within in
+    let is_upper = get_or_default order i 0 upper within in
+    let low : (n : ℕ) → n < length c.args.spans.now → pos 0 ≤ℤ (view n).word =
+    λ n below. subst (λ (s : Span). pos 0 ≤ℤ s.word) (sym (span_in-at span_of spans n span below)) (c.requires.fit n span below) in
+    let starts = pair_at (λ (a b : ℕ). start_in width span_of spans a ≤ start_in width span_of spans b) order last i lower upper
+    is_lower is_upper c.requires.rising.rises found.1 within in
+    let number : nat_abs (view upper).word * width + (view upper).head ≡ c.start.result =
+    ap (λ (s : Span). nat_abs s.word * width + s.head) at_upper ∙ sym c.start.ensures in
+    let none : span.len ≢ 0 = search rules in
+    let some : 0 < (view upper).len = subst (λ (s : Span). 0 < s.len) (sym at_upper) (omega (arith, none)) in (
+      λ no. cc,
+      λ apart. absurd (meet_from_numbers width (view lower) (view upper) (low lower (inside last 0 last_within)) (low upper (inside i 0 within)) some starts
+          (omega (arith, number, found.2, c.if-start-upto.true))
+          (pair_at (λ (a b : ℕ). AreDisjoint width (view a) (view b)) order last i lower upper is_lower is_upper
+          (apart_along width span_of spans order c.requires.rising.each apart) found.1 within)),
+    )
 
 pub returns : goal.returns
 returns g c = (
