@@ -1,5 +1,5 @@
 -- Numbers in lists of bits, by the words' parts.
-use Rattle.std.proofs.Common.{◌≡◌, ℕ, ◌+◌, ◌-◌, ◌*◌, ◌/◌, ◌%◌, ◌^◌, ◌<◌, ◌≤◌, ◌==◌, ◌&&◌, ◌||◌, Bool, true, false, nat_lt, if◌then◌else◌, List, length, refl, sym, ap, ◌∙◌, inl, inr, arith}
+use Rattle.std.proofs.Common.{◌≡◌, ℕ, ◌+◌, ◌-◌, ◌*◌, ◌/◌, ◌%◌, ◌^◌, ◌<◌, ◌≤◌, ◌==◌, ◌&&◌, ◌||◌, Bool, true, false, nat_lt, if◌then◌else◌, List, length, refl, sym, ap, subst, ◌∙◌, inl, inr, arith}
 use Rattle.std.specs.Prelude.{Option, Some, None, IsSome, IsNone}
 use Rattle.std.proofs.lemmas.Bool.{cases_eq, cases_lt, cases_order, lt-ltb, le-ltb, eq-eqb, ne_eqb}
 use Rattle.std.proofs.lemmas.Nat.{div-add-mod', mod_below, div-mul-add, pow_pos, le-div}
@@ -181,13 +181,13 @@ pub record IsPlaced (big : Bool) (bits : ℕ) (rises : Bool) (head len k : ℕ) 
   pub digits : (j : ℕ) → j < len → digit r (digit_place big bits rises head len j) ≡ (((head + j) / bits == k) && bit j)
   pub past : (q : ℕ) → len ≤ q → digit r q ≡ false
 
--- the digits of v moved up in r, a number of at most so many digits
+-- the digits of v moved up in r, a number of at most `most` digits
 pub record IsMovedUp (up most v r : ℕ) : Type 0 where
   pub below : r < 2 ^ most
   pub low : (p : ℕ) → p < up → digit r p ≡ false
   pub moved : (p : ℕ) → up + p < most → digit r (up + p) ≡ digit v p
 
--- the digits of w moved down in v, numbers of at most so many digits
+-- the digits of w moved down in v, numbers of at most `most` digits
 pub record IsMovedDown (down most w v : ℕ) : Type 0 where
   pub below : v < 2 ^ most
   pub moved : (p : ℕ) → down + p < most → digit v p ≡ digit w (down + p)
@@ -332,6 +332,11 @@ module _ (bits head n : ℕ) (xs : List Bool) (some : 0 < bits) (in_head : head 
   field_digit big rises is j h =
       ap (λ m. digit m (digit_place big bits rises head (length xs) j)) is
       ∙ digit-number_of_at (length xs) (digit_place big bits rises head (length xs)) (element xs) j (digit_places bits head (length xs) some in_head big rises) h
+
+  pub field_below : (big rises : Bool) → n ≡ field_number big bits rises head xs → n < 2 ^ length xs
+  field_below big rises is =
+      let law = digit_places bits head (length xs) some in_head big rises in
+      subst (λ m. m < 2 ^ length xs) (sym is) (number_of_below (length xs) (digit_place big bits rises head (length xs)) (element xs) (length xs) (λ i inside passes. law.below i inside))
 
   pub field_past : (big rises : Bool) → n ≡ field_number big bits rises head xs → (j : ℕ) → length xs ≤ j → digit n j ≡ false
   field_past big rises is j h =

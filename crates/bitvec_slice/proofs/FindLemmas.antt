@@ -7,7 +7,8 @@ use Rattle.std.proofs.lemmas.Nat.{div-add-mod', le-div, mod_below}
 use Rattle.bitvec.specs.Place.{words_met}
 use Rattle.bitvec.specs.Span.{element}
 use Rattle.bitvec.proofs.PlaceLemmas.{words_met-some}
-use Rattle.bitvec_slice.specs.Bits.{AllAre, AllBetween, IsFirst, IsFirstBetween, IsLastBetween, AreFree}
+use Rattle.bitvec.specs.Truths.{AllAre, IsFirst}
+use Rattle.bitvec_slice.specs.Bits.{AllBetween, IsFirstBetween, IsLastBetween, AreFree}
 
 -- what a word has at the place of an element
 pub test_at : (head : ℕ) (xs : List Bool) (m j : ℕ) → m ≡ head + j → (nat_le head m && element xs (m - head)) ≡ element xs j

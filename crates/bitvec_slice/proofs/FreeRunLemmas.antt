@@ -1,4 +1,4 @@
--- The first run of so many zeros in a list that lies in words. `bits` is the width of a word, and `rises` says whether
+-- The first run of `count` zeros in a list that lies in words. `bits` is the width of a word, and `rises` says whether
 -- positions rise with the index.
 use Rattle.std.proofs.Common.{◌≡◌, ℕ, ◌+◌, ◌-◌, ◌*◌, ◌/◌, ◌<◌, ◌≤◌, Bool, true, false, true≢false, not, nat_le, ◌&&◌, List, length, Option, Some, None, MatchOption, refl, sym, ap, subst, ◌∙◌, inl, inr, arith}
 use Rattle.std.proofs.lemmas.Bool.{cases_lt, le-leb, lt-leb, lt-ltb, le-ltb, ne_eqb}

@@ -3,7 +3,7 @@ use Rattle.std.proofs.Common.{◌≡◌, ℕ, ◌+◌, ◌-◌, ◌*◌, ◌/◌
 use Rattle.std.specs.Prelude.{nat_abs, slice_index}
 use Rattle.std.proofs.lemmas.Bool.{cases_eq, cases_lt, cases_Bool}
 use Rattle.std.proofs.lemmas.List.{get_or-map}
-use Rattle.std.proofs.lemmas.Nat.{div-add-mod', mod_below}
+use Rattle.std.proofs.lemmas.Nat.{div-add-mod', mod_below, le-div}
 use Rattle.std.proofs.Math.Nat.{mul-le-mul_right}
 use Rattle.bitvec.specs.Digit.{digit}
 use Rattle.bitvec.specs.Memory.{bit_of}
@@ -104,7 +104,7 @@ all_joined bit xs from mid upto first second j after before =
       | inr most ↦ second j most before
     ]
 
--- words that end before some place are words that a list of so many elements meets
+-- words that end before some place are words that a list of that length meets
 pub words_before : (bits width head index len upto : ℕ) → width ≡ bits → index ≡ head → head < bits → upto ≤ len → (index + upto) / width ≤ words_met bits head len
 words_before bits width head index len upto ew ei small inside =
     let q : ℕ = (head + upto) / bits in
@@ -171,3 +171,31 @@ passed_back_bounds bits span index upto k r is whole inside = record {
   end = omega (arith, whole, is);
   inside = inside;
 }
+
+-- a word that begins before the end of the elements is met
+pub met_before : (bits head len k : ℕ) → 0 < bits → 0 < len → k * bits < head + len → k < words_met bits head len
+met_before bits head len k some long less =
+    let count = words_met-some bits head len long in
+    let last = le-div k (head + len - 1) bits some (omega arith) in
+    omega (arith, count, last)
+
+-- word k lies whole before element `upto`, behind word `word`
+pub record LiesBetween (bits head len word upto k : ℕ) : Type 0 where
+  pub row : word * bits + bits ≤ k * bits
+  pub whole : k * bits + bits ≤ head + upto
+  pub met : k < words_met bits head len
+
+-- a word behind another and before the one in which the elements end
+pub between_word : (bits width head index len word upto k : ℕ) → width ≡ bits → index ≡ head → head < bits → upto ≤ len → word + 1 ≤ k → k < (index + upto) / width
+    → LiesBetween bits head len word upto k
+between_word bits width head index len word upto k ew ei small inside later less =
+    let row = mul-le-mul_right bits later in
+    let next : (k + 1) * width ≤ (index + upto) / width * width = mul-le-mul_right width (omega (arith, less)) in
+    let parts = div-add-mod' (index + upto) width in
+    let same : (k + 1) * width ≡ (k + 1) * bits = ap (λ b. (k + 1) * b) ew in
+    let whole : k * bits + bits ≤ head + upto = omega (arith, next, parts, same, ei) in
+    record {
+      row = omega (arith, row);
+      whole = whole;
+      met = met_before bits head len k (omega arith) (omega (arith, whole)) (omega (arith, whole));
+    }

@@ -28,7 +28,7 @@ met_whole bits words count h =
           omega (arith, last, some, same))
     ]
 
--- so many bits from the first on lie in a memory
+-- the bits from the first on lie in a memory
 pub whole_fits : (bits words count : ℕ) → count ≤ words * bits → Fits bits (record { word = pos 0; head = 0; len = count }) words
 whole_fits bits words count h = (omega (arith, ints), omega (arith, met_whole bits words count h))
 

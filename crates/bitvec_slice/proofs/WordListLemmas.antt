@@ -1,6 +1,6 @@
 -- What a word of a span shows of the span's list. `bits` is the width of a word, and `at` takes an index to its position.
 use Rattle.std.proofs.Common.{◌≡◌, ℕ, ◌+◌, ◌-◌, ◌*◌, ◌^◌, ◌<◌, ◌≤◌, ◌&&◌, Bool, true, false, not, nat_le, nat_lt, List, refl, sym, ap, ◌∙◌, inl, inr, arith}
-use Rattle.std.specs.Prelude.{nat_abs, slice_index}
+use Rattle.std.specs.Prelude.{nat_abs, slice_index, Option, Some, None, MatchOption}
 use Rattle.std.specs.Bool.{beq}
 use Rattle.std.specs.Coded.{le_prop, Π_prop}
 use mathlib.Core.Bool.{Bool-set}
@@ -15,8 +15,10 @@ use Rattle.bitvec.proofs.IndexLemmas.{digit-mask_at}
 use Rattle.bitvec.proofs.MemoryLemmas.{bit_of-place}
 use Rattle.bitvec.proofs.PartLemmas.{element-list_of}
 use Rattle.bitvec_slice.specs.Bits.{AllBetween, IsFirstBetween, IsLastBetween}
-use Rattle.bitvec_slice.specs.WordEnds.{HasNoIndex, IsFirstIndex, IsLastIndex, IsChosen}
-use Rattle.bitvec_slice.proofs.FindLemmas.{same_as, other_than}
+use Rattle.bitvec.specs.WordEnds.{HasNoIndex, IsFirstIndex, IsLastIndex}
+use Rattle.bitvec_slice.specs.Chosen.{IsChosen, IsFound}
+use Rattle.bitvec_slice.proofs.FindLemmas.{same_as, other_than, first_later}
+use Rattle.bitvec_slice.proofs.SkipLemmas.{all_joined}
 
 -- an element of a span's list is the digit at its index's position in its word
 pub element_digit : (bits : ℕ) (at : ℕ → ℕ) (span : Span) (words : List ℕ) (k i j : ℕ) → i < bits → k * bits + i ≡ span.head + j → j < span.len
@@ -226,3 +228,40 @@ chosen_prop {bits} {at} {head} {xs} {k} {from} {upto} {bit} {w} c d =
     ∙ ap (λ (e : head + upto ≤ (k + 1) * bits). record c { start = d.start; end = e }) (le_prop c.end d.end)
     ∙ ap (λ (o : (i : ℕ) → i < bits → digit w (at i) ≡ (nat_le (head + from) (k * bits + i) && nat_lt (k * bits + i) (head + upto) && beq (element xs (k * bits + i - head)) bit)). record d { ones = o })
     (Π_prop (λ i. Π_prop (λ h. Bool-set (digit w (at i)) (nat_le (head + from) (k * bits + i) && nat_lt (k * bits + i) (head + upto) && beq (element xs (k * bits + i - head)) bit))) c.ones d.ones)
+
+-- a word that lies in the span whole has the elements that are `bit` with no mask
+pub chosen_whole : (bits : ℕ) (at : ℕ → ℕ) (span : Span) (words : List ℕ) (k upto : ℕ) (bit : Bool) (w : ℕ) → IsOneToOne bits at → span.head ≤ k * bits
+    → upto ≡ k * bits + bits - span.head → upto ≤ span.len → ((p : ℕ) → p < bits → digit w p ≡ beq (digit (slice_index words (nat_abs span.word + k)) p) bit)
+    → IsChosen bits at span.head (list_of bits at span words) k (k * bits - span.head) upto bit w
+chosen_whole bits at span words k upto bit w law low end inside turns = record {
+  start = omega arith;
+  end = omega arith;
+  ones = λ i small.
+      turns (at i) (law.below i small)
+      ∙ ap (λ b. beq b bit) (sym (element_digit bits at span words k i (k * bits + i - span.head) small (omega arith) (omega arith)))
+      ∙ sym (rw (le-leb (span.head + (k * bits - span.head)) (k * bits + i) (omega arith), lt-ltb (k * bits + i) (span.head + upto) (omega arith)) refl);
+}
+
+-- the first behind some elements that are not `bit` is the first of all
+pub found_behind : {bits : ℕ} {at : ℕ → ℕ} {head : ℕ} {xs : List Bool} {bit : Bool} {from mid upto k w i : ℕ}
+    → from ≤ mid → AllBetween (not bit) xs from mid → IsFound bits at head xs bit mid upto k w i → IsFound bits at head xs bit from upto k w i
+found_behind {bits} {at} {head} {xs} {bit} {from} {mid} {upto} {k} {w} {i} low none f =
+    let later = f.later in
+    record { begin = f.begin; later = omega arith; passed = all_joined (not bit) xs from mid f.begin none f.passed; chosen = f.chosen; first = f.first }
+
+-- what is found is the first
+pub found_first : {bits : ℕ} {at : ℕ → ℕ} {head : ℕ} {xs : List Bool} {bit : Bool} {from upto k w i : ℕ}
+    → IsFound bits at head xs bit from upto k w i → (r : ℕ) → r ≡ k * bits + i - head → IsFirstBetween bit xs from upto r
+found_first {bits} {at} {head} {xs} {bit} {from} {upto} {k} {w} {i} f r e =
+    first_later xs bit from f.begin upto upto r f.later (omega arith) f.passed (chosen_first f.chosen i r f.first e)
+
+-- the same of what may be found, before index `end`
+pub option_behind : {A : Type 0} (bits : ℕ) (at : ℕ → ℕ) (head : ℕ) (xs : List Bool) (bit : Bool) (from mid end : ℕ) (o : Option A) (upto k w i : A → ℕ)
+    → from ≤ mid → AllBetween (not bit) xs from mid → MatchOption o (AllBetween (not bit) xs mid end) (λ it. IsFound bits at head xs bit mid (upto it) (k it) (w it) (i it))
+    → MatchOption o (AllBetween (not bit) xs from end) (λ it. IsFound bits at head xs bit from (upto it) (k it) (w it) (i it))
+option_behind bits at head xs bit from mid end None upto k w i low none rest = all_joined (not bit) xs from mid end none rest
+option_behind bits at head xs bit from mid end (Some it) upto k w i low none f = found_behind low none f
+
+-- the index of an element by its place in word k
+pub found_index : (k i bits head : ℕ) → {width index start : ℕ} → width ≡ bits → index ≡ i → start ≡ head → k * width + index - start ≡ k * bits + i - head
+found_index k i bits head {width} {index} {start} ew ei es = ap (λ b. k * b + index - start) ew ∙ ap (λ n. k * bits + n - start) ei ∙ ap (λ h. k * bits + i - h) es

@@ -4,21 +4,9 @@ use Rattle.std.specs.List.{filter, range_with_len}
 use Rattle.bitvec.specs.Digit.{count_below}
 use Rattle.bitvec.specs.Span.{element}
 
--- how many elements of a list are true
-abbrev pub ones_in : List Bool → ℕ
-ones_in xs = count_below (element xs) (length xs)
-
 -- how many elements of a list are false
 abbrev pub zeros_in : List Bool → ℕ
 zeros_in xs = count_below (λ i. not (element xs i)) (length xs)
-
--- every element of a list is `bit`
-abbrev pub AllAre : Bool → List Bool → Type 0
-AllAre bit xs = (j : ℕ) → j < length xs → element xs j ≡ bit
-
--- element i of a list is the first that is `bit`
-abbrev pub IsFirst : Bool → List Bool → ℕ → Type 0
-IsFirst bit xs i = (i < length xs) × (element xs i ≡ bit) × ((j : ℕ) → j < i → element xs j ≡ not bit)
 
 -- element i of a list is the last that is `bit`
 abbrev pub IsLast : Bool → List Bool → ℕ → Type 0

@@ -6,15 +6,18 @@
 //! highest.
 
 ghost use Rattle.std.specs.Prelude.{◌≡◌, ℕ, ◌+◌, ◌-◌, ◌*◌, ◌/◌, ◌<◌, ◌≤◌, ◌==◌, ◌&&◌, ◌^◌, ◌%◌};
-ghost use Rattle.std.specs.Prelude.{Bool, true, false, nat_lt, if◌then◌else◌, length, map, refl};
+ghost use Rattle.std.specs.Prelude.{Bool, true, false, not, nat_le, nat_lt, if◌then◌else◌, length, map, refl};
 ghost use Rattle.bitvec.specs.BitSpan.{span_of, list_by, Becomes};
 ghost use Rattle.bitvec.specs.Digit.{digit};
 ghost use Rattle.bitvec.specs.Place.{words_met};
-ghost use Rattle.bitvec.specs.Slot.{slot_of, EditsPart};
-ghost use Rattle.bitvec.specs.Span.{Fits, element};
+ghost use Rattle.bitvec.specs.Span.{Fits, element, with_word};
 ghost use Rattle.bitvec_slice.specs.Field.{IsSequential, stretch_start, stretch_end};
 ghost use Rattle.bitvec_slice.specs.Field.{digit_place, field_number, field_list};
+ghost use Rattle.bitvec_slice.specs.Words.{merged_digit};
 
+mod signed;
+
+pub use self::signed::SignedNumber;
 use crate::slice::{BitSlice, BitSliceMut};
 use bitvec::mem::BitRegister;
 use bitvec::order::{BitOrder, Lsb0, Msb0};
@@ -197,6 +200,65 @@ fn load_words<R: BitRegister, O: Sequential<R>, N: BitRegister>(
     number
 }
 
+// The digits of `low` from `by` on, and above them those of `high`.
+#[inline(always)]
+fn merged<R: BitRegister>(low: R, high: R, by: u8) -> R
+    requires some { 0 < by }
+    requires most { by < R.BITS }
+    ensures below { R.number result < 2 ^ R.BITS }
+    ensures digits { (p : ℕ) → p < R.BITS → digit (R.number result) p
+        ≡ merged_digit R.BITS by (R.number low) (R.number high) p }
+{
+    low.shr(by).or(high.shl(R::BITS - by))
+}
+
+// The digits of a span of at most a word's bits in their order, from the lowest on. Above them stands
+// what lies beside them in their words.
+#[inline(always)]
+fn load_joined<R: BitRegister, O: Sequential<R>>(span: BitSpan<R, O>, memory: &[R]) -> R
+    requires fits { Fits R.BITS (span_of span) (length memory.now) }
+    requires some { 0 < (span_of span).len }
+    requires small { (span_of span).len ≤ R.BITS }
+    ensures { (j : ℕ) → j < (span_of span).len → digit (R.number result)
+        (digit_place (not O.RISES) R.BITS O.RISES (span_of span).head (span_of span).len j)
+        ≡ element (list_by span O.at_of memory.now) j }
+{
+    let width = R::BITS;
+    let head = span.head().into_inner();
+    let end = head + span.len() as u8;
+    let first = word_met(span, memory, 0);
+    if end <= width {
+        return if O::RISES {
+            first.shr(head)
+        } else {
+            first.shr(width - end)
+        };
+    }
+    let second = word_met(span, memory, 1);
+    if O::RISES {
+        merged(first, second, head)
+    } else {
+        merged(second, first, width - (end - width))
+    }
+}
+
+// The number of a span of at most a word's bits, which has its digits in their order.
+#[inline(always)]
+fn load_near<R: BitRegister, O: Sequential<R>, N: BitRegister>(
+    span: BitSpan<R, O>,
+    memory: &[R],
+) -> N
+    requires fits { Fits R.BITS (span_of span) (length memory.now) }
+    requires some { 0 < (span_of span).len }
+    requires near { (span_of span).len ≤ R.BITS }
+    requires small { (span_of span).len ≤ N.BITS }
+    ensures { N.number result ≡ field_number (not O.RISES) R.BITS O.RISES (span_of span).head
+        (list_by span O.at_of memory.now) }
+{
+    let digits = low_ones::<R>(span.len()).and(load_joined(span, memory));
+    N::from_u128(digits.to_u128()).unwrap()
+}
+
 // The number of a span, its first word's part lowest, or highest where `big`.
 #[inline(always)]
 fn load<R: BitRegister, O: Sequential<R>, N: BitRegister>(
@@ -209,6 +271,10 @@ fn load<R: BitRegister, O: Sequential<R>, N: BitRegister>(
     ensures { N.number result ≡ field_number big R.BITS O.RISES (span_of span).head
         (list_by span O.at_of memory.now) }
 {
+    let width = usize::from(R::BITS);
+    if O::RISES != big && 0 < span.len() && span.len() <= width {
+        return load_near(span, memory);
+    }
     let elements = span.elements();
     if elements == 1 {
         return load_digits(span, memory, 0, big);
@@ -240,29 +306,112 @@ fn word_digits<R: BitRegister, O: Sequential<R>, N: BitRegister>(
     R::from_u128(part).unwrap().shl(shift::<R, O>(span, k))
 }
 
-// Puts the digits of a word in place into the `k`-th word that a span meets, and returns those that
-// were there.
+// The positions of the bits that the `k`-th word has of a span, as a word whose digits there are one.
 #[inline(always)]
-fn store_word<R: BitRegister, O: BitOrder<R>>(
+fn word_mask<R: BitRegister, O: Sequential<R>>(span: BitSpan<R, O>, k: usize) -> R
+    requires { k < words_met R.BITS (span_of span).head (span_of span).len }
+    ensures { (i : ℕ) → i < R.BITS → digit (R.number result) (O.at_of i)
+        ≡ (nat_le (span_of span).head (k * R.BITS + i)
+        && nat_lt (k * R.BITS + i) ((span_of span).head + (span_of span).len)) }
+{
+    let (start, end) = stretch(span, k);
+    low_ones::<R>(end - start).shl(shift::<R, O>(span, k))
+}
+
+// Puts the digits of a word that are one in a mask in their places in the `k`-th word that a span
+// meets, where the mask has the span's positions there.
+#[inline(always)]
+fn put_word<R: BitRegister, O: BitOrder<R>>(
     span: BitSpan<R, O>,
     memory: &mut [R],
     k: usize,
     word: R,
-) -> R
+    mask: R,
+)
     requires fits { Fits R.BITS (span_of span) (length memory.old) }
     requires met { k < words_met R.BITS (span_of span).head (span_of span).len }
-    ensures { EditsPart R.BITS O.at_of (slot_of R.BITS (span_of span) k)
-        (λ i. digit (R.number word) (O.at_of i)) (map R.number memory.old)
-        (map R.number memory.new) (R.number result) }
+    requires mask { (i : ℕ) → i < R.BITS → digit (R.number mask) (O.at_of i)
+        ≡ (nat_le (span_of span).head (k * R.BITS + i)
+        && nat_lt (k * R.BITS + i) ((span_of span).head + (span_of span).len)) }
+    ensures { (f : ℕ → Bool) → ((j : ℕ) → j < (span_of span).len
+        → ((span_of span).head + j) / R.BITS ≡ k
+        → digit (R.number word) (O.at_of (((span_of span).head + j) % R.BITS)) ≡ f j)
+        → Becomes span O.at_of memory.old memory.new
+        (with_word R.BITS (span_of span).head (list_by span O.at_of memory.old) k f) }
 {
-    let mut part = span.part_mut(memory, k);
-    part.store_value(word)
+    let place = span.address() as usize + k;
+    let old = memory[place];
+    memory[place] = old.and(mask.not()).or(word.and(mask));
+}
+
+// Makes the bits that the `k`-th word has of a span digits of a number, and changes no other bit.
+#[inline(always)]
+fn store_part<R: BitRegister, O: Sequential<R>, N: BitRegister>(
+    span: BitSpan<R, O>,
+    memory: &mut [R],
+    k: usize,
+    value: N,
+    big: bool,
+)
+    requires fits { Fits R.BITS (span_of span) (length memory.old) }
+    requires met { k < words_met R.BITS (span_of span).head (span_of span).len }
+    requires small { (span_of span).len ≤ N.BITS }
+    ensures { Becomes span O.at_of memory.old memory.new
+        (with_word R.BITS (span_of span).head (list_by span O.at_of memory.old) k
+        (element (field_list big R.BITS O.RISES (span_of span).head (span_of span).len
+        (N.number value)))) }
+{
+    let word = word_digits(span, k, value, big);
+    put_word(span, memory, k, word, word_mask(span, k));
+}
+
+// The same of every word that a span meets, one after the other.
+#[inline(never)]
+fn store_words<R: BitRegister, O: Sequential<R>, N: BitRegister>(
+    span: BitSpan<R, O>,
+    memory: &mut [R],
+    value: N,
+    big: bool,
+)
+    requires fits { Fits R.BITS (span_of span) (length memory.old) }
+    requires small { (span_of span).len ≤ N.BITS }
+    ensures { Becomes span O.at_of memory.old memory.new
+        (field_list big R.BITS O.RISES (span_of span).head (span_of span).len (N.number value)) }
+{
+    for k in 0..span.elements() {
+        store_part(span, memory, k, value, big);
+    }
+}
+
+// Makes the bits of a span the digits of a number, a part of a word at a time, and changes no other
+// bit.
+#[inline(always)]
+fn store_digits<R: BitRegister, O: Sequential<R>, N: BitRegister>(
+    span: BitSpan<R, O>,
+    memory: &mut [R],
+    value: N,
+    big: bool,
+)
+    requires fits { Fits R.BITS (span_of span) (length memory.old) }
+    requires small { (span_of span).len ≤ N.BITS }
+    ensures { Becomes span O.at_of memory.old memory.new
+        (field_list big R.BITS O.RISES (span_of span).head (span_of span).len (N.number value)) }
+{
+    let elements = span.elements();
+    if elements == 1 {
+        store_part(span, memory, 0, value, big);
+    } else if elements == 2 {
+        store_part(span, memory, 0, value, big);
+        store_part(span, memory, 1, value, big);
+    } else {
+        store_words(span, memory, value, big);
+    }
 }
 
 // Makes the bits of a span the digits of a number, those of its first word the lowest, or the
 // highest where `big`, and changes no other bit.
 #[inline(always)]
-fn store<R: BitRegister, O: Sequential<R>, N: BitRegister>(
+pub(crate) fn store<R: BitRegister, O: Sequential<R>, N: BitRegister>(
     span: BitSpan<R, O>,
     memory: &mut [R],
     value: N,
@@ -277,10 +426,7 @@ fn store<R: BitRegister, O: Sequential<R>, N: BitRegister>(
         (list_by span O.at_of memory.new)
         ≡ N.number value % 2 ^ length (list_by span O.at_of memory.old) }
 {
-    for k in 0..span.elements() {
-        let word = word_digits(span, k, value, big);
-        store_word(span, memory, k, word);
-    }
+    store_digits(span, memory, value, big);
 }
 
 impl<'a, R: BitRegister, O: Sequential<R>> BitSlice<'a, R, O> {
@@ -292,6 +438,16 @@ impl<'a, R: BitRegister, O: Sequential<R>> BitSlice<'a, R, O> {
     ///
     /// Under `Lsb0` the number of whole bytes is the one that std's `from_le_bytes` gives. Costs by
     /// words.
+    ///
+    /// # Examples
+    ///
+    /// ```
+    /// let memory = [0x78u8, 0x56, 0x34, 0x12];
+    /// let span: BitSpan<u8, Lsb0> = BitSpan::at(0, 32).unwrap();
+    /// let slice = BitSlice::new(span, &memory).ok_or("outside")?;
+    /// assert_eq!(rt; slice.load_le::<u32>(), 0x12345678);
+    /// assert_eq!(rt; slice.load_le::<usize>(), 0x12345678);
+    /// ```
     pub fn load_le<N: BitRegister>(&self) -> N
         requires { slice_len self.now ≤ N.BITS }
         ensures number { N.number result
@@ -313,6 +469,18 @@ impl<'a, R: BitRegister, O: Sequential<R>> BitSlice<'a, R, O> {
     ///
     /// Under `Msb0` the number of whole bytes is the one that std's `from_be_bytes` gives. Costs by
     /// words.
+    ///
+    /// # Examples
+    ///
+    /// ```
+    /// let memory = [0x0123456789ABCDEFu64, 0xFEDCBA9876543210];
+    /// let span: BitSpan<u64, Msb0> = BitSpan::at(0, 128).unwrap();
+    /// let slice = BitSlice::new(span, &memory).ok_or("outside")?;
+    /// assert_eq!(rt;
+    ///     slice.load_be::<u128>(),
+    ///     0x0123456789ABCDEF_FEDCBA9876543210
+    /// );
+    /// ```
     pub fn load_be<N: BitRegister>(&self) -> N
         requires { slice_len self.now ≤ N.BITS }
         ensures number { N.number result

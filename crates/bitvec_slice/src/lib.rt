@@ -5,4 +5,5 @@
 #![tactic(auto)]
 
 pub mod field;
+pub mod prelude;
 pub mod slice;

@@ -69,6 +69,5 @@ fn set_and_run<R: BitRegister, O: BitOrder<R>>(
 {
     let mut slice = BitSliceMut::new_unchecked(span, memory);
     slice.set(i, bit);
-    drop(slice);
     run(&[span], memory, requests, replies);
 }

@@ -2,8 +2,10 @@
 
 use bitvec::index::BitIdx;
 use bitvec::order::{Lsb0, Msb0};
+use bitvec::ptr::combine::{Or, Xor};
 use bitvec::ptr::span::BitSpan;
 use bitvec_slice::slice::{BitSlice, BitSliceMut};
+use std::cmp::Ordering;
 use std::test::Fail;
 
 #[test]
@@ -24,7 +26,6 @@ fn a_bit_slice_for_writing(rt: HostRuntime) -> Result<(), Fail> {
     let span: BitSpan<u8, Msb0> = BitSpan::new(0, BitIdx::new_unchecked(4), 8).unwrap();
     let mut slice = BitSliceMut::new_unchecked(span, &mut memory);
     slice.reverse();
-    drop(slice);
     assert_eq!(rt; memory, [0x0F, 0x0F]);
     Ok(())
 }
@@ -60,4 +61,296 @@ fn an_iterator_over_zeros(rt: HostRuntime) -> Result<(), Fail> {
     assert_eq!(rt; zeros.next(), Some(2));
     assert_eq!(rt; zeros.next(), None);
     Ok(())
+}
+
+#[test]
+fn the_next_one_and_the_previous(rt: HostRuntime) -> Result<(), Fail> {
+    let memory = [0x2Cu8];
+    let span: BitSpan<u8, Lsb0> = BitSpan::new(0, BitIdx::new_unchecked(0), 8).unwrap();
+    let slice = BitSlice::new(span, &memory).ok_or("outside")?;
+    assert_eq!(rt; slice.next_one(3), Some(3));
+    assert_eq!(rt; slice.next_one(4), Some(5));
+    assert_eq!(rt; slice.next_one(6), None);
+    assert_eq!(rt; slice.previous_one(5), Some(3));
+    assert_eq!(rt; slice.previous_one(2), None);
+    Ok(())
+}
+
+#[test]
+fn all_and_any_in_a_range(rt: HostRuntime) -> Result<(), Fail> {
+    let memory = [0x2Cu8];
+    let span: BitSpan<u8, Lsb0> = BitSpan::new(0, BitIdx::new_unchecked(0), 8).unwrap();
+    let slice = BitSlice::new(span, &memory).ok_or("outside")?;
+    assert!(rt; slice.all_in(2, 4));
+    assert!(rt; !slice.all_in(2, 5));
+    assert!(rt; slice.any_in(4, 6));
+    assert!(rt; !slice.any_in(6, 20));
+    Ok(())
+}
+
+#[test]
+fn an_iterator_over_stretches_of_ones(rt: HostRuntime) -> Result<(), Fail> {
+    let memory = [0x6Eu8];
+    let span: BitSpan<u8, Lsb0> = BitSpan::new(0, BitIdx::new_unchecked(0), 8).unwrap();
+    let mut runs = BitSlice::new(span, &memory).ok_or("outside")?.iter_runs();
+    assert_eq!(rt; runs.next(), Some((1, 3)));
+    assert_eq!(rt; runs.next(), Some((5, 2)));
+    assert_eq!(rt; runs.next(), None);
+    Ok(())
+}
+
+#[test]
+fn the_windows_of_a_slice(rt: HostRuntime) -> Result<(), Fail> {
+    let memory = [0x0Bu8];
+    let span: BitSpan<u8, Lsb0> = BitSpan::new(0, BitIdx::new_unchecked(0), 4).unwrap();
+    let mut windows = BitSlice::new(span, &memory).ok_or("outside")?.windows(3);
+    assert_eq!(rt; windows.len(), 2);
+    assert_eq!(rt; windows.next().unwrap().last_one(), Some(1));
+    assert_eq!(rt; windows.next_back().unwrap().last_one(), Some(2));
+    assert!(rt; windows.next().is_none());
+    Ok(())
+}
+
+#[test]
+fn the_pieces_from_the_front(rt: HostRuntime) -> Result<(), Fail> {
+    let memory = [0x2Cu8];
+    let span: BitSpan<u8, Lsb0> = BitSpan::new(0, BitIdx::new_unchecked(0), 8).unwrap();
+    let mut chunks = BitSlice::new(span, &memory).ok_or("outside")?.chunks(3);
+    assert_eq!(rt; chunks.len(), 3);
+    assert_eq!(rt; chunks.next().unwrap().first_one(), Some(2));
+    assert_eq!(rt; chunks.next_back().unwrap().len(), 2);
+    assert_eq!(rt; chunks.next().unwrap().first_one(), Some(0));
+    assert!(rt; chunks.next().is_none());
+    Ok(())
+}
+
+#[test]
+fn the_pieces_from_the_back(rt: HostRuntime) -> Result<(), Fail> {
+    let memory = [0x2Cu8];
+    let span: BitSpan<u8, Lsb0> = BitSpan::new(0, BitIdx::new_unchecked(0), 8).unwrap();
+    let mut chunks = BitSlice::new(span, &memory).ok_or("outside")?.rchunks(3);
+    assert_eq!(rt; chunks.len(), 3);
+    assert_eq!(rt; chunks.next().unwrap().last_one(), Some(0));
+    assert_eq!(rt; chunks.next_back().unwrap().len(), 2);
+    assert_eq!(rt; chunks.next().unwrap().last_one(), Some(1));
+    assert!(rt; chunks.next().is_none());
+    Ok(())
+}
+
+#[test]
+fn the_whole_pieces(rt: HostRuntime) -> Result<(), Fail> {
+    let memory = [0x2Cu8];
+    let span: BitSpan<u8, Lsb0> = BitSpan::new(0, BitIdx::new_unchecked(0), 8).unwrap();
+    let mut chunks = BitSlice::new(span, &memory)
+        .ok_or("outside")?
+        .chunks_exact(3);
+    assert_eq!(rt; chunks.len(), 2);
+    assert_eq!(rt; chunks.next().unwrap().first_one(), Some(2));
+    assert_eq!(rt; chunks.next().unwrap().first_one(), Some(0));
+    assert!(rt; chunks.next().is_none());
+    assert_eq!(rt; chunks.remainder().len(), 2);
+    Ok(())
+}
+
+#[test]
+fn a_slice_combined_with_another(rt: HostRuntime) -> Result<(), Fail> {
+    let memory = [0x0Fu16];
+    let span: BitSpan<u16, Msb0> = BitSpan::at(8, 8).unwrap();
+    let other = BitSlice::new(span, &memory).ok_or("outside")?;
+    let mut words = [0x30u8, 0x03];
+    let span: BitSpan<u8, Lsb0> = BitSpan::at(4, 8).unwrap();
+    let mut slice = BitSliceMut::new_unchecked(span, &mut words);
+    slice.combine_from::<Xor, u16, Msb0>(other);
+    drop(slice);
+    assert_eq!(rt; words, [0x30, 0x0C]);
+    Ok(())
+}
+
+#[test]
+fn a_slice_combined_with_a_range_of_its_own(rt: HostRuntime) {
+    let mut memory = [0x01u8, 0x80];
+    let span: BitSpan<u8, Lsb0> = BitSpan::at(0, 16).unwrap();
+    let mut slice = BitSliceMut::new_unchecked(span, &mut memory);
+    slice.combine_within::<Or>(0..13, 3);
+    drop(slice);
+    assert_eq!(rt; memory, [0x09, 0x80]);
+}
+
+#[test]
+fn a_slice_turned_over(rt: HostRuntime) {
+    let mut memory = [0x12u8, 0x34];
+    let span: BitSpan<u8, Lsb0> = BitSpan::at(4, 8).unwrap();
+    let mut slice = BitSliceMut::new_unchecked(span, &mut memory);
+    slice.invert();
+    drop(slice);
+    assert_eq!(rt; memory, [0xE2, 0x3B]);
+}
+
+#[test]
+fn the_intersection_of_two_slices(rt: HostRuntime) -> Result<(), Fail> {
+    let memory = [0x0Fu8];
+    let span: BitSpan<u8, Lsb0> = BitSpan::at(0, 6).unwrap();
+    let other = BitSlice::new(span, &memory).ok_or("outside")?;
+    let mut words = [0xFCu8, 0xFF];
+    let span: BitSpan<u8, Lsb0> = BitSpan::at(0, 12).unwrap();
+    let mut slice = BitSliceMut::new_unchecked(span, &mut words);
+    slice &= other;
+    drop(slice);
+    assert_eq!(rt; words, [0x0C, 0xF0]);
+    Ok(())
+}
+
+#[test]
+fn the_union_of_two_slices(rt: HostRuntime) -> Result<(), Fail> {
+    let memory = [0x0Fu8];
+    let span: BitSpan<u8, Lsb0> = BitSpan::at(0, 6).unwrap();
+    let other = BitSlice::new(span, &memory).ok_or("outside")?;
+    let mut words = [0xC0u8, 0x01];
+    let span: BitSpan<u8, Lsb0> = BitSpan::at(2, 12).unwrap();
+    let mut slice = BitSliceMut::new_unchecked(span, &mut words);
+    slice |= other;
+    drop(slice);
+    assert_eq!(rt; words, [0xFC, 0x01]);
+    Ok(())
+}
+
+#[test]
+fn a_subset_of_a_slice(rt: HostRuntime) -> Result<(), Fail> {
+    let memory = [0x0Cu8];
+    let span: BitSpan<u8, Lsb0> = BitSpan::at(0, 8).unwrap();
+    let few = BitSlice::new(span, &memory).ok_or("outside")?;
+    let words = [0x0038u16];
+    let span: BitSpan<u16, Msb0> = BitSpan::at(8, 8).unwrap();
+    let many = BitSlice::new(span, &words).ok_or("outside")?;
+    assert!(rt; few.is_subset(&many));
+    assert!(rt; !many.is_subset(&few));
+    Ok(())
+}
+
+#[test]
+fn what_two_slices_have_in_common(rt: HostRuntime) -> Result<(), Fail> {
+    let memory = [0x3Cu8, 0x03];
+    let span: BitSpan<u8, Lsb0> = BitSpan::at(0, 10).unwrap();
+    let here = BitSlice::new(span, &memory).ok_or("outside")?;
+    let words = [0xFFF0u16];
+    let span: BitSpan<u16, Lsb0> = BitSpan::at(0, 10).unwrap();
+    let there = BitSlice::new(span, &words).ok_or("outside")?;
+    assert_eq!(rt; here.count_and(&there), 4);
+    assert_eq!(rt; here.first_and(&there), Some(4));
+    assert_eq!(rt; here.first_and_not(&there), Some(2));
+    assert!(rt; here.intersects(&there));
+    Ok(())
+}
+
+#[test]
+fn the_first_difference_of_two_slices(rt: HostRuntime) -> Result<(), Fail> {
+    let memory = [0x0Fu8, 0x0F];
+    let span: BitSpan<u8, Lsb0> = BitSpan::at(0, 16).unwrap();
+    let here = BitSlice::new(span, &memory).ok_or("outside")?;
+    let words = [0x030Fu16];
+    let span: BitSpan<u16, Lsb0> = BitSpan::at(0, 12).unwrap();
+    let there = BitSlice::new(span, &words).ok_or("outside")?;
+    assert_eq!(rt; here.first_difference(&there), Some(10));
+    let span: BitSpan<u16, Lsb0> = BitSpan::at(0, 10).unwrap();
+    let there = BitSlice::new(span, &words).ok_or("outside")?;
+    assert_eq!(rt; here.first_difference(&there), None);
+    Ok(())
+}
+
+#[test]
+fn the_order_of_two_slices(rt: HostRuntime) -> Result<(), Fail> {
+    let memory = [0x0Fu8];
+    let span: BitSpan<u8, Lsb0> = BitSpan::at(0, 8).unwrap();
+    let here = BitSlice::new(span, &memory).ok_or("outside")?;
+    let words = [0xF0u16];
+    let span: BitSpan<u16, Msb0> = BitSpan::at(8, 6).unwrap();
+    let there = BitSlice::new(span, &words).ok_or("outside")?;
+    assert_eq!(rt; here.compare(&there), Ordering::Greater);
+    let span: BitSpan<u16, Lsb0> = BitSpan::at(0, 8).unwrap();
+    let there = BitSlice::new(span, &words).ok_or("outside")?;
+    assert_eq!(rt; there.compare(&here), Ordering::Less);
+    Ok(())
+}
+
+#[test]
+fn a_run_of_zeros_taken(rt: HostRuntime) -> Result<(), Fail> {
+    let mut memory = [0x93u8, 0x00];
+    let mut blocks = BitSliceMut::<u8, Lsb0>::all_unchecked(&mut memory);
+    assert_eq!(rt; blocks.count_ones(), 4);
+    let at = blocks.find_zeros(3).ok_or("full")?;
+    blocks.fill_range(at, at + 3, true);
+    assert_eq!(rt; blocks.next_zero(0), Some(2));
+    assert_eq!(rt; memory, [0x93, 0x07]);
+    Ok(())
+}
+
+#[test]
+fn parts_of_a_slice_turned(rt: HostRuntime) {
+    let mut memory = [0x13u8];
+    let span: BitSpan<u8, Lsb0> = BitSpan::at(0, 8).unwrap();
+    let mut slice = BitSliceMut::new_unchecked(span, &mut memory);
+    slice.reverse_range(0, 4);
+    slice.invert_range(4, 6);
+    assert_eq!(rt; memory, [0x2C]);
+}
+
+#[test]
+fn a_slice_copied_into_a_range(rt: HostRuntime) -> Result<(), Fail> {
+    let memory = [0xA0u8];
+    let span: BitSpan<u8, Msb0> = BitSpan::at(0, 3).unwrap();
+    let source = BitSlice::new(span, &memory).ok_or("outside")?;
+    let mut words = [0x00u8];
+    let span: BitSpan<u8, Lsb0> = BitSpan::at(0, 8).unwrap();
+    let mut slice = BitSliceMut::new_unchecked(span, &mut words);
+    slice.copy_from_range(4, source);
+    assert_eq!(rt; words, [0x50]);
+    Ok(())
+}
+
+#[test]
+fn fields_of_a_header(rt: HostRuntime) {
+    let mut header = [0x00u8; 20];
+    let mut bits = BitSliceMut::<u8, Msb0>::all_unchecked(&mut header);
+    bits.store_be_range(16, 32, 1500u16);
+    bits.store_be_range(72, 80, 6u8);
+    assert_eq!(rt; header[2], 0x05);
+    assert_eq!(rt; header[3], 0xDC);
+    assert_eq!(rt; header[9], 6);
+}
+
+#[test]
+fn the_first_bit_and_the_others(rt: HostRuntime) -> Result<(), Fail> {
+    let memory = [0x2Du8];
+    let slice = BitSlice::<u8, Lsb0>::all_unchecked(&memory);
+    let (bit, rest) = slice.split_first().ok_or("none")?;
+    assert!(rt; bit);
+    assert_eq!(rt; rest.len(), 7);
+    assert_eq!(rt; rest.first_one(), Some(1));
+    Ok(())
+}
+
+#[test]
+fn bits_of_one_slice_in_another(rt: HostRuntime) -> Result<(), Fail> {
+    let memory = [0x2Du8];
+    let slice = BitSlice::<u8, Lsb0>::all_unchecked(&memory);
+    let other = [0xA0u8];
+    let span: BitSpan<u8, Msb0> = BitSpan::at(0, 3).unwrap();
+    let pattern = BitSlice::new(span, &other).ok_or("outside")?;
+    assert!(rt; slice.starts_with(&pattern));
+    assert!(rt; !slice.ends_with(&pattern));
+    assert_eq!(rt; slice.find(&pattern), Some(0));
+    let (_, rest) = slice.split_at(1);
+    assert!(rt; rest.contains(&pattern));
+    assert_eq!(rt; rest.find(&pattern), Some(2));
+    Ok(())
+}
+
+#[test]
+fn a_run_of_zeros_at_a_multiple(rt: HostRuntime) {
+    let memory = [0x03u8, 0x10];
+    let slice = BitSlice::<u8, Lsb0>::all_unchecked(&memory);
+    assert_eq!(rt; slice.find_zeros_from(0, 3, 1), Some(2));
+    assert_eq!(rt; slice.find_zeros_from(0, 3, 4), Some(4));
+    assert_eq!(rt; slice.find_zeros_from(10, 3, 4), None);
+    assert_eq!(rt; slice.find_zeros_from(10, 3, 1), Some(13));
 }

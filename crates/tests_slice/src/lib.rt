@@ -6,10 +6,18 @@ mod bytes;
 #[cfg(test)]
 mod callers;
 #[cfg(test)]
+mod cursor;
+#[cfg(test)]
 mod examples;
 #[cfg(test)]
 mod lists;
 #[cfg(test)]
 mod moves;
+#[cfg(test)]
+mod numbers;
+#[cfg(test)]
+mod sets;
+#[cfg(test)]
+mod texts;
 #[cfg(test)]
 mod traits;

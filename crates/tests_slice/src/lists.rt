@@ -69,6 +69,51 @@ fn shows<O: BitOrder<u8>>(slice: BitSlice<'_, u8, O>, list: &[bool]) -> bool {
         && slice.all_ones() == first_zero.is_none()
 }
 
+// Whether a slice shows where the last one and the last zero of a list are, and each of its ones
+// and zeros from both ends.
+fn finds<O: BitOrder<u8>>(slice: BitSlice<'_, u8, O>, list: &[bool]) -> bool {
+    let (mut ones, mut zeros) = (slice.iter_ones(), slice.iter_zeros());
+    let is_in_order = list.iter().enumerate().all(|(i, bit)| {
+        let next = if *bit { ones.next() } else { zeros.next() };
+        next == Some(i)
+    });
+    let (mut ones, mut zeros) = (slice.iter_ones(), slice.iter_zeros());
+    let is_in_order_back = list.iter().enumerate().rev().all(|(i, bit)| {
+        let next = if *bit {
+            ones.next_back()
+        } else {
+            zeros.next_back()
+        };
+        next == Some(i)
+    });
+    is_in_order
+        && is_in_order_back
+        && slice.last_one() == list.iter().rposition(|bit| *bit)
+        && slice.last_zero() == list.iter().rposition(|bit| !*bit)
+}
+
+// Whether a list begins with `count` zeros.
+fn is_row(list: &[bool], count: usize) -> bool {
+    match list.get(..count) {
+        Some(row) => row.iter().all(|bit| !*bit),
+        None => false,
+    }
+}
+
+// Whether a slice shows where a number of zeros stand in a row in a list, for each number to 9.
+fn finds_rows<O: BitOrder<u8>>(slice: BitSlice<'_, u8, O>, list: &[bool]) -> bool {
+    for count in 1..10 {
+        let place = (0..list.len()).find(|i| match list.get(*i..) {
+            Some(rest) => is_row(rest, count),
+            None => false,
+        });
+        if slice.find_zeros(count) != place {
+            return false;
+        }
+    }
+    true
+}
+
 // Whether a slice shows the bits of its span, as a slice for reading and as one for writing.
 fn reads<O: BitOrder<u8>>(start: usize, len: usize) -> bool
     requires { start + len ≤ 24 }
@@ -79,7 +124,7 @@ fn reads<O: BitOrder<u8>>(start: usize, len: usize) -> bool
     let Some(slice) = BitSlice::new(span_at::<O>(start, len), &memory) else {
         return false;
     };
-    if !shows(slice, list) {
+    if !shows(slice, list) || !finds(slice, list) || !finds_rows(slice, list) {
         return false;
     }
     let Ok(slice) = BitSliceMut::new(span_at::<O>(start, len), &mut memory) else {

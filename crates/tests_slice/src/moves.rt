@@ -10,7 +10,7 @@ use bitvec::order::{BitOrder, Msb0};
 use bitvec::ptr::span::BitSpan;
 use bitvec_slice::slice::{BitSlice, BitSliceMut};
 
-/// A move of bits by so many places: two shifts, a rotation, and two copies of those that stay
+/// A move of bits by a number of places: two shifts, a rotation, and two copies of those that stay
 /// inside.
 #[derive(Clone, Copy)]
 enum Move {

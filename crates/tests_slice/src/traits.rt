@@ -1,15 +1,18 @@
-//! What equality and copy of slices and of their iterators are.
+//! What equality, order, hash and copy of slices and copies of their iterators are.
 //!
 //! Each function does what its name says, and its contract is the promise: so a body of an impl
 //! that breaks it is refused, though no contract of the layer names it.
 
 ghost use Rattle.std.specs.Prelude.{◌≡◌, ◌↔◌, IsTrue, Ok};
+ghost use Rattle.std.specs.Cmp.Lexicographic.{slice_cmp};
+ghost use Rattle.std.specs.Ordering.{bool_cmp, is_lt};
 ghost use Rattle.bitvec_slice.specs.BitSlice.{bits_of};
 
 use bitvec::mem::BitRegister;
 use bitvec::order::BitOrder;
 use bitvec_slice::slice::{BitSlice, Iter, IterOnes, IterZeros};
 use std::alloc::AllocError;
+use std::hash::{Hash, Hasher};
 
 // Slices are compared by their bits, and a copy is of the same memory and the same place.
 
@@ -20,6 +23,46 @@ fn equal_slices<R: BitRegister, O: BitOrder<R>>(
     ensures { IsTrue result ↔ (bits_of here.entry ≡ bits_of there.entry) }
 {
     here == there
+}
+
+fn is_before<R: BitRegister, O: BitOrder<R>>(
+    here: BitSlice<'_, R, O>,
+    there: BitSlice<'_, R, O>,
+) -> bool
+    ensures { result ≡ is_lt (slice_cmp bool_cmp (bits_of here.entry) (bits_of there.entry)) }
+{
+    here < there
+}
+
+// Slices are hashed as the lists of their bits are, so alike where these are the same, whatever the
+// registers and orders are.
+
+fn hash_of_a_list<R: BitRegister, O: BitOrder<R>, H: Hasher>(
+    slice: BitSlice<'_, R, O>,
+    list: &[bool],
+    here: &mut H,
+    there: &mut H,
+)
+    requires same { bits_of slice ≡ list.now }
+    requires state { here.old ≡ there.old }
+    ensures { here.new ≡ there.new }
+{
+    slice.hash(here);
+    list.hash(there);
+}
+
+fn hash_of_two_slices<R: BitRegister, O: BitOrder<R>, R2: BitRegister, O2: BitOrder<R2>, H: Hasher>(
+    slice: BitSlice<'_, R, O>,
+    other: BitSlice<'_, R2, O2>,
+    here: &mut H,
+    there: &mut H,
+)
+    requires same { bits_of slice ≡ bits_of other }
+    requires state { here.old ≡ there.old }
+    ensures { here.new ≡ there.new }
+{
+    slice.hash(here);
+    other.hash(there);
 }
 
 fn copied_slice<'a, R: BitRegister, O: BitOrder<R>>(

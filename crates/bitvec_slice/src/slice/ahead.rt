@@ -5,14 +5,14 @@ ghost use Rattle.bitvec.specs.Digit.{digit, exclusive_or};
 ghost use Rattle.bitvec.specs.Span.{element};
 ghost use Rattle.bitvec_slice.specs.BitSlice.{slice_span, slice_len, bits_of};
 ghost use Rattle.bitvec_slice.specs.Bits.{AllBetween, IsFirstBetween};
-ghost use Rattle.bitvec_slice.specs.WordEnds.{IsChosen};
+ghost use Rattle.bitvec_slice.specs.Field.{stretch_end};
+ghost use Rattle.bitvec_slice.specs.Chosen.{IsChosen, IsFound};
 
 use crate::slice::BitSlice;
-use crate::slice::word_ends::first_index;
 use bitvec::index::BitIdx;
 use bitvec::mem;
 use bitvec::mem::BitRegister;
-use bitvec::order::BitOrder;
+use bitvec::order::{BitOrder, first_index};
 
 // The digits of a word, with that of an index turned over.
 #[inline(always)]
@@ -24,20 +24,19 @@ fn turned_at<R: BitRegister, O: BitOrder<R>>(word: R, index: u8) -> R
     word.xor(BitIdx::<R>::new_unchecked(index).select::<O>().into_inner())
 }
 
-// The bits of a slice from index `next` on that are `bit`: those before index `upto` are the ones
-// of `left`, and lie in word `word`.
+// The bits of a slice from index `next` on that are `bit`: those of word `word` are the ones of
+// `left`.
 #[derive(Drop)]
 pub(super) struct Ahead<'a, R: BitRegister, O: BitOrder<R>> {
     pub(super) slice: BitSlice<'a, R, O>,
     pub(super) bit: bool,
     pub(super) next: usize,
     word: usize,
-    upto: usize,
     left: R,
-    pub ghost ordered: { next ≤ upto },
-    pub ghost inside: { upto ≤ slice_len slice },
+    pub ghost ordered: { next
+        ≤ stretch_end R.BITS (slice_span slice).head (slice_len slice) word },
     pub ghost chosen: { IsChosen R.BITS O.at_of (slice_span slice).head (bits_of slice) word next
-        upto bit (R.number left) },
+        (stretch_end R.BITS (slice_span slice).head (slice_len slice) word) bit (R.number left) },
 }
 
 impl<'a, R: BitRegister, O: BitOrder<R>> Ahead<'a, R, O> {
@@ -47,13 +46,18 @@ impl<'a, R: BitRegister, O: BitOrder<R>> Ahead<'a, R, O> {
         ensures bit { result.bit ≡ bit }
         ensures next { result.next ≡ 0 }
     {
+        let upto = whole.len().min(mem::bits_of::<R>() - whole.head());
+        let left = if upto == 0 {
+            R::ZERO
+        } else {
+            whole.chosen(0, 0, upto, bit)
+        };
         Ahead {
             slice: whole,
             bit,
             next: 0,
             word: 0,
-            upto: 0,
-            left: R::ZERO,
+            left,
         }
     }
 
@@ -66,28 +70,26 @@ impl<'a, R: BitRegister, O: BitOrder<R>> Ahead<'a, R, O> {
             bit: self.bit,
             next: self.next,
             word: self.word,
-            upto: self.upto,
             left: self.left,
         }
     }
 
-    // Goes behind index `i`, where the bit is `bit`.
-    fn go_behind(&mut self, i: usize)
-        requires inside { i < slice_len self.old.slice }
-        requires here { element (bits_of self.old.slice) i ≡ self.old.bit }
-        ensures slice { self.new.slice ≡ self.old.slice }
-        ensures bit { self.new.bit ≡ self.old.bit }
-        ensures next { self.new.next ≡ i + 1 }
+    // The word of the first bit that is still to come: its number, such bits of it as the ones of a
+    // word, and the index of the first. `None` only where none comes before index `end`.
+    #[inline(always)]
+    fn found(&self, end: usize) -> Option<(usize, R, u8)>
+        requires { end ≤ slice_len self.now.slice }
+        ensures { let upto = stretch_end R.BITS (slice_span self.now.slice).head
+            (slice_len self.now.slice)
+            in MatchOption result
+            (AllBetween (not self.now.bit) (bits_of self.now.slice) self.now.next end)
+            (λ it. IsFound R.BITS O.at_of (slice_span self.now.slice).head (bits_of self.now.slice)
+            self.now.bit self.now.next (upto it.0) it.0 (R.number it.1) it.2) }
     {
-        let head = self.slice.head();
-        let width = mem::bits_of::<R>();
-        let word = (head + i) / width;
-        let upto = self.slice.len().min((word + 1) * width - head);
-        let from = self.slice.chosen(word, i, upto, self.bit);
-        self.left = turned_at::<R, O>(from, (head + i - word * width) as u8);
-        self.next = i + 1;
-        self.word = word;
-        self.upto = upto;
+        match first_index::<R, O>(self.left) {
+            Some(index) => Some((self.word, self.left, index)),
+            None => self.slice.chosen_later(self.word, end, self.bit),
+        }
     }
 
     // The index of the first bit before index `end` that is `bit`, behind which it goes.
@@ -102,21 +104,15 @@ impl<'a, R: BitRegister, O: BitOrder<R>> Ahead<'a, R, O> {
         ensures next { MatchOption result (self.new.next ≡ self.old.next)
             (λ i. self.new.next ≡ i + 1) }
     {
-        if let Some(index) = first_index::<R, O>(self.left) {
-            let i = self.word * mem::bits_of::<R>() + usize::from(index) - self.slice.head();
-            if end <= i {
-                return None;
-            }
-            self.left = turned_at::<R, O>(self.left, index);
-            self.next = i + 1;
-            return Some(i);
+        let found = self.found(end)?;
+        let (word, ones, index) = found;
+        let i = word * mem::bits_of::<R>() + usize::from(index) - self.slice.head();
+        if end <= i {
+            return None;
         }
-        match self.slice.first_between(self.upto, end, self.bit) {
-            Some(i) => {
-                self.go_behind(i);
-                Some(i)
-            }
-            None => None,
-        }
+        self.word = word;
+        self.left = turned_at::<R, O>(ones, index);
+        self.next = i + 1;
+        Some(i)
     }
 }

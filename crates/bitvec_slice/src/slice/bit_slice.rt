@@ -4,6 +4,7 @@ ghost use Rattle.std.specs.Prelude.{◌≡◌, ⊤, ◌-◌, ◌<◌, ◌↔◌,
 ghost use Rattle.std.specs.Prelude.{length, map, slice_get};
 ghost use Rattle.bitvec.specs.BitSpan.{span_of, list_by};
 ghost use Rattle.bitvec.specs.Span.{Fits, element};
+ghost use Rattle.bitvec_slice.specs.Lengths.{HasLength};
 
 use bitvec::mem::BitRegister;
 use bitvec::order::BitOrder;
@@ -27,6 +28,7 @@ pub struct BitSlice<'a, R: BitRegister, O: BitOrder<R>> {
     pub(crate) memory: &'a [R],
     pub(crate) span: BitSpan<R, O>,
     pub ghost fits: { Fits R.BITS (span_of span) (length memory.now) },
+    pub ghost many: { HasLength R.BITS O.at_of (span_of span) },
 }
 
 impl<'a, R: BitRegister, O: BitOrder<R>> Clone for BitSlice<'a, R, O> {
@@ -75,8 +77,7 @@ impl<'a, R: BitRegister, O: BitOrder<R>> BitSlice<'a, R, O> {
         self.len() == 0
     }
 
-    /// The bit `i` places after the first, and `None` where there are no more than `i` bits.
-    /// Constant time.
+    /// Bit `i`, and `None` where there are no more than `i` bits. Constant time.
     pub fn get(&self, i: usize) -> Option<bool>
         ensures { result ≡ slice_get (bits_of self.now) i }
     {
@@ -87,8 +88,7 @@ impl<'a, R: BitRegister, O: BitOrder<R>> BitSlice<'a, R, O> {
         }
     }
 
-    /// The bit `i` places after the first. Requires that there is one: [`len`](BitSlice::len) is
-    /// the test. Constant time.
+    /// Bit `i`. Requires that there is one: [`len`](BitSlice::len) is the test. Constant time.
     pub fn get_unchecked(&self, i: usize) -> bool
         requires { i < slice_len self.now }
         ensures { result ≡ element (bits_of self.now) i }

@@ -7,6 +7,7 @@ ghost use Rattle.std.specs.Prelude.{pos, ◌≤◌, ◌+ℤ◌, ◌≤ℤ◌};
 ghost use Rattle.std.specs.Int.{int_div_euclid};
 ghost use Rattle.bitvec.specs.Place.{place_at, region_max_bits, greatest_isize};
 ghost use Rattle.bitvec.specs.Span.{Fits, element};
+ghost use Rattle.bitvec_slice.specs.Lengths.{HasLength};
 
 use crate::slice::BitSlice;
 use bitvec::index::BitIdx;
@@ -17,8 +18,8 @@ use std::marker::PhantomData;
 
 /// The bits of a span in a memory, borrowed for writing.
 ///
-/// The memory is lent until the slice is gone, and then has the slice's list in its place and every
-/// other bit as it was.
+/// The memory is lent until the slice is used for the last time, and then has the slice's list in
+/// its place and every other bit as it was. So it need not be dropped by hand.
 ///
 /// # Examples
 ///
@@ -27,9 +28,9 @@ use std::marker::PhantomData;
 /// let span: BitSpan<u8, Msb0> = BitSpan::new(0, BitIdx::new_unchecked(4), 8).unwrap();
 /// let mut slice = BitSliceMut::new_unchecked(span, &mut memory);
 /// slice.reverse();
-/// drop(slice);
 /// assert_eq!(rt; memory, [0x0F, 0x0F]);
 /// ```
+#[derive(Drop)]
 pub struct BitSliceMut<'a, R: BitRegister, O: BitOrder<R>> {
     pub(crate) memory: &'a mut [R],
     word: isize,
@@ -42,22 +43,7 @@ pub struct BitSliceMut<'a, R: BitRegister, O: BitOrder<R>> {
         ≤ℤ greatest_isize },
     pub ghost fits: { Fits R.BITS (record { word = word; head = head; len = len })
         (length memory.now) },
-}
-
-impl<R: BitRegister, O: BitOrder<R>> Drop for BitSliceMut<'_, R, O> {
-    ghost use Rattle.bitvec_slice.specs.BitSliceMut.{lent_memory};
-
-    fn drop(self)
-        ensures { self.exit.0.now ≡ (lent_memory self.entry).now }
-    {
-        let BitSliceMut {
-            memory: _,
-            word: _,
-            head: _,
-            len: _,
-            of: _,
-        } = self;
-    }
+    pub ghost many: { HasLength R.BITS O.at_of (record { word = word; head = head; len = len }) },
 }
 
 impl<'a, R: BitRegister, O: BitOrder<R>> BitSliceMut<'a, R, O> {
@@ -80,7 +66,7 @@ impl<'a, R: BitRegister, O: BitOrder<R>> BitSliceMut<'a, R, O> {
     }
 
     /// The bits of a span in a memory. Requires that the span lies in it: [`fits`](BitSpan::fits)
-    /// is the test. Constant time. Our own.
+    /// is the test. Constant time. Not in the Rust crate.
     pub fn new_unchecked(span: BitSpan<R, O>, memory: &'a mut [R]) -> Self
         requires { Fits R.BITS (span_of span) (length memory.old) }
         ensures reference { (lent_memory result).ghost_name ≡ memory.entry.ghost_name }
@@ -143,16 +129,14 @@ impl<'a, R: BitRegister, O: BitOrder<R>> BitSliceMut<'a, R, O> {
         self.len() == 0
     }
 
-    /// The bit `i` places after the first, and `None` where there are no more than `i` bits.
-    /// Constant time.
+    /// Bit `i`, and `None` where there are no more than `i` bits. Constant time.
     pub fn get(&self, i: usize) -> Option<bool>
         ensures { result ≡ slice_get (lent_bits self.now) i }
     {
         self.as_bitslice().get(i)
     }
 
-    /// The bit `i` places after the first. Requires that there is one: [`len`](BitSliceMut::len) is
-    /// the test. Constant time.
+    /// Bit `i`. Requires that there is one: [`len`](BitSliceMut::len) is the test. Constant time.
     pub fn get_unchecked(&self, i: usize) -> bool
         requires { i < lent_len self.now }
         ensures { result ≡ element (lent_bits self.now) i }
@@ -160,8 +144,8 @@ impl<'a, R: BitRegister, O: BitOrder<R>> BitSliceMut<'a, R, O> {
         self.as_bitslice().get_unchecked(i)
     }
 
-    /// Writes the bit `i` places after the first. Requires that there is one:
-    /// [`len`](BitSliceMut::len) is the test. Constant time.
+    /// Writes bit `i`. Requires that there is one: [`len`](BitSliceMut::len) is the test. Constant
+    /// time.
     pub fn set(&mut self, i: usize, bit: bool)
         requires { i < lent_len self.old }
         ensures { BecomesBits self.old self.new (slice_set (lent_bits self.old) i bit) }

@@ -5,6 +5,8 @@ ghost use Rattle.std.specs.Prelude.{false, reverse, slice_set};
 ghost use Rattle.std.specs.List.{swap};
 ghost use Rattle.bitvec.specs.Memory.{list_with_copy};
 ghost use Rattle.bitvec.specs.Span.{element, with_filled};
+ghost use Rattle.bitvec_slice.specs.Bits.{AllBetween};
+ghost use Rattle.bitvec_slice.specs.Ranges.{KeepsBeside};
 
 use crate::slice::moves::{reverse_bits, rotate_bits, shift_bits_left, shift_bits_right};
 use crate::slice::{BitSlice, BitSliceMut};
@@ -16,8 +18,8 @@ impl<'a, R: BitRegister, O: BitOrder<R>> BitSliceMut<'a, R, O> {
     ghost use Rattle.bitvec_slice.specs.BitSlice.{slice_len, bits_of};
     ghost use Rattle.bitvec_slice.specs.BitSliceMut.{lent_len, lent_bits, BecomesBits};
 
-    /// Writes the bit `i` places after the first, and returns the bit that was there. Requires that
-    /// there is one: [`len`](BitSliceMut::len) is the test. Constant time.
+    /// Writes bit `i`, and returns the bit that was there. Requires that there is one:
+    /// [`len`](BitSliceMut::len) is the test. Constant time.
     pub fn replace(&mut self, i: usize, bit: bool) -> bool
         requires { i < lent_len self.old }
         ensures previous { result ≡ element (lent_bits self.old) i }
@@ -39,19 +41,20 @@ impl<'a, R: BitRegister, O: BitOrder<R>> BitSliceMut<'a, R, O> {
 
     /// Makes the bits from number `from` to before number `to` the same, word by word.
     ///
-    /// Requires that `from` is at most `to`, and `to` at most the length. Our own.
+    /// Requires that `from` is at most `to`, and `to` at most the length. Not in the Rust crate.
     pub fn fill_range(&mut self, from: usize, to: usize, bit: bool)
         requires ordered { from ≤ to }
         requires inside { to ≤ lent_len self.old }
-        ensures { BecomesBits self.old self.new (with_filled (lent_bits self.old) from to bit) }
+        ensures bits { BecomesBits self.old self.new (with_filled (lent_bits self.old) from to bit) }
+        ensures filled { AllBetween bit (lent_bits self.new) from to }
+        ensures beside { KeepsBeside from to (lent_bits self.old) (lent_bits self.new) }
     {
         let span = self.span();
         let memory = &mut *self.memory;
         span.range(from, to).fill(memory, bit);
     }
 
-    /// Exchanges the bits `i` and `j` places after the first. Requires that there are both.
-    /// Constant time.
+    /// Exchanges bits `i` and `j`. Requires that there are both. Constant time.
     pub fn swap(&mut self, i: usize, j: usize)
         requires first { i < lent_len self.old }
         requires second { j < lent_len self.old }

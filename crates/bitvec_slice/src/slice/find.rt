@@ -1,24 +1,26 @@
 //! What is counted and found in a slice, by whole words.
 
 ghost use Rattle.std.specs.Prelude.{◌≡◌, ℕ, ◌+◌, ◌*◌, ◌^◌, ◌<◌, ◌≤◌, ◌↔◌, IsTrue, true, false};
-ghost use Rattle.std.specs.Prelude.{not, length, map, nat_abs, MatchOption};
+ghost use Rattle.std.specs.Prelude.{not, length, map, nat_abs, slice_index, MatchOption};
+ghost use Rattle.std.specs.Bool.{beq};
 ghost use Rattle.bitvec.specs.Digit.{digit, count_below};
 ghost use Rattle.bitvec.specs.Place.{words_met};
 
 use crate::slice::BitSlice;
-use crate::slice::word_ends::{first_index, last_index};
 use bitvec::index::{BitEnd, BitIdx};
 use bitvec::mem;
 use bitvec::mem::BitRegister;
-use bitvec::order::BitOrder;
+use bitvec::order::{BitOrder, first_index, last_index};
 
 impl<'a, R: BitRegister, O: BitOrder<R>> BitSlice<'a, R, O> {
     ghost use Rattle.bitvec_slice.specs.BitSlice.{slice_memory, slice_span, slice_len, slice_word};
     ghost use Rattle.bitvec_slice.specs.BitSlice.{bits_of};
-    ghost use Rattle.bitvec_slice.specs.Bits.{ones_in, zeros_in, AllAre, IsFirst, IsLast};
+    ghost use Rattle.bitvec.specs.Truths.{ones_in, AllAre, IsFirst};
+    ghost use Rattle.bitvec_slice.specs.Bits.{zeros_in, IsLast};
     ghost use Rattle.bitvec_slice.specs.Bits.{BeginsWith, EndsWith};
     ghost use Rattle.bitvec_slice.specs.Bits.{AllBetween, IsFirstBetween, IsLastBetween};
-    ghost use Rattle.bitvec_slice.specs.WordEnds.{IsChosen};
+    ghost use Rattle.bitvec_slice.specs.Field.{stretch_end};
+    ghost use Rattle.bitvec_slice.specs.Chosen.{IsChosen, IsFound};
     ghost use Rattle.bitvec_slice.specs.Words.{HaveDigits};
 
     // How many bits of the slice in word `k`, counted from its first word, are one.
@@ -27,6 +29,19 @@ impl<'a, R: BitRegister, O: BitOrder<R>> BitSlice<'a, R, O> {
         ensures { result ≡ count_below (digit (slice_word self.now k)) R.BITS }
     {
         self.span.part(self.memory, k).load_value().count_ones() as usize
+    }
+
+    // The words behind the slice's first word and before its last, whose bits are all the slice's.
+    fn inner_words(&self) -> &'a [R]
+        requires { 2 ≤ words_met R.BITS (slice_span self.now).head (slice_span self.now).len }
+        ensures count { length result.now + 2
+            ≡ words_met R.BITS (slice_span self.now).head (slice_span self.now).len }
+        ensures digits { (q p : ℕ) → q < length result.now → p < R.BITS
+            → digit (slice_index (map R.number result.now) q) p
+            ≡ digit (slice_word self.now (q + 1)) p }
+    {
+        let first = self.span.address() as usize;
+        &self.memory[first + 1..first + self.span.elements() - 1]
     }
 
     /// How many bits are one. Costs by words.
@@ -124,6 +139,18 @@ impl<'a, R: BitRegister, O: BitOrder<R>> BitSlice<'a, R, O> {
         self.first_other(k, end, lacking) * width - head
     }
 
+    // The digits of word `k` that are `bit`, as the ones of a word.
+    #[inline(always)]
+    fn turned_word(&self, k: usize, bit: bool) -> R
+        requires { k < words_met R.BITS (slice_span self.now).head (slice_span self.now).len }
+        ensures { (p : ℕ) → p < R.BITS → digit (R.number result) p
+            ≡ beq (digit (slice_index (map R.number (slice_memory self.now))
+            (nat_abs (slice_span self.now).word + k)) p) bit }
+    {
+        let word = self.memory[self.span.address() as usize + k];
+        if bit { word } else { word.not() }
+    }
+
     // The bits from index `from` to before index `upto` that are `bit`, as the ones of a word: of
     // word `k`, in which they lie.
     #[inline(always)]
@@ -143,9 +170,41 @@ impl<'a, R: BitRegister, O: BitOrder<R>> BitSlice<'a, R, O> {
             Some(BitIdx::new_unchecked(low)),
             Some(BitEnd::new_unchecked(high)),
         );
-        let word = self.memory[self.span.address() as usize + k];
-        let turned = if bit { word } else { word.not() };
-        turned.and(mask.into_inner())
+        self.turned_word(k, bit).and(mask.into_inner())
+    }
+
+    // The next word behind word `word` in which a bit is `bit`: its number, such bits of it as the
+    // ones of a word, and the index of the first. `None` only where none before index `end` is.
+    #[inline(always)]
+    pub(super) fn chosen_later(&self, word: usize, end: usize, bit: bool) -> Option<(usize, R, u8)>
+        requires { end ≤ slice_len self.now }
+        ensures { let upto = stretch_end R.BITS (slice_span self.now).head (slice_len self.now)
+            in MatchOption result (AllBetween (not bit) (bits_of self.now) (upto word) end)
+            (λ it. IsFound R.BITS O.at_of (slice_span self.now).head (bits_of self.now) bit
+            (upto word) (upto it.0) it.0 (R.number it.1) it.2) }
+    {
+        let head = self.head();
+        let width = mem::bits_of::<R>();
+        let last = (head + end) / width;
+        if last <= word {
+            return None;
+        }
+        // No word before word `last` wants a mask.
+        for k in word + 1..last {
+            let ones = self.turned_word(k, bit);
+            if let Some(index) = first_index::<R, O>(ones) {
+                return Some((k, ones, index));
+            }
+        }
+        let from = last * width - head;
+        if end <= from {
+            return None;
+        }
+        let ones = self.chosen(last, from, self.len().min(from + width), bit);
+        match first_index::<R, O>(ones) {
+            Some(index) => Some((last, ones, index)),
+            None => None,
+        }
     }
 
     // The first that is `bit`, of the bits from index `from` to before index `upto`, which lie in

@@ -1,7 +1,7 @@
-//! The first run of so many zeros in a slice.
+//! The first run of `count` zeros in a slice.
 //!
 //! Where positions rise or fall with the index, whole words are asked for it: the runs in a word,
-//! and the one that comes from the word before it. Else the last one among so many bits is looked
+//! and the one that comes from the word before it. Else the last one among `count` bits is looked
 //! for.
 
 ghost use Rattle.std.specs.Prelude.{◌≡◌, ℕ, ◌+◌, ◌-◌, ◌*◌, ◌^◌, ◌<◌, ◌≤◌, true, false, MatchOption};
@@ -95,7 +95,7 @@ fn starts_in<R: BitRegister>(word: R, count: u8, rises: bool) -> R
         (digit_of R.BITS rises (R.number result)) }
 {
     let mut starts = word;
-    // A one of `starts` is the first of so many.
+    // A one of `starts` is the first of `have` zeros.
     let mut have: u8 = 1;
     while have < count && starts != R::ZERO {
         let by = have.min(count - have);
@@ -196,7 +196,7 @@ impl<'a, R: BitRegister, O: BitOrder<R>> BitSlice<'a, R, O> {
     }
 
     /// The first index from which on `count` bits are there and zero, and `None` where there is no
-    /// such index. For a `count` of 0 it is 0. Our own.
+    /// such index. For a `count` of 0 it is 0. Not in the Rust crate.
     ///
     /// By words, where positions rise or fall with the index and the run is no longer than a word;
     /// else by bits, and whole words without a one are passed at once.

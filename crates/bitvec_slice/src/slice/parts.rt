@@ -46,6 +46,7 @@ impl<'a, R: BitRegister, O: BitOrder<R>> BitSlice<'a, R, O> {
         ensures accepted { IsSome result ↔ ((from ≤ to) × (to ≤ length (bits_of self.now))) }
         ensures bits { IfSome result (λ part. bits_of part
             ≡ slice_range (bits_of self.now) from to) }
+        ensures len { IfSome result (λ part. slice_len part ≡ to - from) }
         ensures memory { IfSome result (λ part. slice_memory part ≡ slice_memory self.now) }
         ensures span { IfSome result (λ part. slice_span part
             ≡ span_range R.BITS (slice_span self.now) from to) }

@@ -6,7 +6,7 @@ ghost use Rattle.bitvec.specs.BitSpan.{span_of};
 ghost use Rattle.bitvec.specs.Memory.{memory_bits};
 ghost use Rattle.bitvec.specs.Place.{region_max_bits};
 ghost use Rattle.bitvec.specs.Span.{Fits};
-ghost use Rattle.bitvec_slice.specs.Whole.{whole_span};
+ghost use Rattle.bitvec_slice.specs.Whole.{whole_span, ShowsMemory};
 
 use crate::slice::{BitSlice, BitSliceMut};
 use bitvec::index::{BitIdx, Limits};
@@ -14,7 +14,7 @@ use bitvec::mem::BitRegister;
 use bitvec::order::BitOrder;
 use bitvec::ptr::span::{BitSpan, BitSpanError};
 
-// The span of all bits of a memory of so many words.
+// The span of all bits of a memory of `words` words.
 fn span_of_all<R: BitRegister, O>(words: usize) -> Result<BitSpan<R, O>, BitSpanError<R>>
     ensures accepted { IsOk result ↔ (words * R.BITS ≤ region_max_bits) }
     ensures refused { (result ≡ Err (BitSpanError.TooLong (min (words * R.BITS) usize.MAX)))
@@ -27,6 +27,18 @@ fn span_of_all<R: BitRegister, O>(words: usize) -> Result<BitSpan<R, O>, BitSpan
 
 impl<'a, R: BitRegister, O: BitOrder<R>> BitSlice<'a, R, O> {
     ghost use Rattle.bitvec_slice.specs.BitSlice.{slice_memory, slice_span, bits_of};
+
+    /// Every bit of a memory. Requires that there are at most 2305843009213693951. Constant time.
+    /// Not in the Rust crate.
+    pub fn all_unchecked(memory: &'a [R]) -> Self
+        requires { length memory.now * R.BITS ≤ region_max_bits }
+        ensures memory { slice_memory result ≡ memory.now }
+        ensures span { slice_span result ≡ whole_span R.BITS (length memory.now) }
+        ensures bits { bits_of result ≡ memory_bits R.BITS O.at_of (map R.number memory.now) }
+        ensures whole { ShowsMemory R.BITS O.at_of (slice_span result) (length memory.now) }
+    {
+        Self::all(memory).unwrap()
+    }
 
     /// Every bit of a memory.
     ///
@@ -42,6 +54,8 @@ impl<'a, R: BitRegister, O: BitOrder<R>> BitSlice<'a, R, O> {
             ≡ whole_span R.BITS (length memory.now)) }
         ensures bits { IfOk result (λ slice. bits_of slice
             ≡ memory_bits R.BITS O.at_of (map R.number memory.now)) }
+        ensures whole { IfOk result (λ slice. ShowsMemory R.BITS O.at_of (slice_span slice)
+            (length memory.now)) }
     {
         let span = span_of_all(memory.len())?;
         Ok(BitSlice { memory, span })
@@ -52,13 +66,14 @@ impl<'a, R: BitRegister, O: BitOrder<R>> BitSliceMut<'a, R, O> {
     ghost use Rattle.bitvec_slice.specs.BitSliceMut.{lent_memory, lent_span, lent_bits};
 
     /// Every bit of a memory. Requires that there are at most 2305843009213693951. Constant time.
-    /// Our own.
+    /// Not in the Rust crate.
     pub fn all_unchecked(memory: &'a mut [R]) -> Self
         requires { length memory.old * R.BITS ≤ region_max_bits }
         ensures reference { (lent_memory result).ghost_name ≡ memory.entry.ghost_name }
         ensures memory { (lent_memory result).now ≡ memory.old }
         ensures span { lent_span result ≡ whole_span R.BITS (length memory.old) }
         ensures bits { lent_bits result ≡ memory_bits R.BITS O.at_of (map R.number memory.old) }
+        ensures whole { ShowsMemory R.BITS O.at_of (lent_span result) (length memory.old) }
     {
         let span = span_of_all(memory.len()).unwrap();
         Self::new_unchecked(span, memory)
@@ -83,6 +98,8 @@ impl<'a, R: BitRegister, O: BitOrder<R>> BitSliceMut<'a, R, O> {
             ≡ whole_span R.BITS (length memory.old)) }
         ensures bits { IfOk result (λ slice. lent_bits slice
             ≡ memory_bits R.BITS O.at_of (map R.number memory.old)) }
+        ensures whole { IfOk result (λ slice. ShowsMemory R.BITS O.at_of (lent_span slice)
+            (length memory.old)) }
     {
         match span_of_all(memory.len()) {
             Ok(span) => Ok(Self::new_unchecked(span, memory)),

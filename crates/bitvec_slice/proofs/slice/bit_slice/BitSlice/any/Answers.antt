@@ -1,5 +1,5 @@
 use Rattle.std.proofs.Common.{◌≡◌, false, subst, sym, true, ◌↔◌}
-use Rattle.bitvec_slice.specs.Bits.{AllAre}
+use Rattle.bitvec.specs.Truths.{AllAre}
 use Rattle.bitvec_slice.specs.BitSlice.{bits_of}
 use Rattle.bitvec_slice.proofs.FindLemmas.{first_shows}
 use Rattle.bitvec_slice.proofs.slice.bit_slice.BitSlice.any.Goals as goal

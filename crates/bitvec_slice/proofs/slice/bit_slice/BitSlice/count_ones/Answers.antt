@@ -3,7 +3,8 @@ use Rattle.bitvec.specs.Digit.{digit, count_below}
 use Rattle.bitvec.proofs.DigitLemmas.{count_below-same}
 use Rattle.bitvec.proofs.PartLemmas.{element_past, length-list_of}
 use Rattle.bitvec_slice.specs.BitSlice.{slice_memory, slice_span, slice_word, bits_of}
-use Rattle.bitvec_slice.proofs.CountLemmas.{place_test, count_start, count_more, counted_small, counted_all}
+use Rattle.bitvec.proofs.CountLemmas.{count_start}
+use Rattle.bitvec_slice.proofs.ListCountLemmas.{place_test, count_more, counted_small, counted_all}
 use Rattle.bitvec_slice.proofs.SkipLemmas.{number_at}
 use Rattle.bitvec_slice.proofs.slice.bit_slice.BitSlice.count_ones.Goals as goal
 

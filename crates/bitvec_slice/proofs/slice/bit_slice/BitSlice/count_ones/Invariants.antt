@@ -1,7 +1,7 @@
 use Rattle.std.proofs.Common.{◌≡◌, ◌+◌, ◌*◌}
 use Rattle.bitvec.specs.Digit.{count_below}
 use Rattle.bitvec_slice.specs.BitSlice.{slice_span, bits_of}
-use Rattle.bitvec_slice.proofs.CountLemmas.{place_test}
+use Rattle.bitvec_slice.proofs.ListCountLemmas.{place_test}
 use Rattle.bitvec_slice.proofs.slice.bit_slice.BitSlice.count_ones.Given as goal
 
 -- the ones in the first word and in the i words behind it are counted

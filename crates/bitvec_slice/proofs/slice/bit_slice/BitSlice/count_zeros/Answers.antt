@@ -1,7 +1,7 @@
 use Rattle.std.proofs.Common.{length, arith}
 use Rattle.bitvec.specs.Span.{element}
 use Rattle.bitvec_slice.specs.BitSlice.{bits_of}
-use Rattle.bitvec_slice.proofs.CountLemmas.{count_both}
+use Rattle.bitvec.proofs.CountLemmas.{count_both}
 use Rattle.bitvec_slice.proofs.slice.bit_slice.BitSlice.count_zeros.Goals as goal
 
 pub overflow_sub-result : goal.overflow_sub-result

@@ -2,7 +2,7 @@ use Rattle.std.proofs.Common.{◌≡◌, ◌*◌, ◌+◌, ◌-◌, ◌<◌, map
 use Rattle.bitvec.proofs.PartLemmas.{length-list_of}
 use Rattle.bitvec_slice.specs.BitSlice.{slice_memory, slice_span, bits_of}
 use Rattle.bitvec_slice.specs.FreeRuns.{digit_of, is_free}
-use Rattle.bitvec_slice.proofs.CountLemmas.{met_small}
+use Rattle.bitvec_slice.proofs.ListCountLemmas.{met_small}
 use Rattle.bitvec_slice.proofs.FreeRunLemmas.{passed_none, passed_more, first_of_all, shows_free, first_free, none_free}
 use Rattle.bitvec_slice.proofs.slice.bit_slice.BitSlice.find_zeros_by_words.Goals as goal
 

@@ -5,7 +5,7 @@ use Rattle.std.proofs.lemmas.Int.{ints}
 use mir.Val.{to_z, of_z}
 use Rattle.bitvec.specs.Digit.{digit}
 use Rattle.bitvec_slice.specs.BitSlice.{slice_memory, slice_span}
-use Rattle.bitvec_slice.proofs.SameWordsLemmas.{inner_index, inner_digits}
+use Rattle.bitvec_slice.proofs.InnerWordLemmas.{inner_index, inner_digits}
 use Rattle.bitvec_slice.proofs.slice.bit_slice.BitSlice.inner_words.Goals as goal
 
 pub returns-clause-digits : goal.returns-clause-digits

@@ -12,10 +12,10 @@ split_at-requires g c =
     omega (arith, c.requires, long)
 
 pub invariant_of-result : goal.invariant_of-result
-invariant_of-result g c = record { fits = (c.split_at.ensures.fit (length (slice_memory c.args.self.now)) c.args.self.now.fits).0 }
+invariant_of-result g c = record { fits = (c.split_at.ensures.fit (length (slice_memory c.args.self.now)) c.args.self.now.fits).0; many = length-list_of g.R.BitRegister.BITS g.O.BitAt.at_of (span_of c.split_at.result.0) }
 
 pub invariant_of-result-2 : goal.invariant_of-result-2
-invariant_of-result-2 g c = record { fits = (c.split_at.ensures.fit (length (slice_memory c.args.self.now)) c.args.self.now.fits).1 }
+invariant_of-result-2 g c = record { fits = (c.split_at.ensures.fit (length (slice_memory c.args.self.now)) c.args.self.now.fits).1; many = length-list_of g.R.BitRegister.BITS g.O.BitAt.at_of (span_of c.split_at.result.1) }
 
 pub returns-clause-front : goal.returns-clause-front
 returns-clause-front g c =

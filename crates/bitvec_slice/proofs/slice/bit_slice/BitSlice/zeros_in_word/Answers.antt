@@ -9,7 +9,7 @@ use Rattle.bitvec.specs.Parts.{Part}
 use Rattle.bitvec.proofs.PartLemmas.{length-list_of}
 use Rattle.bitvec_slice.specs.BitSlice.{slice_memory, slice_span, bits_of}
 use Rattle.bitvec_slice.proofs.PartMasks.{lacking_zeros, lacking_same}
-use Rattle.bitvec_slice.proofs.SameWordsLemmas.{inner_digits}
+use Rattle.bitvec_slice.proofs.InnerWordLemmas.{inner_digits}
 use Rattle.bitvec_slice.proofs.SkipLemmas.{number_at}
 use Rattle.bitvec_slice.proofs.FreeRunLemmas.{free_masked, free_whole}
 use Rattle.bitvec_slice.proofs.slice.bit_slice.BitSlice.zeros_in_word.Goals as goal

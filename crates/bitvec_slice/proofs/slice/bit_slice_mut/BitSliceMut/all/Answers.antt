@@ -5,6 +5,9 @@ use Rattle.bitvec_slice.specs.BitSliceMut.{lent_memory, lent_span}
 use Rattle.bitvec_slice.proofs.SlicePartLemmas.{list_of_whole}
 use Rattle.bitvec_slice.proofs.slice.bit_slice_mut.BitSliceMut.all.Goals as goal
 
+pub returns-in-Ok-clause-whole : goal.returns-in-Ok-clause-whole
+returns-in-Ok-clause-whole g c = λ words. list_of_whole g.R.BitRegister.BITS g.O.BitAt.at_of (lent_span c.new_unchecked.result) words _ (c.new_unchecked.ensures.span ∙ c.in-Ok.ensures.span)
+
 pub returns-in-Ok-clause-bits : goal.returns-in-Ok-clause-bits
 returns-in-Ok-clause-bits g c =
     let width = g.R.BitRegister.BITS in

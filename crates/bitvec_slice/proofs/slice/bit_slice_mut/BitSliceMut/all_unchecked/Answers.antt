@@ -10,6 +10,9 @@ use Rattle.bitvec_slice.proofs.slice.bit_slice_mut.BitSliceMut.all_unchecked.Goa
 pub returns-clause-span : goal.returns-clause-span
 returns-clause-span g c = c.new_unchecked.ensures.span ∙ subst (λ o. IfOk o (λ span. span_of span ≡ whole_span g.R.BitRegister.BITS (length c.args.memory.now))) c.unwrap-span.ensures c.span_of_all.ensures.span
 
+pub returns-clause-whole : goal.returns-clause-whole
+returns-clause-whole g c = λ words. list_of_whole g.R.BitRegister.BITS g.O.BitAt.at_of (lent_span c.new_unchecked.result) words _ (returns-clause-span g c)
+
 pub returns-clause-bits : goal.returns-clause-bits
 returns-clause-bits g c =
     let width = g.R.BitRegister.BITS in

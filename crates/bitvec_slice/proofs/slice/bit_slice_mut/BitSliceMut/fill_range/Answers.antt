@@ -1,9 +1,10 @@
 use Rattle.std.proofs.Common.{Bool, List, map, refl}
 use Rattle.bitvec.specs.BitSpan.{span_of}
 use Rattle.bitvec.specs.Span.{Span, list_of}
-use Rattle.std.proofs.Common.{◌++◌, ◌-◌, length, take, drop, replicate, subst, sym}
+use Rattle.std.proofs.Common.{◌≤◌, ◌++◌, ◌-◌, arith, length, take, drop, replicate, subst, sym}
 use Rattle.bitvec.specs.Span.{Fits}
 use Rattle.bitvec.proofs.BecomesLemmas.{fits-numbers}
+use Rattle.bitvec_slice.proofs.EditRangeLemmas.{fill_shows, fill_keeps}
 use Rattle.bitvec_slice.proofs.SpanEdits.{range-filled}
 use Rattle.bitvec_slice.specs.BitSliceMut.{lent_span, lent_words}
 use Rattle.bitvec_slice.proofs.SpanEdits.{edit-named}
@@ -33,4 +34,10 @@ returns g c =
     let put = λ (xs : List Bool). take c.args.from xs ++ replicate (c.args.to - c.args.from) c.args.bit ++ drop c.args.to xs in
     let bits = λ (s : Span). put (list_of width at s old) in
     let edit = edit-named width at (span_of c.span-span.result) span old new bits c.span-span.ensures filled in
-    (edit.list, refl, refl, edit)
+    let xs : List Bool = list_of width at span old in
+    let long : c.args.to ≤ length xs = omega (arith, c.requires.inside, slice.many old) in
+    record {
+      bits = (edit.list, refl, refl, edit);
+      filled = fill_shows xs _ c.args.from c.args.to c.args.bit c.requires.ordered long edit.list;
+      beside = fill_keeps xs _ c.args.from c.args.to c.args.bit c.requires.ordered long edit.list;
+    }

@@ -1,0 +1,19 @@
+use Rattle.std.proofs.Common.{◌∙◌, min, take, drop, ap, arith}
+use Rattle.std.proofs.lemmas.List.{take_min, drop_min}
+use Rattle.bitvec_slice.specs.BitSlice.{bits_of}
+use Rattle.bitvec_slice.specs.PieceIters.{chunks_left}
+use Rattle.bitvec_slice.proofs.PieceLemmas.{chunks_first, progress_first_by}
+use Rattle.bitvec_slice.proofs.slice.chunks.ChunksIterator.next.Goals as goal
+
+pub returns-clause-steps : goal.returns-clause-steps
+returns-clause-steps g c =
+    let it = c.args.self.now in
+    let xs = bits_of it.rest in
+    let many = c.len-len.ensures.list in
+    let count = c.min.ensures ∙ ap (min it.size) many in
+    let first = c.split_at.ensures.front ∙ ap (λ l. take l xs) count ∙ take_min it.size xs in
+    let rest = c.split_at.ensures.back ∙ ap (λ l. drop l xs) count ∙ drop_min it.size xs in
+    chunks_first it.size xs _ _ it.some (omega (arith, c.if-len-eq0.false, many)) first rest
+
+pub returns-clause-goes : goal.returns-clause-goes
+returns-clause-goes g c = progress_first_by _ bits_of chunks_left _ _ _ tt (returns-clause-steps g c)

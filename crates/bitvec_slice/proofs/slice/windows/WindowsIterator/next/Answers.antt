@@ -1,0 +1,14 @@
+use Rattle.std.proofs.Common.{arith}
+use Rattle.bitvec_slice.specs.BitSlice.{bits_of}
+use Rattle.bitvec_slice.specs.PieceIters.{windows_left}
+use Rattle.bitvec_slice.proofs.PieceLemmas.{progress_first_by, windows_first}
+use Rattle.bitvec_slice.proofs.slice.windows.WindowsIterator.next.Goals as goal
+
+pub returns-clause-steps : goal.returns-clause-steps
+returns-clause-steps g c =
+    let it = c.args.self.now in
+    let xs = bits_of it.rest in
+    windows_first it.size xs _ _ it.some (omega (arith, c.if-len-self.false, c.len.ensures.list)) c.split_at.ensures.front c.split_at-2.ensures.back
+
+pub returns-clause-goes : goal.returns-clause-goes
+returns-clause-goes g c = progress_first_by _ bits_of windows_left _ _ _ tt (returns-clause-steps g c)

@@ -1,0 +1,24 @@
+-- Elements of a list that are the ones of a word. `bits` is the width of a word, and `at` takes an index to its position.
+use Rattle.std.specs.Prelude.{◌≡◌, ℕ, ◌+◌, ◌-◌, ◌*◌, ◌<◌, ◌≤◌, ◌&&◌, Bool, not, List, nat_le, nat_lt}
+use Rattle.std.specs.Bool.{beq}
+use Rattle.bitvec.specs.Digit.{digit}
+use Rattle.bitvec.specs.Span.{element}
+use Rattle.bitvec.specs.WordEnds.{IsFirstIndex}
+use Rattle.bitvec_slice.specs.Bits.{AllBetween}
+
+-- The ones of a word are the elements of a list from index `from` to before index `upto` that are `bit`, each at the index
+-- that it has in word k of those that the list meets under a head.
+pub record IsChosen (bits : ℕ) (at : ℕ → ℕ) (head : ℕ) (xs : List Bool) (k from upto : ℕ) (bit : Bool) (w : ℕ) : Type 0 where
+  pub start : k * bits ≤ head + from
+  pub end : head + upto ≤ (k + 1) * bits
+  pub ones : (i : ℕ) → i < bits → digit w (at i)
+      ≡ (nat_le (head + from) (k * bits + i) && nat_lt (k * bits + i) (head + upto) && beq (element xs (k * bits + i - head)) bit)
+
+-- Of the elements of a list from index `from` on, the first that is `bit` is at index i in word k of those that the list
+-- meets under a head. The ones of w are such elements of that word, up to index `upto`.
+pub record IsFound (bits : ℕ) (at : ℕ → ℕ) (head : ℕ) (xs : List Bool) (bit : Bool) (from upto k w i : ℕ) : Type 0 where
+  pub begin : ℕ
+  pub later : from ≤ begin
+  pub passed : AllBetween (not bit) xs from begin
+  pub chosen : IsChosen bits at head xs k begin upto bit w
+  pub first : IsFirstIndex bits at w i

@@ -1,0 +1,168 @@
+//! The operators `&=`, `|=`, `^=` and `!` of a `BitSliceMut`.
+
+ghost use Rattle.std.specs.Prelude.{◌-◌, ◌++◌, ◌&&◌, ◌||◌, false, not, map, length, drop, replicate};
+ghost use Rattle.bitvec.specs.BitSpan.{span_of, list_by, Becomes};
+ghost use Rattle.bitvec.specs.Digit.{exclusive_or};
+ghost use Rattle.bitvec.specs.Memory.{zip_with};
+ghost use Rattle.bitvec.specs.Span.{Fits};
+ghost use Rattle.bitvec_slice.specs.BitSlice.{bits_of};
+
+use crate::slice::{BitSlice, BitSliceMut};
+use bitvec::mem::BitRegister;
+use bitvec::order::BitOrder;
+use bitvec::ptr::combine::{And, Combine, Or, Xor};
+use bitvec::ptr::span::BitSpan;
+use std::ops::{BitAndAssign, BitOrAssign, BitXorAssign, Not};
+
+// Combines the bits of a slice with those of a span as far as both go, and changes no other bit.
+fn combine_common<C: Combine, R: BitRegister, O: BitOrder<R>, R2: BitRegister, O2: BitOrder<R2>>(
+    span: BitSpan<R, O>,
+    memory: &mut [R],
+    source: BitSlice<'_, R2, O2>,
+)
+    requires fits { Fits R.BITS (span_of span) (length memory.old) }
+    ensures { let xs = list_by span O.at_of memory.old in let ys = bits_of source.entry
+        in Becomes span O.at_of memory.old memory.new (zip_with C.of xs ys ++ drop (length ys) xs) }
+{
+    let count = span.len().min(source.len());
+    let target = span.range(0, count);
+    target.combine_from::<C, R2, O2>(memory, source.span.range(0, count), source.memory);
+}
+
+// Clears the bits of a span whose bit in a slice is clear, and those behind the slice's last, and
+// changes no other bit.
+fn and_common<R: BitRegister, O: BitOrder<R>, R2: BitRegister, O2: BitOrder<R2>>(
+    span: BitSpan<R, O>,
+    memory: &mut [R],
+    source: BitSlice<'_, R2, O2>,
+)
+    requires fits { Fits R.BITS (span_of span) (length memory.old) }
+    ensures { let xs = list_by span O.at_of memory.old in let ys = bits_of source.entry
+        in Becomes span O.at_of memory.old memory.new
+        (zip_with (λ t s. t && s) xs ys ++ replicate (length xs - length ys) false) }
+{
+    combine_common::<And, R, O, R2, O2>(span, memory, source);
+    let (common, len) = (source.len(), span.len());
+    if common < len {
+        span.range(common, len).fill(memory, false);
+    }
+}
+
+impl<'a, R: BitRegister, O: BitOrder<R>> BitSliceMut<'a, R, O> {
+    ghost use Rattle.bitvec_slice.specs.BitSliceMut.{lent_bits, BecomesBits};
+
+    // Combines the bits of another slice with the slice's as far as both go.
+    fn combine_as_far<C: Combine, R2: BitRegister, O2: BitOrder<R2>>(
+        &mut self,
+        source: BitSlice<'_, R2, O2>,
+    )
+        ensures { let xs = lent_bits self.old in let ys = bits_of source.entry
+            in BecomesBits self.old self.new (zip_with C.of xs ys ++ drop (length ys) xs) }
+    {
+        let span = self.span();
+        let memory = &mut *self.memory;
+        combine_common::<C, R, O, R2, O2>(span, memory, source);
+    }
+}
+
+/// Leaves set those bits whose bit in the other slice is set. Where the other slice is shorter, the
+/// bits behind its last are cleared, as by a slice that goes on with zeros.
+///
+/// By words where the positions of both orders rise or those of both fall, else by bits. As in the
+/// Rust crate.
+///
+/// # Examples
+///
+/// ```
+/// let memory = [0x0Fu8];
+/// let span: BitSpan<u8, Lsb0> = BitSpan::at(0, 6).unwrap();
+/// let other = BitSlice::new(span, &memory).ok_or("outside")?;
+/// let mut words = [0xFCu8, 0xFF];
+/// let span: BitSpan<u8, Lsb0> = BitSpan::at(0, 12).unwrap();
+/// let mut slice = BitSliceMut::new_unchecked(span, &mut words);
+/// slice &= other;
+/// drop(slice);
+/// assert_eq!(rt; words, [0x0C, 0xF0]);
+/// ```
+impl<'a, 'b, R: BitRegister, O: BitOrder<R>, R2: BitRegister, O2: BitOrder<R2>> BitAndAssign<
+    BitSlice<'b, R2, O2>,
+> for BitSliceMut<'a, R, O> {
+    ghost use Rattle.bitvec_slice.specs.BitSliceMut.{lent_bits, BecomesBits};
+
+    ghost bitand_assign_gives = { λ old source new. BecomesBits old new
+        (zip_with (λ t s. t && s) (lent_bits old) (bits_of source)
+        ++ replicate (length (lent_bits old) - length (bits_of source)) false) };
+
+    fn bitand_assign(&mut self, rhs: BitSlice<'b, R2, O2>) {
+        let span = self.span();
+        let memory = &mut *self.memory;
+        and_common(span, memory, rhs);
+    }
+}
+
+/// Sets those bits whose bit in the other slice is set. Where the other slice is shorter, the bits
+/// behind its last stay, as by a slice that goes on with zeros.
+///
+/// By words where the positions of both orders rise or those of both fall, else by bits. As in the
+/// Rust crate.
+///
+/// # Examples
+///
+/// ```
+/// let memory = [0x0Fu8];
+/// let span: BitSpan<u8, Lsb0> = BitSpan::at(0, 6).unwrap();
+/// let other = BitSlice::new(span, &memory).ok_or("outside")?;
+/// let mut words = [0xC0u8, 0x01];
+/// let span: BitSpan<u8, Lsb0> = BitSpan::at(2, 12).unwrap();
+/// let mut slice = BitSliceMut::new_unchecked(span, &mut words);
+/// slice |= other;
+/// drop(slice);
+/// assert_eq!(rt; words, [0xFC, 0x01]);
+/// ```
+impl<'a, 'b, R: BitRegister, O: BitOrder<R>, R2: BitRegister, O2: BitOrder<R2>> BitOrAssign<
+    BitSlice<'b, R2, O2>,
+> for BitSliceMut<'a, R, O> {
+    ghost use Rattle.bitvec_slice.specs.BitSliceMut.{lent_bits, BecomesBits};
+
+    ghost bitor_assign_gives = { λ old source new. BecomesBits old new
+        (zip_with (λ t s. t || s) (lent_bits old) (bits_of source)
+        ++ drop (length (bits_of source)) (lent_bits old)) };
+
+    fn bitor_assign(&mut self, rhs: BitSlice<'b, R2, O2>) {
+        self.combine_as_far::<Or, R2, O2>(rhs);
+    }
+}
+
+/// Turns over those bits whose bit in the other slice is set. Where the other slice is shorter, the
+/// bits behind its last stay, as by a slice that goes on with zeros.
+///
+/// By words where the positions of both orders rise or those of both fall, else by bits. As in the
+/// Rust crate.
+impl<'a, 'b, R: BitRegister, O: BitOrder<R>, R2: BitRegister, O2: BitOrder<R2>> BitXorAssign<
+    BitSlice<'b, R2, O2>,
+> for BitSliceMut<'a, R, O> {
+    ghost use Rattle.bitvec_slice.specs.BitSliceMut.{lent_bits, BecomesBits};
+
+    ghost bitxor_assign_gives = { λ old source new. BecomesBits old new
+        (zip_with exclusive_or (lent_bits old) (bits_of source)
+        ++ drop (length (bits_of source)) (lent_bits old)) };
+
+    fn bitxor_assign(&mut self, rhs: BitSlice<'b, R2, O2>) {
+        self.combine_as_far::<Xor, R2, O2>(rhs);
+    }
+}
+
+/// The slice with each bit turned over in its memory, as by [`invert`](BitSliceMut::invert). As in
+/// the Rust crate.
+impl<'a, R: BitRegister, O: BitOrder<R>> Not for BitSliceMut<'a, R, O> {
+    ghost use Rattle.bitvec_slice.specs.BitSliceMut.{lent_bits, BecomesBits};
+
+    type Output = BitSliceMut<'a, R, O>;
+
+    ghost not_gives = { λ old new. BecomesBits old new (map not (lent_bits old)) };
+
+    fn not(mut self) -> BitSliceMut<'a, R, O> {
+        self.invert();
+        self
+    }
+}

@@ -1,0 +1,278 @@
+//! What a `BitSliceMut` is asked without a change: each call is that of its bits for reading.
+
+ghost use Rattle.std.specs.Prelude.{◌≡◌, ◌↔◌, ◌-◌, ◌+◌, ◌^◌, ◌<◌, ◌≤◌, ℕ, IsTrue, MatchOption};
+ghost use Rattle.std.specs.Prelude.{IsSome, IfSome, true, false, min, length, take, drop};
+ghost use Rattle.std.specs.Prelude.{slice_range};
+ghost use Rattle.bitvec.specs.Span.{element, span_upto, span_from, span_range};
+ghost use Rattle.bitvec.specs.Truths.{ones_in, AllAre, IsFirst};
+ghost use Rattle.bitvec_slice.specs.Bits.{zeros_in, IsLast, BeginsWith, EndsWith, AreFree};
+ghost use Rattle.bitvec_slice.specs.Bits.{AllBetween, IsFirstBetween, IsLastBetween};
+ghost use Rattle.bitvec_slice.specs.Bits.{ones_between, zeros_between};
+ghost use Rattle.bitvec_slice.specs.SameBits.{AreSameBits};
+
+use crate::slice::{BitSlice, BitSliceMut, Iter, IterOnes, IterZeros};
+use bitvec::mem::BitRegister;
+use bitvec::order::BitOrder;
+
+impl<'a, R: BitRegister, O: BitOrder<R>> BitSliceMut<'a, R, O> {
+    ghost use Rattle.bitvec_slice.specs.BitSlice.{slice_memory, slice_span, slice_len, bits_of};
+    ghost use Rattle.bitvec_slice.specs.BitSliceMut.{lent_memory, lent_span, lent_len, lent_bits};
+    ghost use Rattle.bitvec_slice.specs.Iter.{rest_memory, rest_span, rest_of};
+    ghost use Rattle.bitvec_slice.specs.Iter.{GivesBitsInOrder, GivesBitsInReverse};
+    ghost use Rattle.bitvec_slice.specs.Ones.{ones_left, zeros_left};
+
+    /// The first bit, and `None` where there are no bits. Constant time.
+    pub fn first(&self) -> Option<bool>
+        ensures { MatchOption result (length (lent_bits self.now) ≡ 0)
+            (λ bit. (0 < length (lent_bits self.now))
+            × (bit ≡ element (lent_bits self.now) 0)) }
+    {
+        self.as_bitslice().first()
+    }
+
+    /// The last bit, and `None` where there are no bits. Constant time.
+    pub fn last(&self) -> Option<bool>
+        ensures { MatchOption result (length (lent_bits self.now) ≡ 0)
+            (λ bit. (0 < length (lent_bits self.now))
+            × (bit ≡ element (lent_bits self.now) (length (lent_bits self.now) - 1))) }
+    {
+        self.as_bitslice().last()
+    }
+
+    /// The bits from number `from` to before number `to`, for reading, and `None` exactly where
+    /// these are not in order or `to` passes the length. Constant time.
+    pub fn get_range(&self, from: usize, to: usize) -> Option<BitSlice<'_, R, O>>
+        ensures accepted { IsSome result ↔ ((from ≤ to) × (to ≤ lent_len self.now)) }
+        ensures bits { IfSome result (λ part. bits_of part
+            ≡ slice_range (lent_bits self.now) from to) }
+        ensures len { IfSome result (λ part. slice_len part ≡ to - from) }
+        ensures memory { IfSome result (λ part. slice_memory part
+            ≡ (lent_memory self.now).now) }
+        ensures span { IfSome result (λ part. slice_span part
+            ≡ span_range R.BITS (lent_span self.now) from to) }
+    {
+        self.as_bitslice().get_range(from, to)
+    }
+
+    /// How many bits are one. Costs by words.
+    pub fn count_ones(&self) -> usize
+        ensures { result ≡ ones_in (lent_bits self.now) }
+    {
+        self.as_bitslice().count_ones()
+    }
+
+    /// How many bits are zero. Costs by words.
+    pub fn count_zeros(&self) -> usize
+        ensures { result ≡ zeros_in (lent_bits self.now) }
+    {
+        self.as_bitslice().count_zeros()
+    }
+
+    /// The index of the first bit that is one, and `None` where none is. Costs as
+    /// [`first_one`](BitSlice::first_one) of a [`BitSlice`] does, and so do the other finders here
+    /// and the tests.
+    pub fn first_one(&self) -> Option<usize>
+        ensures { MatchOption result (AllAre false (lent_bits self.now))
+            (IsFirst true (lent_bits self.now)) }
+    {
+        self.as_bitslice().first_one()
+    }
+
+    /// The index of the first bit that is zero, and `None` where none is.
+    pub fn first_zero(&self) -> Option<usize>
+        ensures { MatchOption result (AllAre true (lent_bits self.now))
+            (IsFirst false (lent_bits self.now)) }
+    {
+        self.as_bitslice().first_zero()
+    }
+
+    /// The index of the last bit that is one, and `None` where none is.
+    pub fn last_one(&self) -> Option<usize>
+        ensures { MatchOption result (AllAre false (lent_bits self.now))
+            (IsLast true (lent_bits self.now)) }
+    {
+        self.as_bitslice().last_one()
+    }
+
+    /// The index of the last bit that is zero, and `None` where none is.
+    pub fn last_zero(&self) -> Option<usize>
+        ensures { MatchOption result (AllAre true (lent_bits self.now))
+            (IsLast false (lent_bits self.now)) }
+    {
+        self.as_bitslice().last_zero()
+    }
+
+    /// How many bits are zero before the first that is one; all, where none is.
+    pub fn leading_zeros(&self) -> usize
+        ensures { BeginsWith false (lent_bits self.now) result }
+    {
+        self.as_bitslice().leading_zeros()
+    }
+
+    /// How many bits are one before the first that is zero; all, where none is.
+    pub fn leading_ones(&self) -> usize
+        ensures { BeginsWith true (lent_bits self.now) result }
+    {
+        self.as_bitslice().leading_ones()
+    }
+
+    /// How many bits are zero behind the last that is one; all, where none is.
+    pub fn trailing_zeros(&self) -> usize
+        ensures { EndsWith false (lent_bits self.now) result }
+    {
+        self.as_bitslice().trailing_zeros()
+    }
+
+    /// How many bits are one behind the last that is zero; all, where none is.
+    pub fn trailing_ones(&self) -> usize
+        ensures { EndsWith true (lent_bits self.now) result }
+    {
+        self.as_bitslice().trailing_ones()
+    }
+
+    /// Whether some bit is one.
+    pub fn any(&self) -> bool
+        ensures { (result ≡ false) ↔ AllAre false (lent_bits self.now) }
+    {
+        self.as_bitslice().any()
+    }
+
+    /// Whether no bit is one.
+    pub fn not_any(&self) -> bool
+        ensures { IsTrue result ↔ AllAre false (lent_bits self.now) }
+    {
+        self.as_bitslice().not_any()
+    }
+
+    /// Whether every bit is one: `all` in the Rust crate, a name that makes a slice here.
+    pub fn all_ones(&self) -> bool
+        ensures { IsTrue result ↔ AllAre true (lent_bits self.now) }
+    {
+        self.as_bitslice().all_ones()
+    }
+
+    /// Whether some bit is zero.
+    pub fn not_all(&self) -> bool
+        ensures { (result ≡ false) ↔ AllAre true (lent_bits self.now) }
+    {
+        self.as_bitslice().not_all()
+    }
+
+    /// Whether every bit from index `from` to before index `to` is there and one. True where `to`
+    /// is not past `from`.
+    pub fn all_in(&self, from: usize, to: usize) -> bool
+        ensures { IsTrue result ↔ AllBetween true (lent_bits self.now) from to }
+    {
+        self.as_bitslice().all_in(from, to)
+    }
+
+    /// Whether some bit from index `from` to before index `to` is there and one.
+    pub fn any_in(&self, from: usize, to: usize) -> bool
+        ensures { (result ≡ false) ↔ AllBetween false (lent_bits self.now) from to }
+    {
+        self.as_bitslice().any_in(from, to)
+    }
+
+    /// The index of the first bit that is one, from index `from` on, and `None` where none is.
+    pub fn next_one(&self, from: usize) -> Option<usize>
+        ensures { let xs = lent_bits self.now
+            in MatchOption result (AllBetween false xs from (length xs))
+            (IsFirstBetween true xs from (length xs)) }
+    {
+        self.as_bitslice().next_one(from)
+    }
+
+    /// The index of the first bit that is zero, from index `from` on, and `None` where none is.
+    pub fn next_zero(&self, from: usize) -> Option<usize>
+        ensures { let xs = lent_bits self.now
+            in MatchOption result (AllBetween true xs from (length xs))
+            (IsFirstBetween false xs from (length xs)) }
+    {
+        self.as_bitslice().next_zero(from)
+    }
+
+    /// The index of the last bit that is one, of those before index `before`, and `None` where none
+    /// is. A `before` past the length is taken as the length.
+    pub fn previous_one(&self, before: usize) -> Option<usize>
+        ensures { let xs = lent_bits self.now
+            in MatchOption result (AllBetween false xs 0 (min before (length xs)))
+            (IsLastBetween true xs 0 (min before (length xs))) }
+    {
+        self.as_bitslice().previous_one(before)
+    }
+
+    /// The index of the last bit that is zero, of those before index `before`, and `None` where
+    /// none is. A `before` past the length is taken as the length.
+    pub fn previous_zero(&self, before: usize) -> Option<usize>
+        ensures { let xs = lent_bits self.now
+            in MatchOption result (AllBetween true xs 0 (min before (length xs)))
+            (IsLastBetween false xs 0 (min before (length xs))) }
+    {
+        self.as_bitslice().previous_zero(before)
+    }
+
+    /// The first index from which on `count` bits are there and zero, and `None` where there is no
+    /// such index. Costs as [`find_zeros`](BitSlice::find_zeros) of a [`BitSlice`] does. Not in the
+    /// Rust crate.
+    ///
+    /// # Examples
+    ///
+    /// Three free blocks are found and taken.
+    ///
+    /// ```
+    /// let mut memory = [0x93u8, 0x00];
+    /// let mut blocks = BitSliceMut::<u8, Lsb0>::all_unchecked(&mut memory);
+    /// assert_eq!(rt; blocks.count_ones(), 4);
+    /// let at = blocks.find_zeros(3).ok_or("full")?;
+    /// blocks.fill_range(at, at + 3, true);
+    /// assert_eq!(rt; blocks.next_zero(0), Some(2));
+    /// assert_eq!(rt; memory, [0x93, 0x07]);
+    /// ```
+    pub fn find_zeros(&self, count: usize) -> Option<usize>
+        ensures { MatchOption result ((i : ℕ) → ¬ AreFree (lent_bits self.now) i count)
+            (λ i. AreFree (lent_bits self.now) i count
+            × ((k : ℕ) → k < i → ¬ AreFree (lent_bits self.now) k count)) }
+    {
+        self.as_bitslice().find_zeros(count)
+    }
+
+    /// Its bits as truth values, in order or from the back. Constant time, and so is each call of
+    /// `next`.
+    pub fn iter(&self) -> Iter<'_, R, O>
+        ensures rest { rest_of result ≡ lent_bits self.now }
+        ensures bound { length (rest_of result) < 2 ^ 64 }
+        ensures memory { rest_memory result ≡ (lent_memory self.now).now }
+        ensures span { rest_span result ≡ lent_span self.now }
+
+        // Facts of the type, as of the iterator of a slice for reading.
+        ensures runs { GivesBitsInOrder result }
+        ensures runs_back { GivesBitsInReverse result }
+    {
+        self.as_bitslice().iter()
+    }
+
+    /// The indices of the bits that are one, in rising order or from the back.
+    pub fn iter_ones(&self) -> IterOnes<'_, R, O>
+        ensures { ones_left result
+            ≡ ones_between (lent_bits self.now) 0 (length (lent_bits self.now)) }
+    {
+        self.as_bitslice().iter_ones()
+    }
+
+    /// The indices of the bits that are zero, in rising order or from the back.
+    pub fn iter_zeros(&self) -> IterZeros<'_, R, O>
+        ensures { zeros_left result
+            ≡ zeros_between (lent_bits self.now) 0 (length (lent_bits self.now)) }
+    {
+        self.as_bitslice().iter_zeros()
+    }
+
+    /// Whether a slice has the same bits, whatever its register and order are. Costs as
+    /// [`equals`](BitSlice::equals) of a [`BitSlice`] does.
+    pub fn equals<R2: BitRegister, O2: BitOrder<R2>>(&self, other: &BitSlice<'_, R2, O2>) -> bool
+        ensures list { IsTrue result ↔ (lent_bits self.now ≡ bits_of other.now) }
+        ensures each { IsTrue result ↔ AreSameBits (lent_bits self.now) (bits_of other.now) }
+    {
+        self.as_bitslice().equals(other)
+    }
+}

@@ -1,0 +1,119 @@
+//! The windows of a slice: a number of bits side by side, from each bit on.
+
+ghost use Rattle.std.specs.Prelude.{◌≡◌, ⊤, ◌<◌, Some, length, IfSome};
+ghost use Rattle.std.specs.Iterator.{YieldsFirstBy, YieldsLastBy, item_count, at_most, UpTo};
+ghost use Rattle.std.specs.Iterator.SizeHint.{IsWithinCount};
+ghost use Rattle.bitvec_slice.specs.BitSlice.{bits_of};
+ghost use Rattle.bitvec_slice.specs.Pieces.{windows_of};
+
+use crate::slice::BitSlice;
+use bitvec::mem::BitRegister;
+use bitvec::order::BitOrder;
+use std::alloc::AllocError;
+use std::iter::FusedIterator;
+
+/// Each `n` bits of a slice that are side by side, from [`BitSlice::windows`]: as slices of the
+/// same memory, from both ends.
+///
+/// # Examples
+///
+/// ```
+/// let memory = [0x0Bu8];
+/// let span: BitSpan<u8, Lsb0> = BitSpan::new(0, BitIdx::new_unchecked(0), 4).unwrap();
+/// let mut windows = BitSlice::new(span, &memory).ok_or("outside")?.windows(3);
+/// assert_eq!(rt; windows.len(), 2);
+/// assert_eq!(rt; windows.next().unwrap().last_one(), Some(1));
+/// assert_eq!(rt; windows.next_back().unwrap().last_one(), Some(2));
+/// assert!(rt; windows.next().is_none());
+/// ```
+#[derive(Drop)]
+pub struct Windows<'a, R: BitRegister, O: BitOrder<R>> {
+    rest: BitSlice<'a, R, O>,
+    size: usize,
+    pub ghost some: { 0 < size },
+}
+
+impl<'a, R: BitRegister, O: BitOrder<R>> Clone for Windows<'a, R, O> {
+    ghost is_clone = { λ it copy. copy ≡ it };
+
+    ghost is_infallible = { λ _. ⊤ };
+
+    fn clone(&self) -> Result<Self, AllocError> {
+        Ok(Windows {
+            rest: self.rest,
+            size: self.size,
+        })
+    }
+}
+
+impl<'a, R: BitRegister, O: BitOrder<R>> BitSlice<'a, R, O> {
+    ghost use Rattle.bitvec_slice.specs.PieceIters.{windows_left};
+
+    /// Each `n` bits that are side by side, from the first `n` on: none, where there are less.
+    /// Requires that `n` is not 0. Constant time, and so is each call of `next`. As in the Rust
+    /// crate.
+    pub fn windows(&self, n: usize) -> Windows<'a, R, O>
+        requires { 0 < n }
+        ensures { windows_left result ≡ windows_of n (bits_of self.now) }
+    {
+        Windows {
+            rest: *self,
+            size: n,
+        }
+    }
+}
+
+impl<'a, R: BitRegister, O: BitOrder<R>> Iterator for Windows<'a, R, O> {
+    type Item = BitSlice<'a, R, O>;
+
+    ghost use Rattle.bitvec_slice.specs.PieceIters.{windows_left};
+
+    ghost next_gives = { YieldsFirstBy bits_of windows_left };
+
+    ghost remaining = { item_count windows_left };
+
+    fn next(&mut self) -> Option<BitSlice<'a, R, O>> {
+        if self.rest.len() < self.size {
+            return None;
+        }
+        let (window, _) = self.rest.split_at(self.size);
+        let (_, rest) = self.rest.split_at(1);
+        self.rest = rest;
+        Some(window)
+    }
+
+    fn size_hint(&self) -> (usize, Option<usize>)
+        ensures lower { IsWithinCount result.0 (at_most (length (windows_left self.now))) }
+        ensures upper { IfSome result.1 (UpTo (at_most (length (windows_left self.now)))) }
+        ensures exact { (result.0 ≡ length (windows_left self.now)) × (result.1 ≡ Some result.0) }
+    {
+        let left = self.len();
+        (left, Some(left))
+    }
+}
+
+impl<'a, R: BitRegister, O: BitOrder<R>> DoubleEndedIterator for Windows<'a, R, O> {
+    ghost use Rattle.bitvec_slice.specs.PieceIters.{windows_left};
+
+    ghost next_back_gives = { YieldsLastBy bits_of windows_left };
+
+    fn next_back(&mut self) -> Option<BitSlice<'a, R, O>> {
+        let len = self.rest.len();
+        if len < self.size {
+            return None;
+        }
+        let (_, window) = self.rest.split_at(len - self.size);
+        let (rest, _) = self.rest.split_at(len - 1);
+        self.rest = rest;
+        Some(window)
+    }
+}
+
+impl<'a, R: BitRegister, O: BitOrder<R>> ExactSizeIterator for Windows<'a, R, O> {
+    fn len(&self) -> usize {
+        self.rest.len().saturating_sub(self.size - 1)
+    }
+}
+
+/// After `None` the iterator returns `None` for good.
+impl<'a, R: BitRegister, O: BitOrder<R>> FusedIterator for Windows<'a, R, O> {}

@@ -1,0 +1,3 @@
+//! Numbers in slices: those of signed types, of words and of 128 bits.
+
+mod examples;

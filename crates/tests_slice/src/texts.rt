@@ -1,0 +1,3 @@
+//! Slices as texts, and by the prelude's names.
+
+mod examples;
