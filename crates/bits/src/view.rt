@@ -84,7 +84,7 @@ impl<R: BitRegister, O: BitOrder<R>, const N: usize> Drop for Parts<'_, R, O, N>
     }
 }
 
-// Whether spans may be the parts of a memory of so many words.
+// Whether spans may be the parts of a memory of `words` words.
 //
 // It takes them by value, so that the proof of [`Parts::new`] has no loan of them to follow.
 fn accepts<R: BitRegister, O, const N: usize>(spans: [BitSpan<R, O>; N], words: usize) -> bool

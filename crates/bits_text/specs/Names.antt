@@ -25,7 +25,7 @@ named_width name =
     then 64
     else (if bytes_eq name (codes "u128") then 128 else 8))))
 
--- the position of index i under the order of this name in a register of so many bits, and i for no name
+-- the position of index i under the order of this name in a register of `bits` bits, and i for no name
 abbrev pub named_position : List ℕ → ℕ → ℕ → ℕ
 named_position name bits i =
     if bytes_eq name (codes "msb0")

@@ -13,7 +13,7 @@ abbrev pub memory_text : List ℕ → List ℕ
 memory_text [] = codes "-"
 memory_text (n ∷ ns) = hexadecimal n ++ flat_map (λ m. codes "," ++ hexadecimal m) ns
 
--- a text is a word of so many bits: hexadecimal digits, at least one, of a number that fits
+-- a text is a word of `bits` bits: hexadecimal digits, at least one, of a number that fits
 abbrev pub IsWordText : ℕ → List ℕ → Type 0
 IsWordText bits text = IsNumeral 16 text × (digits_value 16 text < 2 ^ bits)
 

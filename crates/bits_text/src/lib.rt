@@ -7,6 +7,4 @@ pub mod lines;
 pub mod names;
 pub mod number;
 pub mod places;
-#[cfg(test)]
-mod tests;
 pub mod words;

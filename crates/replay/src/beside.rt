@@ -1,5 +1,5 @@
-//! Questions of a span or a slice beside another one, in a memory of its own: bytes under `lsb0`, or
-//! words of 16 bits under `msb0`.
+//! Questions of a span or a slice beside another one, in a memory of its own: bytes under `lsb0`,
+//! words of 16 bits under `msb0`, or words of 64 bits under either.
 
 use crate::lists::begin_item;
 use crate::spans::span_at;
@@ -12,10 +12,14 @@ use bitvec_slice::slice::{BitSlice, BitSliceMut};
 use std::alloc::{AllocError, Allocator};
 use std::marker::PhantomData;
 
+mod asked;
+
 /// Writes the answer to a question of two spans or slices, and tells whether the words ask one.
 ///
-/// The calls are `equals`, `equals_each`, `copy_from` and `copy_from_bitslice`. The words are those
-/// after the order and the register of the first.
+/// The calls are `equals`, `equals_each`, `copy_from` and `copy_from_bitslice`, the questions
+/// `is_subset`, `intersects`, `count_and`, `first_and`, `first_and_not`, `first_difference` and
+/// `compare`, and `asked` for all of these. The words are those after the order and the register of
+/// the first.
 pub fn write_answer<'a, R: BitRegister, O: BitOrder<R>, A: Allocator>(
     text: &mut String<&'a A>,
     alloc: &'a A,
@@ -61,6 +65,8 @@ fn answer_at<C: Call>(order: &str, register: &str, call: &C) -> Option<C::Answer
     match register {
         "u8" if order == "lsb0" => Some(call.at::<u8, Lsb0>()),
         "u16" if order == "msb0" => Some(call.at::<u16, Msb0>()),
+        "u64" if order == "lsb0" => Some(call.at::<u64, Lsb0>()),
+        "u64" if order == "msb0" => Some(call.at::<u64, Msb0>()),
         _ => None,
     }
 }
@@ -119,9 +125,25 @@ impl<'a, R: BitRegister, O: BitOrder<R>, A: Allocator> Two<'a, '_, R, O, A> {
                 write_words(&mut text, memory)?;
                 true
             }
-            _ => false,
+            _ => write_asked(&mut text, self.name, span, memory, there, other)?,
         };
         if is_done { Ok(Some(text)) } else { Ok(None) }
+    }
+}
+
+// Writes the answer to a question of two slices, and tells whether there is one: whether both lie in
+// their memories, and the name is that of one.
+fn write_asked<R: BitRegister, O: BitOrder<R>, S: BitRegister, P: BitOrder<S>, A: Allocator>(
+    text: &mut String<A>,
+    name: &str,
+    span: BitSpan<R, O>,
+    memory: &[R],
+    there: BitSpan<S, P>,
+    other: &[S],
+) -> Result<bool, AllocError> {
+    match (BitSlice::new(span, memory), BitSlice::new(there, other)) {
+        (Some(here), Some(there)) => asked::write_answer(text, name, here, there),
+        _ => Ok(false),
     }
 }
 

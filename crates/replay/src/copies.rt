@@ -151,7 +151,7 @@ fn skipped(writer: &mut WordWriter<u8>, k: &str) -> Option<()> {
     Some(())
 }
 
-// Whether a writer's mark stands at the words that so many bits from a pointer on meet, on the side
+// Whether a writer's mark stands at the words that `count` bits from a pointer on meet, on the side
 // that it comes from.
 fn stands_at<R: BitRegister, O>(writer: &WordWriter<R>, to: BitPtr<R, O>, count: usize) -> bool
     requires { RangeIsIn R.BITS (ptr_of to) (length (writer_of writer.now).words) count }

@@ -58,8 +58,8 @@ pub struct Line<'t, A: Allocator> {
 // How the text after a kind falls into question and answer.
 #[derive(Clone, Copy)]
 enum Form {
-    // The question is the first words, as many as `asked`, and the answer begins after so many as
-    // `before`.
+    // The question is the first words, as many as `asked`, and the answer begins after `before` of
+    // them.
     Words { asked: usize, before: usize },
     // This text stands between them.
     Between(&'static str),
@@ -122,7 +122,7 @@ fn topic_of(kind: &str) -> Option<Topic> {
     }
 }
 
-// The form of a line whose answer begins behind its question's words, so many.
+// The form of a line whose answer begins behind its question's `asked` words.
 fn words_of_both(asked: usize) -> Form {
     Form::Words {
         asked,
@@ -152,7 +152,7 @@ impl<'t, 'a, A: Allocator> Line<'t, &'a A> {
     }
 }
 
-// What stands after so many words of a text; `None` where nothing does.
+// What stands after `count` words of a text; `None` where nothing does.
 fn after_words<'t>(text: &'t str, count: usize) -> Option<&'t str> {
     let mut rest = text;
     for _ in 0..count {

@@ -95,7 +95,7 @@ fn done<R: BitRegister, O: BitOrder<R>>(
     }
 }
 
-// Copies so many bits from a place on to those from another place on, by the call of a name.
+// Copies `count` bits from a place on to those from another place on, by the call of a name.
 fn copied<R: BitRegister, O: BitOrder<R>>(
     name: &str,
     from: &str,
@@ -116,7 +116,7 @@ fn copied<R: BitRegister, O: BitOrder<R>>(
     Some(Outcome::Memory)
 }
 
-// Whether so many bits from two pointers on are two spans that have no bit in common.
+// Whether `count` bits from two pointers on are two spans that have no bit in common.
 fn are_apart<R: BitRegister, O>(from: BitPtr<R, O>, to: BitPtr<R, O>, count: usize) -> bool
     ensures short { IsTrue result → count ≤ region_max_bits }
     ensures from_low { IsTrue result → int_div_euclid (place_of R.BITS (ptr_of from) +ℤ pos count)
@@ -157,7 +157,7 @@ fn done_at<R: BitRegister, O: BitOrder<R>>(
     }
 }
 
-/// The pointer to the place of a text in a memory of so many words, or `None` where it is past it.
+/// The pointer to the place of a text in a memory of `words` words, or `None` where it is past it.
 pub fn pointer_in<R: BitRegister, O>(words: usize, at: &str) -> Option<BitPtr<R, O>>
     ensures { IfSome result (λ pointer. IsIn (ptr_of pointer) words) }
 {
@@ -169,12 +169,19 @@ pub fn pointer_in<R: BitRegister, O>(words: usize, at: &str) -> Option<BitPtr<R,
     }
 }
 
-/// The pointer to the first place of a range, from a text, in a memory of so many words, or `None`
+/// The pointer to the first place of a range, from a text, in a memory of `words` words, or `None`
 /// where the range passes it.
 pub fn range_start<R: BitRegister, O>(words: usize, at: &str, count: u64) -> Option<BitPtr<R, O>>
     ensures { IfSome result (λ pointer. RangeIsIn R.BITS (ptr_of pointer) words count) }
 {
-    let pointer = pointer_at::<R, O>(place(at)?);
+    range_at(words, place(at)?, count)
+}
+
+/// The same from a place.
+pub fn range_at<R: BitRegister, O>(words: usize, at: u64, count: u64) -> Option<BitPtr<R, O>>
+    ensures { IfSome result (λ pointer. RangeIsIn R.BITS (ptr_of pointer) words count) }
+{
+    let pointer = pointer_at::<R, O>(at);
     if pointer.run_in(words, count as usize) {
         Some(pointer)
     } else {

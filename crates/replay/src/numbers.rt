@@ -12,9 +12,12 @@ use bitvec_slice::slice::{BitSlice, BitSliceMut};
 use std::alloc::{AllocError, Allocator};
 use std::fmt::Write as _;
 
+mod signed;
+
 /// Writes the library's answer to a question, and tells whether the words ask one.
 ///
-/// The calls are `load_le`, `load_be`, `store_le` and `store_be`, each with the type of the number.
+/// The calls are `load_le`, `load_be`, `store_le` and `store_be`, each with the type of the number,
+/// and those of signed numbers, as `load_signed_le`.
 pub fn write_answer<'a, A: Allocator>(
     text: &mut String<&'a A>,
     alloc: &'a A,
@@ -66,12 +69,10 @@ fn write_of<'a, R: BitRegister, O: Sequential<R>, A: Allocator>(
         return Ok(true);
     };
     match details {
+        [] if kind.starts_with('i') => signed::write_loaded(text, slice.as_bitslice(), name, kind),
         [] => write_loaded(text, loaded(slice.as_bitslice(), name, kind)),
         [value] => {
-            let is_stored = match number(value, 16, u128::MAX) {
-                Some(value) => is_stored(&mut slice, name, kind, value),
-                None => false,
-            };
+            let is_stored = is_stored_text(&mut slice, name, kind, value);
             drop(slice);
             if is_stored {
                 write_words(text, &memory)?;
@@ -124,6 +125,25 @@ fn loaded_as<R: BitRegister, O: Sequential<R>, N: BitRegister>(
         "load_le" => Some(slice.load_le::<N>().to_u128()),
         "load_be" => Some(slice.load_be::<N>().to_u128()),
         _ => None,
+    }
+}
+
+// Stores the number of a text, and tells whether there is one and there is such a call.
+fn is_stored_text<R: BitRegister, O: Sequential<R>>(
+    slice: &mut BitSliceMut<R, O>,
+    name: &str,
+    kind: &str,
+    value: &str,
+) -> bool {
+    if kind.starts_with('i') {
+        return match value.parse::<i128>() {
+            Ok(value) => signed::is_stored(slice, name, kind, value),
+            Err(_) => false,
+        };
+    }
+    match number(value, 16, u128::MAX) {
+        Some(value) => is_stored(slice, name, kind, value),
+        None => false,
     }
 }
 

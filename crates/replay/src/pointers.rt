@@ -123,7 +123,7 @@ fn counted_step<R: BitRegister>(
     }
 }
 
-// The pointer so many bits on, where there is one.
+// The pointer `count` bits on, where there is one.
 fn added<R: BitRegister>(start: BitPtr<R, Lsb0>, count: usize) -> Option<BitPtr<R, Lsb0>> {
     let by = isize::try_from(count).ok()?;
     if start.can_offset(by) {
@@ -133,7 +133,7 @@ fn added<R: BitRegister>(start: BitPtr<R, Lsb0>, count: usize) -> Option<BitPtr<
     }
 }
 
-// The pointer so many bits back, where there is one.
+// The pointer `count` bits back, where there is one.
 fn subtracted<R: BitRegister>(start: BitPtr<R, Lsb0>, count: usize) -> Option<BitPtr<R, Lsb0>> {
     let by = isize::try_from(count).ok()?;
     if start.can_offset(-by) {
@@ -168,7 +168,7 @@ enum Shown {
     Parts,
 }
 
-// Writes the answers of the range of so many bits from a place on.
+// Writes the answers of the range of `count` bits from a place on.
 fn write_range_of_places<'a, R: BitRegister, A: Allocator>(
     text: &mut String<&'a A>,
     alloc: &'a A,
@@ -249,7 +249,7 @@ fn write_answers<R: BitRegister, A: Allocator>(
     Ok(true)
 }
 
-// The range of so many bits from a place on.
+// The range of `count` bits from a place on.
 fn range_of<R: BitRegister>(start: &str, count: &str) -> Option<BitPtrRange<R, Lsb0>> {
     let start = bit_at(start)?;
     let count = count.parse::<usize>().ok()?;

@@ -26,7 +26,7 @@ pub fn answer<'a, A: Allocator>(
         Topic::Registers | Topic::Index | Topic::Types | Topic::Candidates | Topic::Pointers => {
             answer_of_register(alloc, topic, kind, words)
         }
-        Topic::Slices => answer_of_bytes(alloc, words),
+        Topic::Slices => answer_of_slice(alloc, words),
         _ => answer_of_order(alloc, topic, kind, words),
     }
 }
@@ -90,25 +90,37 @@ fn write_plain<'a, R: BitRegister, A: Allocator>(
     }
 }
 
-// The answer to a question of a slice of bytes, whose first words are an order and `u8`.
-fn answer_of_bytes<'a, A: Allocator>(
+// The answer to a question of a slice, whose first words are an order and a register: a byte, or a
+// word of 64 bits.
+fn answer_of_slice<'a, A: Allocator>(
     alloc: &'a A,
     words: &[&str],
 ) -> Result<Option<String<&'a A>>, AllocError> {
     let [order, register, words @ ..] = words else {
         return Ok(None);
     };
-    if *register != "u8" {
-        return Ok(None);
-    }
     let mut text = String::new(alloc);
-    let is_answer = match *order {
-        "lsb0" => slices::write_answer::<u8, Lsb0, A>(&mut text, alloc, words)?,
-        "msb0" => slices::write_answer::<u8, Msb0, A>(&mut text, alloc, words)?,
-        "hilo" => slices::write_answer::<u8, HiLo, A>(&mut text, alloc, words)?,
+    let is_answer = match *register {
+        "u8" => write_of_slice::<u8, A>(&mut text, alloc, order, words)?,
+        "u64" => write_of_slice::<u64, A>(&mut text, alloc, order, words)?,
         _ => false,
     };
     if is_answer { Ok(Some(text)) } else { Ok(None) }
+}
+
+// Writes the answer for a register, and tells whether there is one.
+fn write_of_slice<'a, R: BitRegister, A: Allocator>(
+    text: &mut String<&'a A>,
+    alloc: &'a A,
+    order: &str,
+    words: &[&str],
+) -> Result<bool, AllocError> {
+    match order {
+        "lsb0" => slices::write_answer::<R, Lsb0, A>(text, alloc, words),
+        "msb0" => slices::write_answer::<R, Msb0, A>(text, alloc, words),
+        "hilo" => slices::write_answer::<R, HiLo, A>(text, alloc, words),
+        _ => Ok(false),
+    }
 }
 
 // The answer to a question whose first words are an order and a register.

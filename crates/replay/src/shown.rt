@@ -1,7 +1,7 @@
 //! Values as the text of an answer.
 
 use std::alloc::{AllocError, Allocator};
-use std::fmt::{Debug, Display, Write as _};
+use std::fmt::{self, Debug, Display, Write as _};
 
 /// Writes two values with a space between them, and tells whether there are any.
 pub fn write_two<T: Display + Copy, U: Display + Copy, A: Allocator>(
@@ -25,4 +25,14 @@ pub fn write_forms<T: Debug, U: Display, A: Allocator>(
 ) -> Result<bool, AllocError> {
     write!(text, "{full:?} {plain}")?;
     Ok(true)
+}
+
+/// A value as its `Binary` shows it, since a format takes that of numbers alone.
+#[derive(Drop)]
+pub struct AsBinary<'a, T>(pub &'a T);
+
+impl<T: fmt::Binary> Display for AsBinary<'_, T> {
+    fn fmt<W: fmt::Write>(&self, f: &mut fmt::Formatter<W>) -> fmt::Result {
+        fmt::Binary::fmt(self.0, f)
+    }
 }

@@ -13,6 +13,7 @@ use std::alloc::{AllocError, Allocator};
 
 mod edits;
 mod reads;
+mod texts;
 
 /// Writes the library's answer to a question, and tells whether the words ask one.
 pub fn write_answer<'a, R: BitRegister, O: BitOrder<R>, A: Allocator>(
@@ -47,7 +48,7 @@ fn write_of_slice<R: BitRegister, O: BitOrder<R>, A: Allocator>(
         text.push_str("none")?;
         return Ok(true);
     };
-    if reads::write_answer(text, slice, words)? {
+    if reads::write_answer(text, slice, words)? || texts::write_answer(text, slice, words)? {
         return Ok(true);
     }
     if let [name] = words {
@@ -76,7 +77,8 @@ fn write_edited<R: BitRegister, O: BitOrder<R>, A: Allocator>(
             return Ok(true);
         }
     }
-    let is_done = edits::write_edited(text, &mut slice, words)?;
+    let is_done = texts::write_read(text, &mut slice, words)?
+        || edits::write_edited(text, &mut slice, words)?;
     drop(slice);
     if is_done {
         write_words(text, memory)?;

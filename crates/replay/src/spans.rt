@@ -72,7 +72,7 @@ fn write_through<'a, R: BitRegister, O: BitOrder<R>, A: Allocator>(
     edits::write_answer(text, alloc, span, memory, words)
 }
 
-/// The span of so many bits from a place on, or from a bit of a word on; `None` where there is none.
+/// The span of `len` bits from a place on, or from a bit of a word on; `None` where there is none.
 pub fn span_at<R: BitRegister, O>(start: &str, len: &str) -> Option<BitSpan<R, O>> {
     let start = pointer_of(start)?;
     let len = place(len)?;

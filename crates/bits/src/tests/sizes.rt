@@ -6,7 +6,7 @@ use std::alloc::{AllocError, Global};
 use std::fmt::Write as _;
 use std::test::Fail;
 
-// A memory of so many bytes as text: first the given bytes, then zeros.
+// A memory of `words` bytes as text: first the given bytes, then zeros.
 fn memory_text(alloc: Global, words: u32, first: &str, firsts: u32) -> Result<String, AllocError> {
     let mut text = String::new(alloc);
     for k in 0..words {
@@ -18,7 +18,7 @@ fn memory_text(alloc: Global, words: u32, first: &str, firsts: u32) -> Result<St
     Ok(text)
 }
 
-// The places of so many spans of four bits, one behind the other from place 0 on.
+// The places of `spans` spans of four bits, one behind the other from place 0 on.
 fn places(alloc: Global, spans: u32) -> Result<String, AllocError> {
     let mut text = String::new(alloc);
     for k in 0..spans {
@@ -31,7 +31,7 @@ fn places(alloc: Global, spans: u32) -> Result<String, AllocError> {
     Ok(text)
 }
 
-// The commands that give each of so many spans the byte 5a.
+// The commands that give each of `spans` spans the byte 5a.
 fn commands(alloc: Global, spans: u32) -> Result<String, AllocError> {
     let mut text = String::new(alloc);
     for k in 0..spans {

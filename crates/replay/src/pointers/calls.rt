@@ -112,7 +112,7 @@ fn write_truth<A: Allocator>(
     }
 }
 
-// Whether a memory of so many words has the pointer's word, or whether a step stays in range.
+// Whether a memory of `number` words has the pointer's word, or whether a step stays in range.
 fn has_room<R: BitRegister>(pointer: BitPtr<R, Lsb0>, name: &str, number: &str) -> Option<bool> {
     match name {
         "is_in" => Some(pointer.is_in(number.parse::<usize>().ok()?)),
@@ -121,7 +121,7 @@ fn has_room<R: BitRegister>(pointer: BitPtr<R, Lsb0>, name: &str, number: &str) 
     }
 }
 
-// Whether a memory of so many words has so many bits from the pointer on.
+// Whether a memory of `words` words has `count` bits from the pointer on.
 fn runs_in<R: BitRegister>(pointer: BitPtr<R, Lsb0>, words: &str, count: &str) -> Option<bool> {
     let words = words.parse::<usize>().ok()?;
     Some(pointer.run_in(words, count.parse::<usize>().ok()?))

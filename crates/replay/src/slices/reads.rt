@@ -44,6 +44,10 @@ fn write_own<R: BitRegister, O: BitOrder<R>, A: Allocator>(
         write_list(text, slice)?;
         return Ok(true);
     }
+    if name == "finds" {
+        write_finds(text, slice)?;
+        return Ok(true);
+    }
     if let Some(place) = place_of(slice, name) {
         write_item(text, as_item(place))?;
         return Ok(true);
@@ -191,6 +195,35 @@ pub(super) fn write_reads<R: BitRegister, O: BitOrder<R>, A: Allocator>(
     text.push_str(" ")?;
     write_place(text, slice.first_zero())?;
     write!(text, " {any} {all}")
+}
+
+// Writes where a slice's last one and its last zero are, how many zeros and ones begin it and end
+// it, the places of its ones and of its zeros, and where a number of zeros stand in a row, for each
+// number of them to 9.
+fn write_finds<R: BitRegister, O: BitOrder<R>, A: Allocator>(
+    text: &mut String<A>,
+    slice: BitSlice<R, O>,
+) -> Result<(), AllocError> {
+    write_place(text, slice.last_one())?;
+    text.push_str(" ")?;
+    write_place(text, slice.last_zero())?;
+    let (zeros, ones) = (slice.leading_zeros(), slice.leading_ones());
+    write!(text, " {zeros} {ones}")?;
+    let (zeros, ones) = (slice.trailing_zeros(), slice.trailing_ones());
+    write!(text, " {zeros} {ones};")?;
+    for i in slice.iter_ones() {
+        write!(text, " {i}")?;
+    }
+    text.push_str(";")?;
+    for i in slice.iter_zeros() {
+        write!(text, " {i}")?;
+    }
+    text.push_str(";")?;
+    for count in 0..10 {
+        text.push_str(" ")?;
+        write_place(text, slice.find_zeros(count))?;
+    }
+    Ok(())
 }
 
 // Writes a place, or `-` for none.

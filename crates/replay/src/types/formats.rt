@@ -1,5 +1,6 @@
 //! The texts of index types, asked for by a format.
 
+use crate::shown::AsBinary;
 use crate::values::word_at;
 use bitvec::index::{BitEnd, BitIdx, BitMask, BitPos, BitSel};
 use bitvec::mem::BitRegister;
@@ -67,16 +68,6 @@ fn write_if_any<T: Display + Debug + fmt::Binary + Drop, A: Allocator>(
     match value {
         Some(value) => write_shown(text, &value, format),
         None => Ok(false),
-    }
-}
-
-// A value as its `Binary` shows it, since a format takes that of numbers alone.
-#[derive(Drop)]
-struct AsBinary<'a, T>(&'a T);
-
-impl<T: fmt::Binary> Display for AsBinary<'_, T> {
-    fn fmt<W: fmt::Write>(&self, f: &mut fmt::Formatter<W>) -> fmt::Result {
-        fmt::Binary::fmt(self.0, f)
     }
 }
 
