@@ -21,7 +21,7 @@ plain_span bits span = span_at bits span.start span.count
 abbrev pub AllShort : List PlainSpan → Type 0
 AllShort spans = All (λ span. span.count ≤ region_max_bits) spans
 
--- each range ends within so many words
+-- each range ends within `words` words
 abbrev pub AllInside : ℕ → ℕ → List PlainSpan → Type 0
 AllInside bits words spans = All (λ span. span.start + span.count ≤ words * bits) spans
 

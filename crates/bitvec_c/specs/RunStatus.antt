@@ -10,7 +10,7 @@ abbrev pub IsFirstFailed : List (Type 0 × ℕ) → ℕ → Type 0
 IsFirstFailed [] status = status ≡ ok
 IsFirstFailed ((condition, code) ∷ others) status = ((¬ condition) × (status ≡ code)) ⊎ (condition × IsFirstFailed others status)
 
--- the conditions of an order and of spans in a memory of so many words, each with the code of the status that it ends in
+-- the conditions of an order and of spans in a memory of `words` words, each with the code of the status that it ends in
 abbrev pub spans_conditions : ℕ → ℕ → List PlainSpan → ℕ → List (Type 0 × ℕ)
 spans_conditions bits order spans words =
     (order ≤ 1, no_order)
@@ -24,7 +24,7 @@ spans_conditions bits order spans words =
 abbrev pub IsSpansStatus : ℕ → ℕ → List PlainSpan → ℕ → ℕ → Type 0
 IsSpansStatus bits order spans words status = IsFirstFailed (spans_conditions bits order spans words) status
 
--- the status of a run with so many replies
+-- the status of a run with a number of replies
 abbrev pub IsRunStatus : ℕ → ℕ → List PlainSpan → ℕ → List PlainRequest → ℕ → ℕ → Type 0
 IsRunStatus bits order spans words requests replies status =
     IsFirstFailed (spans_conditions bits order spans words ++ ((replies ≡ length requests, no_room) ∷ (AreCommands requests, no_command) ∷ [])) status

@@ -38,7 +38,7 @@ no_room = 7
 abbrev pub no_command : ℕ
 no_command = 8
 
--- the status of an order and of the range of `count` bits from place `start` on, in a memory of so many words
+-- the status of an order and of the range of `count` bits from place `start` on, in a memory of `words` words
 abbrev pub range_status : ℕ → ℕ → ℕ → ℕ → ℕ → ℕ
 range_status bits order words start count =
     if nat_lt 1 order then no_order else (if nat_lt region_max_bits count then too_long else (if nat_lt (words * bits) (start + count) then outside else ok))

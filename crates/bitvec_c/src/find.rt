@@ -2,7 +2,8 @@
 
 ghost use Rattle.std.specs.Prelude.{◌≡◌, ◌≢◌, ◌+◌, ◌*◌, ◌≤◌, ◌↔◌, IsTrue, false, length, map};
 ghost use Rattle.bitvec.specs.Place.{region_max_bits};
-ghost use Rattle.bitvec_slice.specs.Bits.{ones_in, BeginsWith};
+ghost use Rattle.bitvec.specs.Truths.{ones_in};
+ghost use Rattle.bitvec_slice.specs.Bits.{BeginsWith};
 ghost use Rattle.bitvec_c.specs.Order.{order_at};
 ghost use Rattle.bitvec_c.specs.Range.{range_bits, HaveSameBits};
 ghost use Rattle.bitvec_c.specs.Status.{ok, range_status, ranges_status};

@@ -21,7 +21,7 @@ use bitvec::mem::BitRegister;
 use bitvec::order::{BitOrder, Lsb0, Msb0};
 use bitvec::run::{Reply, step};
 
-// Whether each range ends within so many words.
+// Whether each range ends within `words` words.
 fn are_inside<R: BitRegister>(spans: &[PlainSpan], words: usize) -> bool
     ensures { IsTrue result ↔ AllInside R.BITS words spans.now }
 {
@@ -30,7 +30,7 @@ fn are_inside<R: BitRegister>(spans: &[PlainSpan], words: usize) -> bool
         .all(|range| is_inside::<R>(words, range.start, range.count))
 }
 
-// The status of an order and of the spans of a run in a memory of so many words.
+// The status of an order and of the spans of a run in a memory of `words` words.
 fn test_spans<R: BitRegister>(order: u8, spans: &[PlainSpan], words: usize) -> u8
     ensures status { IsSpansStatus R.BITS order spans.now words result }
     ensures short { result ≡ ok → AllShort spans.now }
@@ -54,7 +54,7 @@ fn test_spans<R: BitRegister>(order: u8, spans: &[PlainSpan], words: usize) -> u
     OK
 }
 
-// The status of a run with so many replies.
+// The status of a run with `replies` replies.
 fn test_run<R: BitRegister>(
     order: u8,
     spans: &[PlainSpan],
@@ -171,7 +171,7 @@ fn run_plain<R: BitRegister>(
     status
 }
 
-/// Whether spans serve for a run in a memory of so many words of 8 bits: each lies in it, and no
+/// Whether spans serve for a run in a memory of `words` words of 8 bits: each lies in it, and no
 /// two have a bit in common.
 ///
 /// It refuses with `NO_ORDER`, `TOO_MANY_SPANS`, `TOO_LONG`, `OUTSIDE` or `OVERLAP`.
@@ -183,7 +183,7 @@ pub extern "C" fn bitvec_c_can_run_u8(order: u8, spans: &[PlainSpan], words: usi
     test_spans::<u8>(order, spans, words)
 }
 
-/// Whether spans serve for a run in a memory of so many words of 16 bits: each lies in it, and no
+/// Whether spans serve for a run in a memory of `words` words of 16 bits: each lies in it, and no
 /// two have a bit in common.
 ///
 /// It refuses with `NO_ORDER`, `TOO_MANY_SPANS`, `TOO_LONG`, `OUTSIDE` or `OVERLAP`.
@@ -195,7 +195,7 @@ pub extern "C" fn bitvec_c_can_run_u16(order: u8, spans: &[PlainSpan], words: us
     test_spans::<u16>(order, spans, words)
 }
 
-/// Whether spans serve for a run in a memory of so many words of 32 bits: each lies in it, and no
+/// Whether spans serve for a run in a memory of `words` words of 32 bits: each lies in it, and no
 /// two have a bit in common.
 ///
 /// It refuses with `NO_ORDER`, `TOO_MANY_SPANS`, `TOO_LONG`, `OUTSIDE` or `OVERLAP`.
@@ -207,7 +207,7 @@ pub extern "C" fn bitvec_c_can_run_u32(order: u8, spans: &[PlainSpan], words: us
     test_spans::<u32>(order, spans, words)
 }
 
-/// Whether spans serve for a run in a memory of so many words of 64 bits: each lies in it, and no
+/// Whether spans serve for a run in a memory of `words` words of 64 bits: each lies in it, and no
 /// two have a bit in common.
 ///
 /// It refuses with `NO_ORDER`, `TOO_MANY_SPANS`, `TOO_LONG`, `OUTSIDE` or `OVERLAP`.

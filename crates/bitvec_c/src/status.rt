@@ -48,14 +48,14 @@ pub(crate) const MAX_SPANS: usize = 64;
 /// The greatest number of digits in a number.
 pub(crate) const MAX_DIGITS: usize = 64;
 
-/// Whether the range of `count` bits from place `start` on ends within so many words.
+/// Whether the range of `count` bits from place `start` on ends within `words` words.
 pub(crate) fn is_inside<R: BitRegister>(words: usize, start: usize, count: usize) -> bool
     ensures { IsTrue result ↔ (start + count ≤ words * R.BITS) }
 {
     start as u128 + count as u128 <= words as u128 * u128::from(R::BITS)
 }
 
-/// The status of an order and of a range in a memory of so many words.
+/// The status of an order and of a range in a memory of `words` words.
 pub(crate) fn test_range<R: BitRegister>(order: u8, words: usize, start: usize, count: usize) -> u8
     ensures status { result ≡ range_status R.BITS order words start count }
     ensures order { result ≡ ok → order ≤ 1 }
@@ -73,7 +73,7 @@ pub(crate) fn test_range<R: BitRegister>(order: u8, words: usize, start: usize, 
     }
 }
 
-/// Whether a place lies in one of so many words.
+/// Whether a place lies in one of `words` words.
 pub(crate) fn is_place<R: BitRegister>(words: usize, place: usize) -> bool
     ensures { IsTrue result ↔ (place + 1 ≤ words * R.BITS) }
 {

@@ -12,7 +12,7 @@ const WORDS: usize = 65536;
 const COPIED: usize = (WORDS - 4) * 64;
 const READS: usize = 4096;
 
-/// The nanoseconds of a unit, of which a job has so many: the best of nine rounds.
+/// The nanoseconds of one of the units of a job: the best of nine rounds.
 fn time(units: usize, job: &mut dyn FnMut()) -> f64 {
     let mut round = |repeats: usize| {
         let start = Instant::now();

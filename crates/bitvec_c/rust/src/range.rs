@@ -6,7 +6,7 @@ use std::ops::{Bound, RangeBounds};
 /// How many bits a range has at most.
 const MAX_BITS: usize = usize::MAX >> 3;
 
-/// How many bits so many words have, or the greatest number where that is none.
+/// How many bits a number of words have, or the greatest number where that is none.
 pub(crate) fn bits_of(words: usize, width: usize) -> usize {
     words.saturating_mul(width)
 }

@@ -62,7 +62,7 @@ impl<'a, T: Register, O: Order> BitSlice<'a, T, O> {
         Ok(Self::of(words, start, len))
     }
 
-    /// So many bits from a place on, which lie in the words.
+    /// A number of bits from a place on, which lie in the words.
     pub(crate) fn of(words: &'a [T], start: usize, len: usize) -> Self {
         Self {
             words,

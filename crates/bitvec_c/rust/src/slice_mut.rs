@@ -274,7 +274,7 @@ impl<T: Register, O: Order> Debug for BitSliceMut<'_, T, O> {
     }
 }
 
-/// The range of so many places from one on.
+/// The range of a number of places from one on.
 fn run_of(start: usize, count: usize) -> Result<std::ops::Range<usize>, Refusal> {
     let end = start.checked_add(count).ok_or(Refusal::Outside)?;
     Ok(start..end)

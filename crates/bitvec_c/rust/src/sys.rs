@@ -111,7 +111,7 @@ pub trait Exports: Copy {
         count: usize,
     ) -> Result<bool, Refusal>;
 
-    /// Tests the spans of a run over so many words.
+    /// Tests the spans of a run over a number of words.
     fn can_run(order: u8, spans: &[Span], words: usize) -> Result<(), Refusal>;
 
     /// Serves requests through spans.

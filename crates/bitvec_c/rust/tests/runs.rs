@@ -56,7 +56,7 @@ mod cases {
         }
     }
 
-    /// A command, mostly one that a span of so many bits does not refuse.
+    /// A command, mostly one that a span of that length does not refuse.
     fn command<T: Word>(random: &mut Random, len: usize) -> Command {
         let (k, words) = (random.place(len / T::BITS), random.place(len / T::BITS + 1));
         let (i, j) = (random.place(len), random.place(len));

@@ -1,5 +1,5 @@
 use Rattle.std.proofs.Common.{ap, ◌∙◌}
-use Rattle.bitvec_slice.specs.Bits.{ones_in}
+use Rattle.bitvec.specs.Truths.{ones_in}
 use Rattle.bitvec_c.proofs.OrderLemmas.{first_order, last_order}
 use Rattle.bitvec_c.proofs.find.ones_of.Goals as goal
 

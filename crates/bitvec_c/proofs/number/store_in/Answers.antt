@@ -18,8 +18,8 @@ returns-then-big g c =
     rw c.if-big.true
     (stored_range width at true g.O.Sequential.RISES c.args.start c.args.count c.args.number _ span _ _ c.bits_mut-range.ensures.span many edit)
 
-pub returns : goal.returns
-returns g c =
+pub returns-else-big : goal.returns-else-big
+returns-else-big g c =
     let width = g.R.BitRegister.BITS in
     let at = g.O.BitAt.at_of in
     let number = g.R.BitRegister.number in

@@ -109,7 +109,7 @@ impl Random {
         (self.number() >> 16) as usize % bound
     }
 
-    /// Whether one of so many.
+    /// True once in `of` times.
     pub fn one_in(&mut self, of: usize) -> bool {
         self.below(of) == 0
     }
