@@ -1,6 +1,7 @@
 //! The recipes of the guide: its first program, and functions on spans and slices.
 #![tactic(auto)]
 
+mod seats;
 mod spans;
 
 use bitvec::order::Lsb0;

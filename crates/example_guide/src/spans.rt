@@ -5,7 +5,7 @@ ghost use Rattle.std.specs.Prelude.{replicate};
 ghost use Rattle.bitvec.specs.BitSpan.{span_of, list_by, Becomes};
 ghost use Rattle.bitvec.specs.Span.{Fits};
 ghost use Rattle.bitvec_slice.specs.BitSlice.{bits_of, slice_len};
-ghost use Rattle.bitvec_slice.specs.Bits.{ones_in};
+ghost use Rattle.bitvec.specs.Truths.{ones_in};
 
 use bitvec::mem::BitRegister;
 use bitvec::order::BitOrder;

@@ -5,7 +5,7 @@ use Rattle.std.specs.Prelude.{slice_range}
 use Rattle.bitvec.specs.Span.{Span, element, list_of, with_filled}
 use Rattle.bitvec.proofs.PartLemmas.{length-list_of}
 use Rattle.bitvec_slice.proofs.SlicePartLemmas.{list_of-zeros}
-use Rattle.bitvec_slice.specs.Bits.{AllAre}
+use Rattle.bitvec.specs.Truths.{AllAre}
 use Rattle.bitvec_slice.specs.Whole.{whole_span}
 use Rattle.freemap.specs.Blocks.{blocks_of, AreInUse}
 

@@ -4,7 +4,7 @@ use Rattle.bitvec.specs.Span.{element, list_of}
 use Rattle.bitvec_slice.specs.Bits.{AreFree}
 use Rattle.bitvec_slice.specs.Whole.{whole_span}
 
--- whether each block of so many words is in use, in order: bit after bit, from the least digit of a word on
+-- whether each block of some words is in use, in order: bit after bit, from the least digit of a word on
 abbrev pub blocks_of : List ℕ → List Bool
 blocks_of words = list_of 64 (λ i. i) (whole_span 64 (length words)) words
 

@@ -21,7 +21,7 @@ pub struct FreeMap<const N: usize> {
     pub ghost short: { N * 64 ≤ region_max_bits },
 }
 
-// The span of every block of so many words.
+// The span of every block of `words` words.
 fn span_of_all(words: usize) -> BitSpan<u64, Lsb0>
     requires { words * 64 ≤ region_max_bits }
     ensures { span_of result ≡ whole_span 64 words }

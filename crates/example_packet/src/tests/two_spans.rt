@@ -1,4 +1,4 @@
-//! The example of the README: two spans in one byte.
+//! An example of the guide: two spans in one byte.
 
 use bitvec::prelude::*;
 use bitvec::run::{can_run, run};
