@@ -1,6 +1,7 @@
 //! The same jobs as those of this program's `time`, each by the best loop that a person would write in
 //! plain Rust, for `rustc -O -C target-cpu=x86-64-v2`. It prints a name and nanoseconds for each.
 
+use std::cmp::Ordering;
 use std::hint::black_box;
 use std::time::{Duration, Instant};
 
@@ -9,7 +10,7 @@ const COPIED: usize = (WORDS - 4) * 64;
 const SPANS: usize = 2000;
 const REQUESTS: usize = 1_000_000;
 
-/// The nanoseconds of a unit, of which a job has so many: the best of nine rounds.
+/// The nanoseconds of one of the units of a job: the best of nine rounds.
 fn time(name: &str, units: usize, mut job: impl FnMut()) {
     let mut round = |repeats: usize| {
         let start = Instant::now();
@@ -291,6 +292,86 @@ fn time_wide_copies(source: &[u64], target: &mut [u64]) {
     time("copy-u64-u128", words, || copy_to_wide(black_box(source), 64 + 3, black_box(&mut made), 128 + 14, COPIED));
 }
 
+// ---- set operators
+
+/// A plain loop over the target's words, each with the source's shifted, merged and masked.
+#[inline(never)]
+fn or_plain<const RISING: bool>(source: &[u64], from: usize, target: &mut [u64], to: usize, count: usize) {
+    let mut done = 0;
+    while done < count {
+        let bit = (to + done) % 64;
+        let part = (64 - bit).min(count - done);
+        let with = word_at::<RISING>(source, from + done, bit, part);
+        target[(to + done) / 64] |= with & mask::<RISING>(bit, part);
+        done += part;
+    }
+}
+
+/// Edges by themselves, and between them a loop over whole words that the compiler vectorises.
+#[inline(never)]
+fn or_shifted<const RISING: bool>(source: &[u64], from: usize, target: &mut [u64], to: usize, count: usize) {
+    let head = ((64 - to % 64) % 64).min(count);
+    or_plain::<RISING>(source, from, target, to, head);
+    let (first, shift) = ((from + head) / 64, (from + head) % 64);
+    let whole = (count - head) / 64;
+    let start = (to + head) / 64;
+    let words = &mut target[start..start + whole];
+    if shift == 0 {
+        for (word, with) in words.iter_mut().zip(&source[first..first + whole]) {
+            *word |= with;
+        }
+    } else {
+        let (a, b) = (&source[first..first + whole], &source[first + 1..first + 1 + whole]);
+        let (down, up) = shifts::<RISING>(shift);
+        for i in 0..whole {
+            words[i] |= joined::<RISING>(a[i], b[i], down, up);
+        }
+    }
+    let done = head + whole * 64;
+    or_plain::<RISING>(source, from + done, target, to + done, count - done);
+}
+
+/// Inside one memory, each bit with that `by` places before it, from the back: 0 < `by` < 64.
+#[inline(never)]
+fn or_within<const RISING: bool>(memory: &mut [u64], by: usize) {
+    let (down, up) = shifts::<RISING>(64 - by);
+    for k in (1..memory.len()).rev() {
+        memory[k] |= joined::<RISING>(memory[k - 1], memory[k], down, up);
+    }
+    memory[0] |= if RISING { memory[0] << by } else { memory[0] >> by };
+}
+
+/// Bit by bit into a word, which is written once, under two orders.
+#[inline(never)]
+fn xor_turned(source: &[u64], from: usize, target: &mut [u64], to: usize, count: usize) {
+    let mut done = 0;
+    while done < count {
+        let first = (to + done) % 64;
+        let part = (64 - first).min(count - done);
+        let mut word = 0;
+        for j in 0..part {
+            let place = from + done + j;
+            word |= (source[place / 64] >> (place % 64) & 1) << (63 - (first + j));
+        }
+        target[(to + done) / 64] ^= word;
+        done += part;
+    }
+}
+
+fn time_sets<const RISING: bool>(order: &str, source: &[u64], target: &mut [u64]) {
+    let name = |kind: &str| format!("or-{order}-{kind}");
+    time(&name("aligned"), WORDS, || {
+        or_shifted::<RISING>(black_box(source), 64, black_box(target), 64, COPIED);
+    });
+    time(&name("shifted"), WORDS, || {
+        or_shifted::<RISING>(black_box(source), 64 + 3, black_box(target), 64 + 14, COPIED);
+    });
+    time(&name("200-bits"), 1, || {
+        or_plain::<RISING>(black_box(source), 64 + 3, black_box(target), 64 + 14, black_box(200));
+    });
+    time(&name("within-shifted"), WORDS, || or_within::<RISING>(black_box(target), black_box(3)));
+}
+
 // ---- runs
 
 #[derive(Clone, Copy)]
@@ -542,7 +623,7 @@ fn edges<const RISING: bool>() -> (u64, u64) {
     (mask::<RISING>(3, 61), mask::<RISING>(0, 60))
 }
 
-/// Digits that are bits of the slice: word `k` of so many, under its mask.
+/// Digits that are bits of the slice: word `k` of `count`, under its mask.
 #[inline(always)]
 fn inside<const RISING: bool>(word: u64, k: usize, count: usize) -> u64 {
     let (first, last) = edges::<RISING>();
@@ -686,6 +767,134 @@ fn equal_shifted<const RISING: bool>(words: &[u64], others: &[u64], count: usize
     done == count || (word_at::<RISING>(words, 3 + done, 0, count - done) ^ others[1 + whole]) & mask::<RISING>(0, count - done) == 0
 }
 
+/// The first word of another memory's range and its last, and the whole words between: `edge` is handed the two words of
+/// an edge and its mask, `rows` the words of this memory with the next ones behind them, and the other's. It stops where
+/// one of them says so.
+#[inline(always)]
+fn pairs<const RISING: bool>(
+    words: &[u64],
+    from: usize,
+    others: &[u64],
+    to: usize,
+    count: usize,
+    mut edge: impl FnMut(u64, u64, u64) -> bool,
+    rows: impl FnOnce(&[u64], &[u64], &[u64], usize) -> bool,
+) {
+    let lead = ((64 - to % 64) % 64).min(count);
+    if lead > 0 {
+        let word = word_at::<RISING>(words, from, to % 64, lead);
+        if !edge(word, others[to / 64], mask::<RISING>(to % 64, lead)) {
+            return;
+        }
+    }
+    let (first, shift) = ((from + lead) / 64, (from + lead) % 64);
+    let whole = (count - lead) / 64;
+    let start = (to + lead) / 64;
+    let next = if shift == 0 { first } else { first + 1 };
+    if !rows(&words[first..first + whole], &words[next..next + whole], &others[start..start + whole], shift) {
+        return;
+    }
+    let done = lead + whole * 64;
+    if done < count {
+        let word = word_at::<RISING>(words, from + done, 0, count - done);
+        edge(word, others[start + whole], mask::<RISING>(0, count - done));
+    }
+}
+
+/// How many bits are set in both ranges.
+#[inline(never)]
+fn count_and<const RISING: bool>(words: &[u64], from: usize, others: &[u64], to: usize, count: usize) -> u64 {
+    let sum = std::cell::Cell::new(0);
+    pairs::<RISING>(
+        words,
+        from,
+        others,
+        to,
+        count,
+        |word, other, mask| {
+            sum.set(sum.get() + u64::from((word & other & mask).count_ones()));
+            true
+        },
+        |here, next, there, shift| {
+            let mut ones = 0;
+            if shift == 0 {
+                for (word, other) in here.iter().zip(there) {
+                    ones += u64::from((word & other).count_ones());
+                }
+            } else {
+                let (down, up) = shifts::<RISING>(shift);
+                for i in 0..there.len() {
+                    ones += u64::from((joined::<RISING>(here[i], next[i], down, up) & there[i]).count_ones());
+                }
+            }
+            sum.set(sum.get() + ones);
+            true
+        },
+    );
+    sum.get()
+}
+
+/// The first pair of words of two ranges, lined up, for which a test leaves a bit: 64 of them are tested at once.
+#[inline(always)]
+fn first_pair<const RISING: bool>(
+    words: &[u64],
+    from: usize,
+    others: &[u64],
+    to: usize,
+    count: usize,
+    left: impl Fn(u64, u64) -> u64 + Copy,
+) -> Option<(u64, u64)> {
+    let found = std::cell::Cell::new(None);
+    pairs::<RISING>(
+        words,
+        from,
+        others,
+        to,
+        count,
+        |word, other, mask| {
+            let pair = (word & mask, other & mask);
+            if left(pair.0, pair.1) != 0 {
+                found.set(Some(pair));
+            }
+            found.get().is_none()
+        },
+        |here, next, there, shift| {
+            let (down, up) = shifts::<RISING>(shift.max(1));
+            for ((a, b), c) in here.chunks(64).zip(next.chunks(64)).zip(there.chunks(64)) {
+                let (b, c) = (&b[..a.len()], &c[..a.len()]);
+                let word = |i: usize| if shift == 0 { a[i] } else { joined::<RISING>(a[i], b[i], down, up) };
+                let any = if shift == 0 {
+                    (0..a.len()).fold(0, |sum, i| sum | left(a[i], c[i]))
+                } else {
+                    (0..a.len()).fold(0, |sum, i| sum | left(joined::<RISING>(a[i], b[i], down, up), c[i]))
+                };
+                if any != 0 {
+                    found.set((0..a.len()).map(|i| (word(i), c[i])).find(|pair| left(pair.0, pair.1) != 0));
+                    return false;
+                }
+            }
+            true
+        },
+    );
+    found.get()
+}
+
+/// Whether each bit that is set in the one range is set in the other.
+#[inline(never)]
+fn subset<const RISING: bool>(words: &[u64], from: usize, others: &[u64], to: usize, count: usize) -> bool {
+    first_pair::<RISING>(words, from, others, to, count, |word, other| word & !other).is_none()
+}
+
+/// Which of two ranges comes first: the one that has a zero where they first differ.
+#[inline(never)]
+fn compare<const RISING: bool>(words: &[u64], from: usize, others: &[u64], to: usize, count: usize) -> Ordering {
+    match first_pair::<RISING>(words, from, others, to, count, |word, other| word ^ other) {
+        Some((word, other)) if RISING => word.reverse_bits().cmp(&other.reverse_bits()),
+        Some((word, other)) => word.cmp(&other),
+        None => Ordering::Equal,
+    }
+}
+
 fn one_bit(at: usize) -> Vec<u64> {
     let mut words = vec![0; WORDS];
     words[at] = 1 << 31;
@@ -720,11 +929,26 @@ fn time_reads<const RISING: bool>(order: &str, source: &[u64]) {
     time(&name("equal"), WORDS, || {
         black_box(equal::<RISING>(black_box(source), black_box(&copy)));
     });
+    time(&name("subset-aligned"), WORDS, || {
+        assert!(subset::<RISING>(black_box(source), 3, black_box(&copy), 3, WORDS * 64 - 7));
+    });
+    time(&name("count-and-aligned"), WORDS, || {
+        black_box(count_and::<RISING>(black_box(source), 3, black_box(&copy), 3, WORDS * 64 - 7));
+    });
     let mut moved = vec![0; WORDS];
     let count = (WORDS - 1) * 64;
     copy_plain::<RISING>(source, 3, &mut moved, 14, count);
     time(&name("equal-shifted"), WORDS, || {
         assert!(equal_shifted::<RISING>(black_box(source), black_box(&moved), count));
+    });
+    time(&name("subset-shifted"), WORDS, || {
+        assert!(subset::<RISING>(black_box(source), 3, black_box(&moved), 14, count));
+    });
+    time(&name("count-and-shifted"), WORDS, || {
+        black_box(count_and::<RISING>(black_box(source), 3, black_box(&moved), 14, count));
+    });
+    time(&name("cmp-shifted"), WORDS, || {
+        assert!(compare::<RISING>(black_box(source), 3, black_box(&moved), 14, count) == Ordering::Equal);
     });
     let memory = one_bit(WORDS - 1);
     time(&name("first-one"), WORDS, || {
@@ -924,6 +1148,9 @@ fn main() {
     time_copies::<true>("lsb0", &source, &mut target);
     time_copies::<false>("msb0", &source, &mut target);
     time_other_copies(&source, &mut target);
+    time_sets::<true>("lsb0", &source, &mut target);
+    time_sets::<false>("msb0", &source, &mut target);
+    time("xor-lsb0-msb0", WORDS, || xor_turned(black_box(&source), 64 + 3, black_box(&mut target), 64 + 14, COPIED));
     time_runs(&mut target);
     time_domains(&source, &mut target);
     time_reads::<true>("lsb0", &source);

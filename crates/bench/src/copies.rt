@@ -67,7 +67,7 @@ impl Place {
         BitPtr::new(isize::from(self.word), bit)
     }
 
-    // The place as a number, in a memory of words of so many bits.
+    // The place as a number, in a memory of words of `width` bits.
     fn number(self, width: u8) -> usize {
         let words = usize::from(self.word).saturating_mul(usize::from(width));
         words.saturating_add(usize::from(self.bit))
@@ -82,7 +82,7 @@ struct Ends {
     count: usize,
 }
 
-// How many words of 64 bits so many bits fill, where they are more than a few.
+// How many words of 64 bits `count` bits fill, where they are more than a few.
 fn units(count: usize) -> u32
     ensures { 0 < result }
 {

@@ -17,7 +17,7 @@ enum Edit {
 }
 
 impl Edit {
-    // Where the bit comes from that is bit i of so many afterwards.
+    // Where the bit comes from that is bit `i` of `len` afterwards.
     fn source(self, i: usize, len: usize) -> usize {
         match self {
             Edit::Reverse => len.saturating_sub(1).saturating_sub(i),
@@ -47,7 +47,7 @@ impl<O: BitOrder<u64>> Job for Editing<'_, O> {
     }
 }
 
-// Whether a memory is another but for so many bits from place 3 on, which are edited: bit by bit.
+// Whether a memory is another but for `len` bits from place 3 on, which are edited: bit by bit.
 fn is_edited<F: Formula>(before: &[u64], after: &[u64], len: usize, edit: Edit) -> bool {
     (0..before.len().saturating_mul(64)).all(|place| {
         let inside = place >= 3 && place - 3 < len;

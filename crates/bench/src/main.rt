@@ -12,6 +12,7 @@ mod domains;
 mod edits;
 mod places;
 mod runs;
+mod sets;
 mod slices;
 mod timer;
 mod words;
@@ -34,6 +35,7 @@ fn main(rt: HostRuntime) -> io::Result<()> {
 // All jobs.
 fn jobs(rt: HostRuntime, mode: Mode) -> io::Result<()> {
     copies::copies(rt, mode)?;
+    sets::sets(rt, mode)?;
     runs::runs(rt, mode)?;
     domains::domains(rt, mode)?;
     slices::slices(rt, mode)?;

@@ -190,7 +190,7 @@ fn counts(mode: Mode) -> (u16, u32)
     }
 }
 
-// Runs requests through so many spans.
+// Runs requests through as many spans as the mode has.
 fn run_all(rt: HostRuntime, mode: Mode, kind: &str, requests: &[Request<u64>]) -> io::Result<()> {
     let (spans, count) = counts(mode);
     let spans = rising(rt, spans)?;

@@ -1,6 +1,7 @@
 //! What slices count, find, compare and give bit by bit, under a rising and a falling order.
 
-ghost use Rattle.std.specs.Prelude.{⊤};
+ghost use Rattle.std.specs.Prelude.{◌≡◌};
+ghost use Rattle.bitvec_slice.specs.BitSlice.{slice_len};
 
 use crate::timer::{Job, Mode, Name, tell, time};
 use crate::words::{Formula, bit, words};
@@ -9,6 +10,7 @@ use bitvec::ptr::single::BitPtr;
 use bitvec::ptr::span::BitSpan;
 use bitvec_slice::slice::BitSlice;
 use std::alloc::AllocError;
+use std::cmp::Ordering;
 use std::io;
 
 // A question to a slice, whose answer is a number.
@@ -22,12 +24,18 @@ enum Ask {
     Last,
     // The sum of the indices of the ones.
     Sum,
-    // The first of so many zeros in a row.
+    // The first of that many zeros in a row.
     Zeros(usize),
     // How many bits are one, each asked for in turn.
     Bits,
     // Whether another slice has the same bits.
     Equal,
+    // Whether each one is one of another slice too.
+    Subset,
+    // How many bits are one here and in another slice.
+    Both,
+    // Which of this slice and another comes first: 0, 1 where neither does, or 2.
+    Compare,
 }
 
 // The sum of the indices of a slice's ones.
@@ -51,6 +59,15 @@ fn count_in_turn<O: BitOrder<u64>>(slice: &BitSlice<'_, u64, O>) -> usize {
     count
 }
 
+// Which of two comes first, as a number.
+fn place_of(ordering: Ordering) -> usize {
+    match ordering {
+        Ordering::Less => 0,
+        Ordering::Equal => 1,
+        Ordering::Greater => 2,
+    }
+}
+
 // Two slices, and what is asked of the first.
 #[derive(Drop)]
 struct Reading<'a, O: BitOrder<u64>> {
@@ -61,7 +78,7 @@ struct Reading<'a, O: BitOrder<u64>> {
 }
 
 impl<O: BitOrder<u64>> Job for Reading<'_, O> {
-    ghost ready = { λ _. ⊤ };
+    ghost ready = { λ s. slice_len s.other ≡ slice_len s.slice };
 
     #[inline(never)]
     fn go(&mut self) {
@@ -73,11 +90,14 @@ impl<O: BitOrder<u64>> Job for Reading<'_, O> {
             Ask::Zeros(count) => self.slice.find_zeros(count).unwrap_or(0),
             Ask::Bits => count_in_turn(&self.slice),
             Ask::Equal => usize::from(self.slice.equals(&self.other)),
+            Ask::Subset => usize::from(self.slice.is_subset(&self.other)),
+            Ask::Both => self.slice.count_and(&self.other),
+            Ask::Compare => place_of(self.slice.compare(&self.other)),
         };
     }
 }
 
-// So many bits of a memory from a place on, and as many of another from another place on.
+// A number of bits of a memory from a place on, and as many of another from another place on.
 #[derive(Clone, Copy)]
 struct Pair<'a> {
     words: &'a [u64],
@@ -93,7 +113,7 @@ impl Pair<'_> {
         bit::<u64, F>(self.words, self.place.saturating_add(i))
     }
 
-    // The first of so many zeros in a row.
+    // The first of `count` zeros in a row.
     fn zeros<F: Formula>(self, count: usize) -> usize {
         let mut run: usize = 0;
         for i in 0..self.len {
@@ -109,6 +129,21 @@ impl Pair<'_> {
         0
     }
 
+    // Bit i of the second.
+    fn other_bit<F: Formula>(self, i: usize) -> bool {
+        bit::<u64, F>(self.other, self.beside.saturating_add(i))
+    }
+
+    // Which of the two comes first, as a number: the one that has a zero where they first differ.
+    fn order<F: Formula>(self) -> usize {
+        for i in 0..self.len {
+            if self.bit::<F>(i) != self.other_bit::<F>(i) {
+                return if self.bit::<F>(i) { 2 } else { 0 };
+            }
+        }
+        1
+    }
+
     // The answer, bit by bit.
     fn answer<F: Formula>(self, ask: Ask) -> usize {
         let mut ones = (0..self.len).filter(|i| self.bit::<F>(*i));
@@ -118,9 +153,12 @@ impl Pair<'_> {
             Ask::Last => ones.last().unwrap_or(0),
             Ask::Sum => ones.fold(0, |sum: usize, i| sum.wrapping_add(i)),
             Ask::Zeros(count) => self.zeros::<F>(count),
-            Ask::Equal => usize::from((0..self.len).all(|i| {
-                self.bit::<F>(i) == bit::<u64, F>(self.other, self.beside.saturating_add(i))
-            })),
+            Ask::Equal => {
+                usize::from((0..self.len).all(|i| self.bit::<F>(i) == self.other_bit::<F>(i)))
+            }
+            Ask::Subset => usize::from(ones.all(|i| self.other_bit::<F>(i))),
+            Ask::Both => ones.filter(|i| self.other_bit::<F>(*i)).count(),
+            Ask::Compare => self.order::<F>(),
         }
     }
 }
@@ -263,13 +301,10 @@ fn one_order<O: BitOrder<u64> + Formula>(
     read::<O>(rt, mode, name("iter-bits-"), Ask::Bits, whole)?;
     let copy = crate::words::words(rt, words.len())?;
     let other = copy.as_slice();
-    read::<O>(
-        rt,
-        mode,
-        name("equal-"),
-        Ask::Equal,
-        Pair { other, ..whole },
-    )?;
+    let aligned = Pair { other, ..whole };
+    read::<O>(rt, mode, name("equal-"), Ask::Equal, aligned)?;
+    read::<O>(rt, mode, name("subset-aligned-"), Ask::Subset, aligned)?;
+    read::<O>(rt, mode, name("count-and-aligned-"), Ask::Both, aligned)?;
     let len = words.len().saturating_sub(1).saturating_mul(64);
     let shifted = Pair {
         beside: 14,
@@ -280,6 +315,9 @@ fn one_order<O: BitOrder<u64> + Formula>(
     let other = copy.as_slice();
     let shifted = Pair { other, ..shifted };
     read::<O>(rt, mode, name("equal-shifted-"), Ask::Equal, shifted)?;
+    read::<O>(rt, mode, name("subset-shifted-"), Ask::Subset, shifted)?;
+    read::<O>(rt, mode, name("count-and-shifted-"), Ask::Both, shifted)?;
+    read::<O>(rt, mode, name("cmp-shifted-"), Ask::Compare, shifted)?;
     finds::<O>(rt, mode, kind)
 }
 

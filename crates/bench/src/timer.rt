@@ -62,7 +62,7 @@ pub trait Job {
         ensures { ready self.new };
 }
 
-// The nanoseconds that a job takes so many times.
+// The nanoseconds that a job takes `repeats` times.
 fn round<J: Job>(clock: &impl Clock, job: &mut J, repeats: u64) -> io::Result<u64>
     requires { J.ready job.old }
     ensures { J.ready job.new }
@@ -100,7 +100,7 @@ fn best<J: Job>(clock: &impl Clock, job: &mut J, repeats: u64) -> io::Result<u64
     Ok(least)
 }
 
-/// Times a job of so many units, and prints the nanoseconds of one of them.
+/// Times a job of `units` units, and prints the nanoseconds of one of them.
 pub fn time<J: Job>(rt: HostRuntime, name: Name, units: u32, job: &mut J) -> io::Result<()>
     requires ready { J.ready job.old }
     requires some { 0 < units }

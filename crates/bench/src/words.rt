@@ -42,7 +42,7 @@ pub fn words_of<R: BitRegister>(rt: HostRuntime, count: usize) -> Result<Vec<R>,
 
 /// The position of an index by a formula, beside the library's.
 pub trait Formula {
-    /// The position of an index in a word of so many bits.
+    /// The position of an index in a word of `width` bits.
     fn position(width: usize, index: usize) -> usize
         requires { index < width };
 }
