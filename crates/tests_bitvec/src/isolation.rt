@@ -10,16 +10,19 @@ use bitvec::mem::BitRegister;
 use bitvec::order::{BitOrder, Lsb0};
 use bitvec::ptr::span::BitSpan;
 
-// Fills two spans and writes a bit of a third.
+// Fills two spans and writes a bit of a third. `rest` is any span beside the three, so a span of
+// any one bit outside them: the whole memory is known.
 fn edit_three<R: BitRegister, O: BitOrder<R>>(
     a: BitSpan<R, O>,
     b: BitSpan<R, O>,
     c: BitSpan<R, O>,
+    rest: BitSpan<R, O>,
     memory: &mut [R],
 )
     requires a { Fits R.BITS (span_of a) (length memory.old) }
     requires b { Fits R.BITS (span_of b) (length memory.old) }
     requires c { Fits R.BITS (span_of c) (length memory.old) }
+    requires rest { Fits R.BITS (span_of rest) (length memory.old) }
     requires some { (span_of c).len ≢ 0 }
     requires ab { AreDisjoint R.BITS (span_of a) (span_of b) }
     requires ba { AreDisjoint R.BITS (span_of b) (span_of a) }
@@ -27,10 +30,14 @@ fn edit_three<R: BitRegister, O: BitOrder<R>>(
     requires cb { AreDisjoint R.BITS (span_of c) (span_of b) }
     requires ac { AreDisjoint R.BITS (span_of a) (span_of c) }
     requires ca { AreDisjoint R.BITS (span_of c) (span_of a) }
+    requires ar { AreDisjoint R.BITS (span_of a) (span_of rest) }
+    requires br { AreDisjoint R.BITS (span_of b) (span_of rest) }
+    requires cr { AreDisjoint R.BITS (span_of c) (span_of rest) }
     ensures first { list_by a O.at_of memory.new ≡ replicate (span_of a).len true }
     ensures second { list_by b O.at_of memory.new ≡ replicate (span_of b).len false }
     ensures third { list_by c O.at_of memory.new
         ≡ slice_set (list_by c O.at_of memory.old) 0 true }
+    ensures rest { list_by rest O.at_of memory.new ≡ list_by rest O.at_of memory.old }
     ensures words { length memory.new ≡ length memory.old }
 {
     a.fill(memory, true);

@@ -1,1 +1,2 @@
 mod SliceRunLemmas
+mod SubsetLemmas

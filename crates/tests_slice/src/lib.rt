@@ -2,6 +2,8 @@
 #![tactic(auto)]
 
 #[cfg(test)]
+mod block_map;
+#[cfg(test)]
 mod bytes;
 #[cfg(test)]
 mod callers;
@@ -9,6 +11,8 @@ mod callers;
 mod cursor;
 #[cfg(test)]
 mod examples;
+#[cfg(test)]
+mod header;
 #[cfg(test)]
 mod lists;
 #[cfg(test)]
@@ -21,3 +25,5 @@ mod sets;
 mod texts;
 #[cfg(test)]
 mod traits;
+#[cfg(test)]
+mod two_sets;
