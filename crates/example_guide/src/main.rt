@@ -1,6 +1,7 @@
 //! The recipes of the guide: its first program, and functions on spans and slices.
 #![tactic(auto)]
 
+mod numbers;
 mod seats;
 mod spans;
 
