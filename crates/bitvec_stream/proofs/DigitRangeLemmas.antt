@@ -1,0 +1,55 @@
+-- Which numbers have so many digits, signed ones too.
+use Rattle.std.proofs.Common.{◌≡◌, ℕ, zero, suc, ◌+◌, ◌-◌, ◌*◌, ◌/◌, ◌^◌, ◌<◌, ◌≤◌, ℤ, pos, negsuc, ◌≤ℤ◌, ◌↔◌, sym, ap, subst, ◌∙◌, arith}
+use Rattle.std.proofs.lemmas.Int.{ints}
+use Rattle.std.proofs.lemmas.Nat.Bits.{ones_shr}
+use Rattle.std.proofs.lemmas.Nat.{div-mul-add, div-add-mod', mod_below, pow_pos}
+use Rattle.std.proofs.Math.Nat.{two-pow-succ}
+use Rattle.bitvec_slice.specs.Signed.{HasDigits}
+
+-- the digits past so many are none exactly where the number is below the power
+pub above_none : (n count : ℕ) → n / 2 ^ count ≡ 0 → n < 2 ^ count
+above_none n count none =
+    let parts = div-add-mod' n (2 ^ count) in
+    let small = mod_below n (2 ^ count) (pow_pos count) in
+    let product : n / 2 ^ count * 2 ^ count ≡ 0 * 2 ^ count = ap (λ k. k * 2 ^ count) none in
+    omega (arith, parts, small, product)
+
+pub none_above : (n count : ℕ) → n < 2 ^ count → n / 2 ^ count ≡ 0
+none_above n count below =
+    let whole : n ≡ 0 * 2 ^ count + n = omega arith in
+    ap (λ k. k / 2 ^ count) whole ∙ div-mul-add 0 (2 ^ count) n below
+
+-- a signed number of so many digits lies between the least and the greatest
+pub digits_between : (k : ℕ) (z : ℤ) → (z ≤ℤ pos (2 ^ k - 1)) × (negsuc (2 ^ k - 1) ≤ℤ z) ↔ HasDigits (suc k) z
+digits_between k (pos n) = let twice = two-pow-succ k in let some = pow_pos k in (λ h. omega (arith, ints, twice, some, h.0), λ h. (omega (arith, ints, twice, some, h), omega (arith, ints)))
+digits_between k (negsuc n) = let twice = two-pow-succ k in let some = pow_pos k in (λ h. omega (arith, ints, twice, some, h.1), λ h. (omega (arith, ints), omega (arith, ints, twice, some, h)))
+
+-- half of so many ones
+pub half_ones : (count : ℕ) → 0 < count → count ≤ 128 → (2 ^ 128 - 1) / 2 ^ (128 - count) / 2 ≡ 2 ^ (count - 1) - 1
+half_ones zero some most = absurd (omega arith)
+half_ones (suc k) some most =
+    let e : 128 - (128 - suc k) ≡ suc k = omega (arith, most) in
+    let less : suc k - 1 ≡ k = omega arith in
+    let ones : (2 ^ 128 - 1) / 2 ^ (128 - suc k) ≡ 2 ^ suc k - 1 = ones_shr 128 (128 - suc k) (omega arith) ∙ ap (λ n. 2 ^ n - 1) e in
+    let twice = two-pow-succ k in
+    let positive = pow_pos k in
+    let half : (2 ^ suc k - 1) / 2 ≡ 2 ^ k - 1 = omega (arith, twice, positive) in
+    ap (λ n. n / 2) ones ∙ half ∙ ap (λ n. 2 ^ n - 1) (sym less)
+
+-- the same by the number of digits
+pub digits_from_between : (count : ℕ) (z : ℤ) → 0 < count → z ≤ℤ pos (2 ^ (count - 1) - 1) → negsuc (2 ^ (count - 1) - 1) ≤ℤ z → HasDigits count z
+digits_from_between zero z some most least = absurd (omega arith)
+digits_from_between (suc k) z some most least =
+    let less : suc k - 1 ≡ k = omega arith in
+    (digits_between k z).0 (subst (λ n. z ≤ℤ pos (2 ^ n - 1)) less most, subst (λ n. negsuc (2 ^ n - 1) ≤ℤ z) less least)
+
+pub between_from_digits : (count : ℕ) (z : ℤ) → 0 < count → HasDigits count z → (z ≤ℤ pos (2 ^ (count - 1) - 1)) × (negsuc (2 ^ (count - 1) - 1) ≤ℤ z)
+between_from_digits zero z some has = absurd (omega arith)
+between_from_digits (suc k) z some has =
+    let less : k ≡ suc k - 1 = omega arith in
+    let both = (digits_between k z).1 has in
+    (subst (λ n. z ≤ℤ pos (2 ^ n - 1)) less both.0, subst (λ n. negsuc (2 ^ n - 1) ≤ℤ z) less both.1)
+
+pub no_digits : (z : ℤ) → HasDigits 0 z → z ≡ pos 0
+no_digits (pos n) h = let e : n ≡ 0 = omega (arith, h) in ap pos e
+no_digits (negsuc n) h = absurd (omega (arith, h))

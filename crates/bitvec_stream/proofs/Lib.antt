@@ -1,0 +1,11 @@
+mod CodeLemmas
+mod DigitRangeLemmas
+pub mod GolombLemmas
+pub mod ItemLemmas
+mod MultipleLemmas
+pub mod NumberLemmas
+mod ReadLemmas
+pub mod SignedGolombLemmas
+mod WordLemmas
+pub mod WriteLemmas
+pub mod WriterLemmas

@@ -1,0 +1,10 @@
+use Rattle.std.proofs.Common.{◌%◌, ap, ◌∙◌}
+use Rattle.bitvec_stream.specs.Writer.{bits_written}
+use Rattle.bitvec_stream.proofs.MultipleLemmas.{reaches}
+use Rattle.bitvec_stream.proofs.ReadLemmas.{ok_from}
+use Rattle.bitvec_stream.proofs.writer.BitWriter.skip_to_multiple.Goals as goal
+
+pub returns-clause-multiple : goal.returns-clause-multiple
+returns-clause-multiple g c =
+    let old = bits_written c.args.self.now in
+    ok_from _ _ _ c.skip.result c.skip.ensures.skipped (λ skips. ap (λ n. n % c.args.of) skips.2 ∙ reaches c.args.of old c.requires)

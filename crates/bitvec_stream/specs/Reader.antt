@@ -1,0 +1,21 @@
+-- What a `BitReader` shows.
+use Rattle.std.specs.Prelude.{◌≡◌, ℕ, ◌+◌, Bool, List, drop}
+use Rattle.bitvec_slice.specs.BitSlice.{bits_of}
+use Rattle.bitvec_slice.specs.declared.slice.bit_slice.BitSlice.{BitSlice}
+use Rattle.bitvec_stream.specs.declared.reader.BitReader.{BitReader}
+
+-- the slice that it reads
+abbrev pub source : {R O : Type 0} {a b c d e f g h i : _} → BitReader R O a b c d e f g h i → BitSlice R O a b c d e f g h i
+source reader = reader.slice
+
+-- how many bits of the slice are behind it
+abbrev pub bits_read : {R O : Type 0} {a b c d e f g h i : _} → BitReader R O a b c d e f g h i → ℕ
+bits_read reader = reader.position
+
+-- the bits that are left, in order
+abbrev pub rest : {R O : Type 0} {a b c d e f g h i : _} → BitReader R O a b c d e f g h i → List Bool
+rest reader = drop reader.position (bits_of reader.slice)
+
+-- A reader has passed over so many bits: those behind them are left, of the same slice.
+abbrev pub Passes : {R O : Type 0} {a b c d e f g h i : _} → (old new : BitReader R O a b c d e f g h i) → ℕ → Type 0
+Passes old new count = (rest new ≡ drop count (rest old)) × (bits_read new ≡ bits_read old + count) × (source new ≡ source old)

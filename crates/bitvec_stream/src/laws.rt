@@ -1,0 +1,14 @@
+//! What holds of numbers in a row whatever slice they lie in, as a call whose contract is the law.
+
+ghost use Rattle.bitvec_stream.specs.Items.{WrittenIsRead};
+
+/// What is read of what was written is that.
+///
+/// From a list that begins with numbers, each written in a way (in so many bits, the highest digit
+/// first or the lowest, as an unsigned number or as a two's complement, or as an Exp-Golomb code),
+/// the same ways read these numbers one behind the other, and leave what stands behind them. A
+/// writer's contract says that a number is written so, and a reader's that one is read so. It does
+/// nothing when it runs. Not in the Rust crate.
+pub fn written_is_read()
+    ensures { WrittenIsRead }
+{}

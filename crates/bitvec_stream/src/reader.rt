@@ -1,0 +1,188 @@
+//! A reader of numbers that stand one behind the other in a slice of bits.
+
+ghost use Rattle.std.specs.Prelude.{◌≡◌, ⊤, ◌+◌, ◌<◌, ◌≤◌, ◌%◌, ◌↔◌, IsTrue, IsOk, IfOk};
+ghost use Rattle.std.specs.Prelude.{MatchResult};
+ghost use Rattle.std.specs.Prelude.{IfErr, length, take};
+ghost use Rattle.bitvec.specs.Span.{element};
+ghost use Rattle.bitvec_slice.specs.BitSlice.{slice_len, bits_of};
+ghost use Rattle.bitvec_stream.specs.Multiples.{to_multiple};
+
+mod golomb;
+mod numbers;
+mod signed;
+mod unary;
+
+use crate::error::ReadError;
+use bitvec::mem::BitRegister;
+use bitvec::order::BitOrder;
+use bitvec_slice::slice::BitSlice;
+use std::alloc::AllocError;
+
+/// A slice, and the place in it behind the bits that were read.
+///
+/// Where a call refuses, it reads nothing and the reader is as it was. Not in the Rust crate.
+///
+/// # Examples
+///
+/// The first numbers of an IPv4 header.
+///
+/// ```
+/// let header = [0x45u8, 0x00, 0x05, 0xDC];
+/// let mut reader = BitReader::new(BitSlice::<u8, Msb0>::all_unchecked(&header));
+/// assert_eq!(rt; reader.read_be::<u8>(4), Ok(4));
+/// assert_eq!(rt; reader.read_be::<u8>(4), Ok(5));
+/// assert_eq!(rt; reader.skip(8), Ok(()));
+/// assert_eq!(rt; reader.read_be::<u16>(16), Ok(1500));
+/// assert_eq!(rt; reader.read_bit(), Err(ReadError::TooFew));
+/// ```
+#[derive(Drop)]
+pub struct BitReader<'a, R: BitRegister, O: BitOrder<R>> {
+    slice: BitSlice<'a, R, O>,
+    position: usize,
+    pub ghost within: { position ≤ slice_len slice },
+}
+
+impl<'a, R: BitRegister, O: BitOrder<R>> Clone for BitReader<'a, R, O> {
+    ghost is_clone = { λ it copy. copy ≡ it };
+
+    ghost is_infallible = { λ _. ⊤ };
+
+    fn clone(&self) -> Result<Self, AllocError> {
+        Ok(BitReader {
+            slice: self.slice,
+            position: self.position,
+        })
+    }
+}
+
+impl<'a, R: BitRegister, O: BitOrder<R>> BitReader<'a, R, O> {
+    ghost use Rattle.bitvec_stream.specs.Reader.{source, bits_read, rest, Passes};
+
+    /// A reader before the first bit of a slice. Constant time. Not in the Rust crate.
+    pub fn new(slice: BitSlice<'a, R, O>) -> Self
+        ensures source { source result ≡ slice.entry }
+        ensures position { bits_read result ≡ 0 }
+        ensures rest { rest result ≡ bits_of slice.entry }
+    {
+        BitReader { slice, position: 0 }
+    }
+
+    /// How many bits were read or passed over. Constant time. Not in the Rust crate.
+    pub fn position(&self) -> usize
+        ensures value { result ≡ bits_read self.now }
+        ensures rest { result + length (rest self.now) ≡ slice_len (source self.now) }
+    {
+        self.position
+    }
+
+    /// How many bits are left. Constant time. Not in the Rust crate.
+    pub fn remaining(&self) -> usize
+        ensures { result ≡ length (rest self.now) }
+    {
+        self.slice.len() - self.position
+    }
+
+    /// Whether no bit is left. Constant time. Not in the Rust crate.
+    pub fn is_empty(&self) -> bool
+        ensures { IsTrue result ↔ (length (rest self.now) ≡ 0) }
+    {
+        self.remaining() == 0
+    }
+
+    // Passes over so many bits, which are left.
+    fn pass(&mut self, count: usize)
+        requires { count ≤ length (rest self.old) }
+        ensures { Passes self.old self.new count }
+    {
+        self.position += count;
+    }
+
+    /// The next bit. It refuses with `TooFew` exactly where none is left. Constant time. Not in the
+    /// Rust crate.
+    pub fn read_bit(&mut self) -> Result<bool, ReadError>
+        ensures accepted { IsOk result ↔ (0 < length (rest self.old)) }
+        ensures value { IfOk result (λ bit. bit ≡ element (rest self.old) 0) }
+        ensures moved { MatchResult result (λ _. Passes self.old self.new 1)
+            (λ error. (error ≡ ReadError.TooFew) × (self.new ≡ self.old)) }
+    {
+        if self.slice.len() <= self.position {
+            return Err(ReadError::TooFew);
+        }
+        let bit = self.slice.get_unchecked(self.position);
+        self.pass(1);
+        Ok(bit)
+    }
+
+    /// The next `count` bits as a slice of the same memory; the reader stays before them. It
+    /// refuses with `TooFew` exactly where fewer are left. Constant time. Not in the Rust crate.
+    pub fn peek_slice(&self, count: usize) -> Result<BitSlice<'a, R, O>, ReadError>
+        ensures accepted { IsOk result ↔ (count ≤ length (rest self.now)) }
+        ensures bits { IfOk result (λ part. bits_of part ≡ take count (rest self.now)) }
+        ensures len { IfOk result (λ part. slice_len part ≡ count) }
+        ensures refused { IfErr result (λ error. error ≡ ReadError.TooFew) }
+    {
+        if count > self.remaining() {
+            return Err(ReadError::TooFew);
+        }
+        let (_, rest) = self.slice.split_at(self.position);
+        let (part, _) = rest.split_at(count);
+        Ok(part)
+    }
+
+    /// The next `count` bits as a slice of the same memory. It refuses with `TooFew` exactly where
+    /// fewer are left. Constant time. Not in the Rust crate.
+    ///
+    /// # Examples
+    ///
+    /// ```
+    /// let memory = [0x2Cu8, 0xFF];
+    /// let mut reader = BitReader::new(BitSlice::<u8, Lsb0>::all_unchecked(&memory));
+    /// let part = reader.read_slice(6)?;
+    /// assert_eq!(rt; part.count_ones(), 3);
+    /// assert_eq!(rt; reader.position(), 6);
+    /// assert!(rt; reader.read_slice(11).is_err());
+    /// assert_eq!(rt; reader.remaining(), 10);
+    /// ```
+    pub fn read_slice(&mut self, count: usize) -> Result<BitSlice<'a, R, O>, ReadError>
+        ensures accepted { IsOk result ↔ (count ≤ length (rest self.old)) }
+        ensures bits { IfOk result (λ part. bits_of part ≡ take count (rest self.old)) }
+        ensures len { IfOk result (λ part. slice_len part ≡ count) }
+        ensures moved { MatchResult result (λ _. Passes self.old self.new count)
+            (λ error. (error ≡ ReadError.TooFew) × (self.new ≡ self.old)) }
+    {
+        let part = self.peek_slice(count)?;
+        self.pass(count);
+        Ok(part)
+    }
+
+    /// Passes over `count` bits. It refuses with `TooFew` exactly where fewer are left. Constant
+    /// time. Not in the Rust crate.
+    pub fn skip(&mut self, count: usize) -> Result<(), ReadError>
+        ensures accepted { IsOk result ↔ (count ≤ length (rest self.old)) }
+        ensures moved { MatchResult result (λ _. Passes self.old self.new count)
+            (λ error. (error ≡ ReadError.TooFew) × (self.new ≡ self.old)) }
+    {
+        if self.remaining() < count {
+            return Err(ReadError::TooFew);
+        }
+        self.pass(count);
+        Ok(())
+    }
+
+    /// Passes over as few bits as bring the [`position`](BitReader::position) to a multiple of
+    /// `of`, and over none where it is one. It refuses with `TooFew` exactly where fewer are left.
+    ///
+    /// Requires that `of` is not 0. Constant time. Not in the Rust crate.
+    pub fn skip_to_multiple(&mut self, of: usize) -> Result<(), ReadError>
+        requires { 0 < of }
+        ensures accepted { let count = to_multiple of (bits_read self.old)
+            in IsOk result ↔ (count ≤ length (rest self.old)) }
+        ensures moved { let count = to_multiple of (bits_read self.old)
+            in MatchResult result (λ _. Passes self.old self.new count)
+            (λ error. (error ≡ ReadError.TooFew) × (self.new ≡ self.old)) }
+        ensures multiple { IfOk result (λ _. bits_read self.new % of ≡ 0) }
+        ensures near { IfOk result (λ _. bits_read self.new < bits_read self.old + of) }
+    {
+        self.skip((of - self.position % of) % of)
+    }
+}

@@ -1,0 +1,87 @@
+//! Numbers of as many bits as are asked for.
+
+ghost use Rattle.std.specs.Prelude.{◌≡◌, ◌≤◌, ◌↔◌, IsOk, IfOk, IfErr, MatchResult, length, take};
+ghost use Rattle.bitvec_stream.specs.Numbers.{number_le, number_be};
+
+use crate::error::ReadError;
+use crate::number::{load_be, load_le};
+use crate::reader::BitReader;
+use bitvec::mem::BitRegister;
+use bitvec::order::BitOrder;
+
+impl<'a, R: BitRegister, O: BitOrder<R>> BitReader<'a, R, O> {
+    ghost use Rattle.bitvec_stream.specs.Reader.{rest, Passes};
+
+    /// The number of the next `count` bits, the first the highest digit. No bits are 0. It refuses
+    /// with `TooFew` exactly where fewer are left.
+    ///
+    /// Requires that `count` is at most the width of the number's type: `count <= N::BITS`. Costs
+    /// by words. Not in the Rust crate.
+    pub fn read_be<N: BitRegister>(&mut self, count: usize) -> Result<N, ReadError>
+        requires { count ≤ N.BITS }
+        ensures accepted { IsOk result ↔ (count ≤ length (rest self.old)) }
+        ensures number { IfOk result (λ value. N.number value
+            ≡ number_be (take count (rest self.old))) }
+        ensures moved { MatchResult result (λ _. Passes self.old self.new count)
+            (λ error. (error ≡ ReadError.TooFew) × (self.new ≡ self.old)) }
+    {
+        let value = self.peek_be(count)?;
+        self.pass(count);
+        Ok(value)
+    }
+
+    /// The number of the next `count` bits, the first the lowest digit. No bits are 0. It refuses
+    /// with `TooFew` exactly where fewer are left.
+    ///
+    /// Requires that `count` is at most the width of the number's type: `count <= N::BITS`. Costs
+    /// by words. Not in the Rust crate.
+    ///
+    /// # Examples
+    ///
+    /// ```
+    /// let memory = [0x2Cu8];
+    /// let mut reader = BitReader::new(BitSlice::<u8, Lsb0>::all_unchecked(&memory));
+    /// assert_eq!(rt; reader.read_le::<u32>(2), Ok(0));
+    /// assert_eq!(rt; reader.peek_be::<u32>(4), Ok(13));
+    /// assert_eq!(rt; reader.read_le::<u32>(4), Ok(11));
+    /// assert_eq!(rt; reader.read_le::<u32>(3), Err(ReadError::TooFew));
+    /// ```
+    pub fn read_le<N: BitRegister>(&mut self, count: usize) -> Result<N, ReadError>
+        requires { count ≤ N.BITS }
+        ensures accepted { IsOk result ↔ (count ≤ length (rest self.old)) }
+        ensures number { IfOk result (λ value. N.number value
+            ≡ number_le (take count (rest self.old))) }
+        ensures moved { MatchResult result (λ _. Passes self.old self.new count)
+            (λ error. (error ≡ ReadError.TooFew) × (self.new ≡ self.old)) }
+    {
+        let value = self.peek_le(count)?;
+        self.pass(count);
+        Ok(value)
+    }
+
+    /// What [`read_be`](BitReader::read_be) gives; the reader stays before the bits. Requires and
+    /// costs the same. Not in the Rust crate.
+    pub fn peek_be<N: BitRegister>(&self, count: usize) -> Result<N, ReadError>
+        requires { count ≤ N.BITS }
+        ensures accepted { IsOk result ↔ (count ≤ length (rest self.now)) }
+        ensures number { IfOk result (λ value. N.number value
+            ≡ number_be (take count (rest self.now))) }
+        ensures refused { IfErr result (λ error. error ≡ ReadError.TooFew) }
+    {
+        let part = self.peek_slice(count)?;
+        Ok(N::from_u128(load_be(part)).unwrap())
+    }
+
+    /// What [`read_le`](BitReader::read_le) gives; the reader stays before the bits. Requires and
+    /// costs the same. Not in the Rust crate.
+    pub fn peek_le<N: BitRegister>(&self, count: usize) -> Result<N, ReadError>
+        requires { count ≤ N.BITS }
+        ensures accepted { IsOk result ↔ (count ≤ length (rest self.now)) }
+        ensures number { IfOk result (λ value. N.number value
+            ≡ number_le (take count (rest self.now))) }
+        ensures refused { IfErr result (λ error. error ≡ ReadError.TooFew) }
+    {
+        let part = self.peek_slice(count)?;
+        Ok(N::from_u128(load_le(part)).unwrap())
+    }
+}

@@ -1,0 +1,114 @@
+//! Numbers in as many bits as are asked for.
+
+ghost use Rattle.std.specs.Prelude.{◌≡◌, ◌^◌, ◌<◌, ◌≤◌, ◌↔◌, Err, IsTrue, IsOk, MatchResult};
+ghost use Rattle.std.specs.Prelude.{length};
+ghost use Rattle.bitvec_stream.specs.Numbers.{digits_le, digits_be};
+
+use crate::error::WriteError;
+use crate::writer::BitWriter;
+use bitvec::mem::BitRegister;
+use bitvec::order::{BitOrder, Lsb0, Msb0};
+use bitvec_slice::slice::BitSlice;
+
+// Whether a number has no digit from digit `count` on.
+fn has_digits(number: u128, count: usize) -> bool
+    requires { count ≤ 128 }
+    ensures { IsTrue result ↔ (number < 2 ^ count) }
+{
+    count == 128 || number >> count == 0
+}
+
+impl<'a, R: BitRegister, O: BitOrder<R>> BitWriter<'a, R, O> {
+    ghost use Rattle.bitvec_stream.specs.Writer.{room, Writes};
+
+    // Writes the `count` lowest digits of a number, the highest of them first. There is room for
+    // them.
+    pub(super) fn put_be(&mut self, count: usize, digits: u128)
+        requires few { count ≤ 128 }
+        requires inside { count ≤ length (room self.old) }
+        ensures { Writes self.old self.new (digits_be count digits) }
+    {
+        let words = [digits];
+        let word = BitSlice::<u128, Msb0>::all_unchecked(&words);
+        let (_, part) = word.split_at(128 - count);
+        self.put_slice(part);
+    }
+
+    // Writes the `count` lowest digits of a number, the lowest first. There is room for them.
+    pub(super) fn put_le(&mut self, count: usize, digits: u128)
+        requires few { count ≤ 128 }
+        requires inside { count ≤ length (room self.old) }
+        ensures { Writes self.old self.new (digits_le count digits) }
+    {
+        let words = [digits];
+        let word = BitSlice::<u128, Lsb0>::all_unchecked(&words);
+        let (part, _) = word.split_at(count);
+        self.put_slice(part);
+    }
+
+    /// Writes a number in `count` bits, the first the highest digit. It refuses with `NoRoom`
+    /// exactly where there is room for fewer, and else with `TooManyDigits` exactly where the
+    /// number is not below two to the `count`.
+    ///
+    /// Requires that `count` is at most the width of the number's type: `count <= N::BITS`. Costs
+    /// by words. Not in the Rust crate.
+    pub fn write_be<N: BitRegister>(&mut self, count: usize, value: N) -> Result<(), WriteError>
+        requires { count ≤ N.BITS }
+        ensures accepted { IsOk result
+            ↔ ((count ≤ length (room self.old)) × (N.number value < 2 ^ count)) }
+        ensures no_room { (result ≡ Err WriteError.NoRoom) ↔ (length (room self.old) < count) }
+        ensures written { MatchResult result
+            (λ _. Writes self.old self.new (digits_be count (N.number value)))
+            (λ _. self.new ≡ self.old) }
+    {
+        if self.remaining() < count {
+            return Err(WriteError::NoRoom);
+        }
+        let digits = value.to_u128();
+        if !has_digits(digits, count) {
+            return Err(WriteError::TooManyDigits);
+        }
+        self.put_be(count, digits);
+        Ok(())
+    }
+
+    /// Writes a number in `count` bits, the first the lowest digit. It refuses with `NoRoom`
+    /// exactly where there is room for fewer, and else with `TooManyDigits` exactly where the
+    /// number is not below two to the `count`.
+    ///
+    /// Requires that `count` is at most the width of the number's type: `count <= N::BITS`. Costs
+    /// by words. Not in the Rust crate.
+    ///
+    /// # Examples
+    ///
+    /// ```
+    /// let mut memory = [0xFFu8];
+    /// let slice = BitSliceMut::<u8, Lsb0>::all_unchecked(&mut memory);
+    /// let mut writer = BitWriter::new(slice);
+    /// assert_eq!(rt; writer.write_le(2, 0u32), Ok(()));
+    /// assert_eq!(rt; writer.write_le(3, 11u32), Err(WriteError::TooManyDigits));
+    /// assert_eq!(rt; writer.write_le(4, 11u32), Ok(()));
+    /// assert_eq!(rt; writer.remaining(), 2);
+    /// drop(writer);
+    /// assert_eq!(rt; memory, [0xEC]);
+    /// ```
+    pub fn write_le<N: BitRegister>(&mut self, count: usize, value: N) -> Result<(), WriteError>
+        requires { count ≤ N.BITS }
+        ensures accepted { IsOk result
+            ↔ ((count ≤ length (room self.old)) × (N.number value < 2 ^ count)) }
+        ensures no_room { (result ≡ Err WriteError.NoRoom) ↔ (length (room self.old) < count) }
+        ensures written { MatchResult result
+            (λ _. Writes self.old self.new (digits_le count (N.number value)))
+            (λ _. self.new ≡ self.old) }
+    {
+        if self.remaining() < count {
+            return Err(WriteError::NoRoom);
+        }
+        let digits = value.to_u128();
+        if !has_digits(digits, count) {
+            return Err(WriteError::TooManyDigits);
+        }
+        self.put_le(count, digits);
+        Ok(())
+    }
+}

@@ -1,0 +1,54 @@
+//! Numbers in unary: so many equal bits, and one that is not.
+
+ghost use Rattle.std.specs.Prelude.{◌≡◌, ◌<◌, ◌≤◌, ◌↔◌, ◌∷◌, ◌++◌, [], IsOk, MatchResult, not};
+ghost use Rattle.std.specs.Prelude.{length};
+ghost use Rattle.std.specs.Prelude.{replicate};
+
+use crate::error::WriteError;
+use crate::writer::BitWriter;
+use bitvec::mem::BitRegister;
+use bitvec::order::BitOrder;
+
+impl<'a, R: BitRegister, O: BitOrder<R>> BitWriter<'a, R, O> {
+    ghost use Rattle.bitvec_stream.specs.Writer.{room, Writes};
+
+    // Writes the same bit so many times.
+    pub(super) fn fill(&mut self, bit: bool, count: usize)
+        requires { count ≤ length (room self.old) }
+        ensures { Writes self.old self.new (replicate count bit) }
+    {
+        let end = self.position + count;
+        self.slice.fill_range(self.position, end, bit);
+        self.position = end;
+    }
+
+    /// Writes `count` bits that are `bit`, and one that is not, so that
+    /// [`read_unary`](crate::reader::BitReader::read_unary) gives the count back. It refuses with
+    /// `NoRoom` exactly where there is room for fewer. Costs by words. Not in the Rust crate.
+    ///
+    /// # Examples
+    ///
+    /// ```
+    /// let mut memory = [0x00u8];
+    /// let slice = BitSliceMut::<u8, Msb0>::all_unchecked(&mut memory);
+    /// let mut writer = BitWriter::new(slice);
+    /// assert_eq!(rt; writer.write_unary(true, 3), Ok(()));
+    /// assert_eq!(rt; writer.write_unary(false, 1), Ok(()));
+    /// assert_eq!(rt; writer.write_unary(false, 2), Err(WriteError::NoRoom));
+    /// drop(writer);
+    /// assert_eq!(rt; memory, [0xE4]);
+    /// ```
+    pub fn write_unary(&mut self, bit: bool, count: usize) -> Result<(), WriteError>
+        ensures accepted { IsOk result ↔ (count < length (room self.old)) }
+        ensures written { MatchResult result
+            (λ _. Writes self.old self.new (replicate count bit ++ (not bit ∷ [])))
+            (λ error. (error ≡ WriteError.NoRoom) × (self.new ≡ self.old)) }
+    {
+        if self.remaining() <= count {
+            return Err(WriteError::NoRoom);
+        }
+        self.fill(bit, count);
+        self.fill(!bit, 1);
+        Ok(())
+    }
+}
