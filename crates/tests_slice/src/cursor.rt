@@ -5,9 +5,8 @@ ghost use Rattle.std.specs.Prelude.{take, drop, length};
 ghost use Rattle.bitvec_slice.specs.BitSlice.{slice_len, bits_of};
 
 use bitvec::mem::BitRegister;
-use bitvec::order::{BitOrder, Msb0};
+use bitvec::order::BitOrder;
 use bitvec_slice::slice::BitSlice;
-use std::test::Fail;
 
 /// A slice, and how many of its bits were taken.
 #[derive(Drop)]
@@ -57,14 +56,22 @@ impl<'a, R: BitRegister, O: BitOrder<R>> Cursor<'a, R, O> {
     }
 }
 
-#[test]
-fn bits_are_taken_in_turn(rt: HostRuntime) -> Result<(), Fail> {
-    let memory = [0xA5u8, 0x0F];
-    let mut cursor = Cursor::new(BitSlice::<u8, Msb0>::all(&memory).ok().ok_or("long")?);
-    assert_eq!(rt; cursor.take(4).ok_or("short")?.count_ones(), 2);
-    assert_eq!(rt; cursor.take(8).ok_or("short")?.first_one(), Some(1));
-    assert!(rt; cursor.take(5).is_none());
-    assert_eq!(rt; cursor.left(), 4);
-    assert_eq!(rt; cursor.rest().count_ones(), 4);
-    Ok(())
+#[cfg(test)]
+mod tests {
+    use super::Cursor;
+    use bitvec::order::Msb0;
+    use bitvec_slice::slice::BitSlice;
+    use std::test::Fail;
+
+    #[test]
+    fn bits_are_taken_in_turn(rt: HostRuntime) -> Result<(), Fail> {
+        let memory = [0xA5u8, 0x0F];
+        let mut cursor = Cursor::new(BitSlice::<u8, Msb0>::all(&memory).ok().ok_or("long")?);
+        assert_eq!(rt; cursor.take(4).ok_or("short")?.count_ones(), 2);
+        assert_eq!(rt; cursor.take(8).ok_or("short")?.first_one(), Some(1));
+        assert!(rt; cursor.take(5).is_none());
+        assert_eq!(rt; cursor.left(), 4);
+        assert_eq!(rt; cursor.rest().count_ones(), 4);
+        Ok(())
+    }
 }

@@ -7,7 +7,6 @@ mod block_map;
 mod bytes;
 #[cfg(test)]
 mod callers;
-#[cfg(test)]
 mod cursor;
 #[cfg(test)]
 mod examples;
