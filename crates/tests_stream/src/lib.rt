@@ -1,0 +1,11 @@
+//! Streams, by the names that a user writes.
+#![tactic(auto)]
+
+#[cfg(test)]
+mod codes;
+#[cfg(test)]
+mod examples;
+#[cfg(test)]
+mod header;
+#[cfg(test)]
+mod words;
