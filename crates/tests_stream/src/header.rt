@@ -8,7 +8,7 @@ ghost use Rattle.bitvec_stream.specs.Writer.{written};
 ghost use Rattle.tests_stream.specs.Header.{header_ways, header_values, header_items};
 
 use bitvec::mem::BitRegister;
-use bitvec::order::{BitOrder, Lsb0, Msb0};
+use bitvec::order::BitOrder;
 use bitvec::ptr::span::BitSpan;
 use bitvec_slice::slice::BitSliceMut;
 use bitvec_stream::error::{ReadError, WriteError};
@@ -92,21 +92,28 @@ fn passed<R: BitRegister, O: BitOrder<R>>(
     }
 }
 
-#[test]
-fn a_header_is_read_as_written(rt: HostRuntime) {
-    let header = Header {
-        version: 4,
-        kind: 3000,
-        offset: -17,
-        length: 1500,
-        drift: -300,
-    };
-    let mut bytes = [0xFFu8; 9];
-    let span: BitSpan<u8, Msb0> = BitSpan::at(3, 69).unwrap();
-    assert_eq!(rt; passed(header, span, &mut bytes), Some(header));
-    let mut words = [0u64; 1];
-    let span: BitSpan<u64, Lsb0> = BitSpan::at(0, 64).unwrap();
-    assert_eq!(rt; passed(header, span, &mut words), Some(header));
-    let span: BitSpan<u64, Lsb0> = BitSpan::at(32, 32).unwrap();
-    assert_eq!(rt; passed(header, span, &mut words), None);
+#[cfg(test)]
+mod tests {
+    use super::{Header, passed};
+    use bitvec::order::{Lsb0, Msb0};
+    use bitvec::ptr::span::BitSpan;
+
+    #[test]
+    fn a_header_is_read_as_written(rt: HostRuntime) {
+        let header = Header {
+            version: 4,
+            kind: 3000,
+            offset: -17,
+            length: 1500,
+            drift: -300,
+        };
+        let mut bytes = [0xFFu8; 9];
+        let span: BitSpan<u8, Msb0> = BitSpan::at(3, 69).unwrap();
+        assert_eq!(rt; passed(header, span, &mut bytes), Some(header));
+        let mut words = [0u64; 1];
+        let span: BitSpan<u64, Lsb0> = BitSpan::at(0, 64).unwrap();
+        assert_eq!(rt; passed(header, span, &mut words), Some(header));
+        let span: BitSpan<u64, Lsb0> = BitSpan::at(32, 32).unwrap();
+        assert_eq!(rt; passed(header, span, &mut words), None);
+    }
 }

@@ -5,7 +5,6 @@
 mod codes;
 #[cfg(test)]
 mod examples;
-#[cfg(test)]
 mod header;
 #[cfg(test)]
 mod words;
