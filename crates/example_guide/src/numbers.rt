@@ -47,7 +47,10 @@ mod tests {
         let header = BitSliceMut::<u8, Msb0>::all_unchecked(&mut bytes);
         assert_eq!(rt; write_header(header, 1500), Ok(()));
         assert_eq!(rt; bytes, [0x4F, 0xFF, 0x05, 0xDC]);
-        assert_eq!(rt; length_of(BitSlice::<u8, Msb0>::all_unchecked(&bytes)), Ok(1500));
+        assert_eq!(rt;
+            length_of(BitSlice::<u8, Msb0>::all_unchecked(&bytes)),
+            Ok(1500)
+        );
         let cut = BitSlice::<u8, Msb0>::all_unchecked(&bytes[..3]);
         assert_eq!(rt; length_of(cut), Err(ReadError::TooFew));
         let cut = BitSliceMut::<u8, Msb0>::all_unchecked(&mut bytes[..1]);
