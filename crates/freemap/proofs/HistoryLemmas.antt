@@ -1,12 +1,11 @@
 -- Who owns which blocks, as calls change it.
-use Rattle.std.proofs.Common.{◌≡◌, ◌⊎◌, inl, inr, ◌↔◌, ℕ, ◌+◌, ◌<◌, ◌≤◌, Bool, true, false, true≢false, List, [], ◌∷◌, ◌++◌, length, refl, sym, ap, ◌∙◌, subst, arith}
-use Rattle.std.specs.Prelude.{Option, None, Some, MatchOption}
+use Rattle.std.proofs.Common.{◌≡◌, ◌⊎◌, inl, inr, ℕ, ◌+◌, ◌<◌, ◌≤◌, Bool, true, false, true≢false, List, [], ◌∷◌, ◌++◌, length, refl, sym, ap, ◌∙◌, subst, arith}
 use Rattle.std.proofs.lemmas.Bool.{cases_lt}
 use Rattle.bitvec.specs.Span.{element, with_filled}
 use Rattle.bitvec_slice.specs.Bits.{AreFree}
 use Rattle.bitvec_slice.proofs.EditRangeLemmas.{filled_new, filled_kept}
 use Rattle.freemap.specs.Blocks.{AreInUse}
-use Rattle.freemap.specs.History.{HoldsBlock, IsHeld, AreDisjointRanges, Owns, OwnsMore, Call, HandsOut, TakesBack, IsCall, IsHistory, HistoriesKeepOwners}
+use Rattle.freemap.specs.History.{HoldsBlock, IsHeld, AreDisjointRanges, Owns, Call, HandsOut, TakesBack, IsCall, HistoriesKeepOwners}
 
 -- a range holds a block, or the block is beside it
 beside : (at count block : ℕ) → HoldsBlock (at, count) block ⊎ ((block < at) ⊎ (at + count ≤ block))

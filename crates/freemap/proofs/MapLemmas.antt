@@ -1,8 +1,8 @@
 -- Edits of the bits of a map, as edits of its blocks.
-use Rattle.std.proofs.Common.{◌≡◌, ℕ, ◌+◌, ◌*◌, ◌<◌, ◌≤◌, Bool, List, [], ◌++◌, ◌-◌, length, map, drop, replicate, refl, sym, ap, ◌∙◌, subst, arith}
+use Rattle.std.proofs.Common.{◌≡◌, ℕ, ◌+◌, Bool, List, [], ◌++◌, ◌-◌, length, map, drop, replicate, sym, ap, ◌∙◌, subst, arith}
 use Rattle.std.proofs.Math.Seq.{drop-length}
 use Rattle.std.proofs.lemmas.List.{map-id, append-nil}
-use Rattle.bitvec.specs.Span.{Span, BecomesList, element, list_of, with_filled}
+use Rattle.bitvec.specs.Span.{Span, BecomesList, list_of, with_filled}
 use Rattle.freemap.specs.Blocks.{map_span, stored_blocks}
 use Rattle.freemap.proofs.WordLemmas.{stored_long}
 

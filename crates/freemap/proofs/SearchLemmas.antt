@@ -1,10 +1,10 @@
 -- Blocks that a search finds.
-use Rattle.std.proofs.Common.{◌≡◌, ◌⊎◌, inl, inr, ℕ, ◌+◌, ◌-◌, ◌<◌, ◌≤◌, Bool, true, false, true≢false, not, List, length, take, drop, refl, sym, ap, ◌∙◌, subst, arith}
+use Rattle.std.proofs.Common.{◌≡◌, ℕ, ◌+◌, ◌-◌, ◌<◌, ◌≤◌, Bool, true, false, true≢false, not, List, length, drop, refl, sym, ap, ◌∙◌, arith}
 use Rattle.std.specs.Prelude.{Option, None, Some, MatchOption, slice_range, IsTrue, ◌↔◌}
 use Rattle.std.proofs.lemmas.List.{get_or-take, get_or-drop}
 use Rattle.bitvec.specs.Span.{element}
 use Rattle.bitvec_slice.specs.Bits.{AreFree, AllBetween, IsFirstBetween}
-use Rattle.freemap.specs.Blocks.{AreInUse, IsLowest}
+use Rattle.freemap.specs.Blocks.{IsLowest}
 
 -- a block is free where its truth value is false
 one_free : (used : List Bool) (at : ℕ) → at < length used → element used at ≡ false → AreFree used at 1

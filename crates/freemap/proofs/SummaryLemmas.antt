@@ -1,5 +1,5 @@
 -- What a map of words says of the blocks in them.
-use Rattle.std.proofs.Common.{◌≡◌, ◌⊎◌, inl, inr, ◌↔◌, ℕ, ◌+◌, ◌-◌, ◌*◌, ◌/◌, ◌%◌, ◌<◌, ◌≤◌, Bool, true, false, true≢false, List, length, replicate, refl, sym, ap, ◌∙◌, subst, arith}
+use Rattle.std.proofs.Common.{◌≡◌, ◌⊎◌, inl, inr, ◌↔◌, ℕ, ◌+◌, ◌-◌, ◌*◌, ◌/◌, ◌<◌, ◌≤◌, Bool, true, false, true≢false, List, length, replicate, refl, sym, ap, ◌∙◌, subst, arith}
 use Rattle.std.specs.Prelude.{Option, None, Some, MatchOption, IsTrue, is_none, min, slice_range}
 use Rattle.std.proofs.lemmas.Bool.{cases_lt}
 use Rattle.bitvec.specs.Span.{element, with_filled}
@@ -278,6 +278,15 @@ module _ (used part : List Bool) (from end : ℕ) (there : from < length used) (
   pub rest_first : (i : ℕ) → IsFirst false part i → IsLowest (λ b. (from ≤ b) × AreFree used b 1) (Some (from + i))
   rest_first i first =
       part_first used part from end long (range_element used part from end is) rises inside (omega (arith, ends)) (λ b near h. omega (arith, ends, near, h)) i first.0 first.1 first.2
+
+-- one block changed, and its word was said right
+pub one_changed : (used new full said : List Bool) (at : ℕ) → Summarises used full → length new ≡ length used → ((j : ℕ) → (j < at) ⊎ (at + 1 ≤ j) → element new j ≡ element used j) → at < length used
+    → length said ≡ length full → SaysOf new said (at / 64) → ((j : ℕ) → (j < at / 64) ⊎ (at / 64 + 1 ≤ j) → element said j ≡ element full j) → Summarises new said
+one_changed used new full said at sum same kept there many right beside =
+    let w = at / 64 in
+    let inside = word_there (length used) (length full) at sum.words there in
+    let was = changed_beside used new full at (at + 1) w (w + 1) sum same kept refl (omega arith) (omega (arith, inside)) in
+    said_all new said (w + 1) (w + 1) (said_first new full said w many right beside (w + 1) was) (omega arith)
 
 -- the lowest free block, by the lowest word that has one
 module _ (used full : List Bool) (sum : Summarises used full) (w : ℕ) where

@@ -1,11 +1,11 @@
 -- The blocks of a word, by its digits.
-use Rattle.std.proofs.Common.{◌≡◌, ◌⊎◌, inl, inr, ℕ, ◌+◌, ◌-◌, ◌*◌, ◌<◌, ◌≤◌, Bool, true, false, not, List, ◌∷◌, [], ◌++◌, length, take, drop, replicate, refl, sym, ap, ◌∙◌, subst, arith, append_assoc}
-use Rattle.std.specs.Prelude.{pos, nat_abs, slice_index, slice_set}
+use Rattle.std.proofs.Common.{◌≡◌, ℕ, ◌+◌, ◌-◌, ◌*◌, ◌<◌, ◌≤◌, Bool, true, false, not, List, ◌∷◌, [], ◌++◌, length, take, drop, replicate, refl, sym, ap, ◌∙◌, subst, arith, append_assoc}
+use Rattle.std.specs.Prelude.{slice_index, slice_set}
 use Rattle.std.proofs.lemmas.List.{take-append-drop, take-set, drop-set}
 use Rattle.bitvec.specs.Digit.{digit}
 use Rattle.bitvec.specs.Memory.{bit_of}
 use Rattle.bitvec.specs.Order.{IsOneToOne}
-use Rattle.bitvec.specs.Span.{element, list_of, with_filled}
+use Rattle.bitvec.specs.Span.{element, with_filled}
 use Rattle.bitvec.specs.WordEnds.{HasNoIndex, IsFirstIndex}
 use Rattle.bitvec.proofs.BitLemmas.{bit_of-word}
 use Rattle.bitvec.proofs.PartLemmas.{element-list_of, length-list_of}

@@ -64,6 +64,24 @@ fn say_word<O: BitOrder<u64>>(map: &FreeMap<'_, O>, full: &mut FreeMap<'_, O>, w
     full.mark(w, 1, map.is_word_full(w));
 }
 
+// The same, and whether the map of words said something else.
+#[inline(always)]
+fn say_anew<O: BitOrder<u64>>(map: &FreeMap<'_, O>, full: &mut FreeMap<'_, O>, w: usize) -> bool
+    requires many { length (in_use full.old) ≡ word_count (length (in_use map.now)) }
+    requires inside { w < length (in_use full.old) }
+    ensures said { SaysOf (in_use map.now) (in_use full.new) w }
+    ensures beside { KeepsBeside w (w + 1) (in_use full.old) (in_use full.new) }
+    ensures many { length (in_use full.new) ≡ length (in_use full.old) }
+    ensures same { IsFalse result → in_use full.new ≡ in_use full.old }
+{
+    let is_full = map.is_word_full(w);
+    if full.is_set(w) == is_full {
+        return false;
+    }
+    full.set(w, is_full);
+    true
+}
+
 // Makes a map of words say of every word of a map whether it is full.
 fn say_words<O: BitOrder<u64>>(map: &FreeMap<'_, O>, full: &mut FreeMap<'_, O>, words: usize)
     requires { SummarisesBeside (in_use map.now) (in_use full.old) 0 words }
@@ -161,11 +179,37 @@ impl<'a, O: BitOrder<u64>> LeveledMap<'a, O> {
         ensures { let old = map_of self.old in BecomesBlocks old (map_of self.new)
             (with_filled (in_use old) at (at + count) used) }
     {
+        if count == 1 {
+            self.mark_one(at, used);
+        } else {
+            self.mark_many(at, count, used);
+        }
+    }
+
+    // The same of any number, by words.
+    fn mark_many(&mut self, at: usize, count: usize, used: bool)
+        requires { at + count ≤ length (in_use (map_of self.old)) }
+        ensures { let old = map_of self.old in BecomesBlocks old (map_of self.new)
+            (with_filled (in_use old) at (at + count) used) }
+    {
         self.blocks.mark(at, count, used);
         let from = at / 64;
         let to = words_for(at + count);
         refresh(&self.blocks, &mut self.full, from, to, used);
         refresh(&self.full, &mut self.top, from / 64, words_for(to), used);
+    }
+
+    // The same of one block. The upper level is looked at only where the lower says something new.
+    fn mark_one(&mut self, at: usize, used: bool)
+        requires { at < length (in_use (map_of self.old)) }
+        ensures { let old = map_of self.old in BecomesBlocks old (map_of self.new)
+            (with_filled (in_use old) at (at + 1) used) }
+    {
+        self.blocks.set(at, used);
+        if !say_anew(&self.blocks, &mut self.full, at / 64) {
+            return;
+        }
+        say_anew(&self.full, &mut self.top, at / 64 / 64);
     }
 
     // Hands out `count` free blocks from block `at` on.

@@ -4,7 +4,7 @@ ghost use Rattle.std.specs.Prelude.{◌≡◌, ◌↔◌, ◌+◌, ◌*◌, ◌�
 ghost use Rattle.std.specs.Prelude.{MatchOption, Some};
 ghost use Rattle.std.specs.Prelude.{length, replicate};
 ghost use Rattle.bitvec.specs.Place.{region_max_bits};
-ghost use Rattle.bitvec.specs.Span.{KeepsOthers, BecomesList, with_filled};
+ghost use Rattle.bitvec.specs.Span.{KeepsOthers, BecomesList, element, with_filled};
 ghost use Rattle.bitvec_slice.specs.Bits.{AreFree, zeros_in};
 ghost use Rattle.bitvec_slice.specs.BitSlice.{bits_of};
 ghost use Rattle.freemap.specs.Blocks.{map_span, stored_blocks, word_count, HasRoom};
@@ -115,7 +115,8 @@ impl<'a, O: BitOrder<u64>> FreeMap<'a, O> {
     }
 
     // The same of one block.
-    fn set(&mut self, at: usize, used: bool)
+    #[inline(always)]
+    pub(crate) fn set(&mut self, at: usize, used: bool)
         requires { at < length (in_use self.old) }
         ensures { BecomesBlocks self.old self.new
             (with_filled (in_use self.old) at (at + 1) used) }
@@ -235,7 +236,18 @@ impl<'a, O: BitOrder<u64>> FreeMap<'a, O> {
         self.bits().count_zeros()
     }
 
+    // Whether block `block` is in use.
+    #[inline(always)]
+    pub(crate) fn is_set(&self, block: usize) -> bool
+        requires { block < length (in_use self.now) }
+        ensures { result ≡ element (in_use self.now) block }
+    {
+        let span: BitSpan<u64, O> = BitSpan::at_unchecked(0, self.blocks);
+        span.read(&*self.words, block)
+    }
+
     // The lowest free block of word `w`.
+    #[inline(always)]
     pub(crate) fn free_in_word(&self, w: usize) -> Option<usize>
         requires { w < word_count (length (in_use self.now)) }
         ensures { MatchOption result (IsFull (in_use self.now) w)

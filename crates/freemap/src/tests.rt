@@ -74,7 +74,11 @@ fn levels(rt: HostRuntime) -> Result<(), Fail> {
         map.free(100, 200);
     }
     assert_eq!(rt; map.alloc_run(200), Some(100));
-    assert!(rt; map.reserve(4902, 2) && map.reserve(4916, 84));
+    assert_eq!(rt; map.alloc_at_or_after(4903), Some(4903));
+    assert_eq!(rt; map.alloc_at_or_after(4904), Some(4916));
+    assert!(rt; map.reserve(4902, 1) && map.reserve(4917, 83));
     assert_eq!(rt; map.alloc(), None);
+    assert_eq!(rt; map.alloc_at_or_after(0), None);
+    assert_eq!(rt; map.into_map().largest_run(), 0);
     Ok(())
 }

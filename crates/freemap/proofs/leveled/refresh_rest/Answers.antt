@@ -1,4 +1,4 @@
-use Rattle.std.proofs.Common.{◌≡◌, ◌⊎◌, inl, inr, ℕ, ◌+◌, ◌-◌, ◌<◌, ◌≤◌, Bool, List, ◌∙◌, subst, arith}
+use Rattle.std.proofs.Common.{◌≡◌, inl, inr, ℕ, ◌+◌, ◌-◌, ◌<◌, ◌∙◌, subst, arith}
 use Rattle.bitvec.specs.Span.{with_filled}
 use Rattle.freemap.specs.Map.{in_use}
 use Rattle.freemap.proofs.SummaryLemmas.{said_last, said_inner, set_within, kept_beside}

@@ -1,4 +1,4 @@
-use Rattle.std.proofs.Common.{◌≡◌, true, sym, ◌∙◌, arith}
+use Rattle.std.proofs.Common.{sym, ◌∙◌, arith}
 use Rattle.freemap.specs.Map.{in_use}
 use Rattle.freemap.proofs.SummaryLemmas.{one_set}
 use Rattle.freemap.proofs.leveled.say_word.Goals as goal

@@ -1,7 +1,6 @@
-use Rattle.std.proofs.Common.{◌≡◌, ◌+◌, ◌/◌, length, refl, ◌∙◌, ap, arith}
+use Rattle.std.proofs.Common.{◌+◌, ◌/◌, ◌∙◌, ap}
 use Rattle.freemap.specs.Map.{in_use}
 use Rattle.freemap.proofs.SummaryLemmas.{fresh}
-use Rattle.freemap.proofs.WordLemmas.{stored_long}
 use Rattle.freemap.proofs.leveled.LeveledMap.over.Goals as goal
 
 pub say_words-requires : goal.say_words-requires

@@ -1,4 +1,4 @@
-use Rattle.std.proofs.Common.{◌≡◌, ◌+◌, ◌*◌, ◌/◌, ◌<◌, ◌∙◌, List, Bool, true≢false, length, sym, ap, subst, arith}
+use Rattle.std.proofs.Common.{◌≡◌, ◌+◌, ◌*◌, ◌/◌, ◌∙◌, List, Bool, true≢false, length, sym, ap, arith}
 use Rattle.std.specs.Prelude.{min, slice_range}
 use Rattle.bitvec_slice.specs.BitSlice.{bits_of}
 use Rattle.freemap.specs.Map.{in_use}

@@ -1,8 +1,6 @@
-use Rattle.std.proofs.Common.{◌≡◌, ◌+◌, ◌↔◌, Bool, List, true, false, subst, arith}
-use Rattle.std.specs.Prelude.{IsTrue}
+use Rattle.std.proofs.Common.{◌≡◌, ◌+◌, ◌↔◌, Bool, List, false, subst}
 use Rattle.bitvec_slice.specs.Bits.{AllBetween}
 use Rattle.freemap.proofs.SearchLemmas.{turned}
-use Rattle.freemap.proofs.WordLemmas.{stored_long}
 use Rattle.freemap.proofs.map.FreeMap.is_free.Goals as goal
 
 pub returns : goal.returns

@@ -1,7 +1,6 @@
-use Rattle.std.proofs.Common.{◌+◌, ◌↔◌, Bool, List, true, subst, arith}
+use Rattle.std.proofs.Common.{◌+◌, ◌↔◌, Bool, List, true, subst}
 use Rattle.std.specs.Prelude.{IsTrue}
 use Rattle.bitvec_slice.specs.Bits.{AllBetween}
-use Rattle.freemap.proofs.WordLemmas.{stored_long}
 use Rattle.freemap.proofs.map.FreeMap.is_in_use.Goals as goal
 
 pub returns : goal.returns

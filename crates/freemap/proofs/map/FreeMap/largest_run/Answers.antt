@@ -1,7 +1,6 @@
 use Rattle.std.proofs.Common.{◌≡◌, ◌+◌, ◌∙◌, max, subst, sym, arith}
-use Rattle.std.specs.Ordering.{ord_max, nat_cmp}
 use Rattle.freemap.specs.Map.{in_use}
-use Rattle.freemap.proofs.RunLemmas.{IsMost, most_none, most_more, most_all, ord_max-is}
+use Rattle.freemap.proofs.RunLemmas.{IsMost, most_more, most_all, ord_max-is}
 use Rattle.freemap.proofs.WordLemmas.{stored_long}
 use Rattle.freemap.proofs.map.FreeMap.largest_run.Goals as goal
 

@@ -1,4 +1,4 @@
-use Rattle.std.proofs.Common.{Bool, List, true, false, length, subst, arith}
+use Rattle.std.proofs.Common.{Bool, List, true, false, length, subst}
 use Rattle.bitvec_slice.specs.Bits.{AllBetween, IsFirstBetween}
 use Rattle.freemap.specs.Map.{in_use}
 use Rattle.freemap.proofs.RunLemmas.{run_is}

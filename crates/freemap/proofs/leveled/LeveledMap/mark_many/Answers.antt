@@ -1,8 +1,8 @@
-use Rattle.std.proofs.Common.{◌≡◌, ◌+◌, ◌-◌, ◌/◌, ◌≤◌, length, refl, arith}
+use Rattle.std.proofs.Common.{◌+◌, ◌-◌, ◌/◌, ◌≤◌, length, refl, arith}
 use Rattle.freemap.specs.Map.{in_use}
 use Rattle.freemap.proofs.SummaryLemmas.{changed_beside, kept_beside, set_within, inner_word}
 use Rattle.freemap.proofs.WordLemmas.{stored_long}
-use Rattle.freemap.proofs.leveled.LeveledMap.mark.Goals as goal
+use Rattle.freemap.proofs.leveled.LeveledMap.mark_many.Goals as goal
 
 pub overflow_add-at : goal.overflow_add-at
 overflow_add-at g c = (let map = c.args.self.now.blocks in omega (arith, c.requires, map.room, stored_long g.O.BitAt.at_of map.blocks map.words.now))
