@@ -1,7 +1,7 @@
 //! Blocks that are handed out, taken back and reserved.
 
-ghost use Rattle.std.specs.Prelude.{◌≡◌, ◌↔◌, ℕ, ◌+◌, ◌<◌, ◌≤◌, true, false, IsTrue, IsFalse, IfSome};
-ghost use Rattle.std.specs.Prelude.{List, ◌∷◌, ◌++◌};
+ghost use Rattle.std.specs.Prelude.{◌≡◌, ◌↔◌, ℕ, ◌+◌, ◌<◌, ◌≤◌, true, false, IsTrue, IsFalse};
+ghost use Rattle.std.specs.Prelude.{IfSome, List, ◌∷◌, ◌++◌};
 ghost use Rattle.bitvec.specs.Span.{with_filled};
 ghost use Rattle.bitvec_slice.specs.Bits.{AreFree};
 ghost use Rattle.bitvec_slice.specs.Patterns.{AreFreeFrom};
@@ -155,8 +155,8 @@ impl<'a, O: BitOrder<u64>> FreeMap<'a, O> {
         self.bits().find_zeros(count)
     }
 
-    // The first `count` blocks in a row that are all free and begin at a multiple of `alignment`, not
-    // before block `start`.
+    // The first `count` blocks in a row that are all free and begin at a multiple of `alignment`,
+    // not before block `start`.
     pub(crate) fn run_from(&self, start: usize, count: usize, alignment: usize) -> Option<usize>
         requires { 0 < alignment }
         ensures { IsLowest (AreFreeFrom (in_use self.now) start count alignment) result }

@@ -1,8 +1,8 @@
-//! A free map under two levels that say which words are full, so that the lowest free block is found
-//! in a few words.
+//! A free map under two levels that say which words are full, so that the lowest free block is
+//! found in a few words.
 
-ghost use Rattle.std.specs.Prelude.{◌≡◌, ◌↔◌, ℕ, ◌+◌, ◌<◌, ◌≤◌, true, false, IsTrue, IsFalse, IfSome};
-ghost use Rattle.std.specs.Prelude.{List, length, ◌∷◌, ◌++◌};
+ghost use Rattle.std.specs.Prelude.{◌≡◌, ◌↔◌, ℕ, ◌+◌, ◌<◌, ◌≤◌, true, false, IsTrue, IsFalse};
+ghost use Rattle.std.specs.Prelude.{IfSome, List, length, ◌∷◌, ◌++◌};
 ghost use Rattle.bitvec.specs.Span.{element, with_filled};
 ghost use Rattle.bitvec_slice.specs.Bits.{AreFree};
 ghost use Rattle.bitvec_slice.specs.Patterns.{AreFreeFrom};

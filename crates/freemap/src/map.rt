@@ -1,8 +1,7 @@
 //! The map, how it is made, and what it is asked.
 
 ghost use Rattle.std.specs.Prelude.{◌≡◌, ◌↔◌, ◌+◌, ◌*◌, ◌≤◌, ◌<◌, false, IsTrue, IsOk, IfOk, IfErr};
-ghost use Rattle.std.specs.Prelude.{MatchOption, Some};
-ghost use Rattle.std.specs.Prelude.{length, replicate};
+ghost use Rattle.std.specs.Prelude.{MatchOption, Some, length, replicate};
 ghost use Rattle.bitvec.specs.Place.{region_max_bits};
 ghost use Rattle.bitvec.specs.Span.{KeepsOthers, BecomesList, element, with_filled};
 ghost use Rattle.bitvec_slice.specs.Bits.{AreFree, zeros_in};

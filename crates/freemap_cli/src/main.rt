@@ -1,8 +1,8 @@
 //! A free map from the command line: `freemap 64 alloc:3 alloc:5 free:0:3 reserve:10:4 show`.
 //!
 //! The first word is how many blocks there are, at most 65536, and each other word is a command. A
-//! line answers each, and `show` is answered by a picture of the map, 64 blocks a line. Where a word
-//! is none of these, one line says which, nothing else is done, and the status is 2.
+//! line answers each, and `show` is answered by a picture of the map, 64 blocks a line. Where a
+//! word is none of these, one line says which, nothing else is done, and the status is 2.
 #![tactic(auto)]
 
 mod command;
