@@ -1,1 +1,6 @@
-mod BlockLemmas
+pub mod HistoryLemmas
+mod MapLemmas
+mod RunLemmas
+mod SearchLemmas
+mod SummaryLemmas
+mod WordLemmas

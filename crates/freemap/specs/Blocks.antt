@@ -1,17 +1,34 @@
--- The blocks of a store, one bit each.
-use Rattle.std.specs.Prelude.{◌≡◌, ℕ, ◌+◌, ◌<◌, ◌≤◌, Bool, true, List, length}
-use Rattle.bitvec.specs.Span.{element, list_of}
+-- Which blocks of a store are in use: a list with a truth value for each block.
+use Rattle.std.specs.Prelude.{◌≡◌, ℕ, pos, ◌+◌, ◌*◌, ◌/◌, ◌<◌, ◌≤◌, Bool, true, List, Option, MatchOption, length}
+use Rattle.bitvec.specs.Span.{Span, element, list_of, region_max_bits}
 use Rattle.bitvec_slice.specs.Bits.{AreFree}
-use Rattle.bitvec_slice.specs.Whole.{whole_span}
+use Rattle.bitvec_slice.specs.Patterns.{IsLeast}
 
--- whether each block of some words is in use, in order: bit after bit, from the least digit of a word on
-abbrev pub blocks_of : List ℕ → List Bool
-blocks_of words = list_of 64 (λ i. i) (whole_span 64 (length words)) words
+-- the span of the first `blocks` bits of a memory
+abbrev pub map_span : ℕ → Span
+map_span blocks = record { word = pos 0; head = 0; len = blocks }
+
+-- Whether each of `blocks` blocks is in use, as the words of a stored map say: bit after bit from the first word on, under
+-- an order of the bits of a word.
+abbrev pub stored_blocks : (ℕ → ℕ) → ℕ → List ℕ → List Bool
+stored_blocks at blocks words = list_of 64 at (map_span blocks) words
+
+-- how many words have so many bits, 64 each: the bits by 64, rounded up
+abbrev pub word_count : ℕ → ℕ
+word_count bits = (bits + 63) / 64
+
+-- so many words have room for the map of so many blocks, and a map can have as many
+abbrev pub HasRoom : ℕ → ℕ → Type 0
+HasRoom words blocks = (blocks ≤ words * 64) × (blocks ≤ region_max_bits)
 
 -- there are `count` blocks from block `at` on, and each is in use
 abbrev pub AreInUse : List Bool → ℕ → ℕ → Type 0
-AreInUse blocks at count = (at + count ≤ length blocks) × ((k : ℕ) → at ≤ k → k < at + count → element blocks k ≡ true)
+AreInUse used at count = (at + count ≤ length used) × ((k : ℕ) → at ≤ k → k < at + count → element used k ≡ true)
 
--- block `at` is the first from which `count` blocks in a row are free
-abbrev pub IsFirstFree : List Bool → ℕ → ℕ → Type 0
-IsFirstFree blocks count at = AreFree blocks at count × ((k : ℕ) → k < at → ¬ AreFree blocks k count)
+-- an answer is the lowest block that is so, and `None` exactly where none is
+abbrev pub IsLowest : (ℕ → Type 0) → Option ℕ → Type 0
+IsLowest IsSo answer = MatchOption answer ((at : ℕ) → ¬ IsSo at) (IsLeast IsSo)
+
+-- there are free runs of `most` blocks, and none of more
+abbrev pub IsLargestRun : List Bool → ℕ → Type 0
+IsLargestRun used most = ((at : ℕ) × AreFree used at most) × ((at count : ℕ) → AreFree used at count → count ≤ most)

@@ -1,2 +1,6 @@
 pub mod Blocks
+pub mod FreeRuns
+pub mod History
+pub mod Leveled
 pub mod Map
+pub mod Summary

@@ -1,128 +1,294 @@
-//! A free map: which blocks of a store are in use, one bit a block.
+//! The map, how it is made, and what it is asked.
 
-ghost use Rattle.std.specs.Prelude.{◌≡◌, ◌↔◌, ℕ, ◌+◌, ◌*◌, ◌≤◌, true, false, None, IsSome, IfSome};
-ghost use Rattle.std.specs.Prelude.{IsTrue, MatchOption, replicate, length, slice_get};
+ghost use Rattle.std.specs.Prelude.{◌≡◌, ◌↔◌, ◌+◌, ◌*◌, ◌≤◌, ◌<◌, false, IsTrue, IsOk, IfOk, IfErr};
+ghost use Rattle.std.specs.Prelude.{MatchOption, Some, length, replicate};
 ghost use Rattle.bitvec.specs.Place.{region_max_bits};
-ghost use Rattle.bitvec.specs.BitSpan.{span_of};
-ghost use Rattle.bitvec.specs.Span.{with_filled};
-ghost use Rattle.bitvec_slice.specs.Bits.{AreFree};
-ghost use Rattle.bitvec_slice.specs.Whole.{whole_span};
-ghost use Rattle.freemap.specs.Blocks.{blocks_of, AreInUse, IsFirstFree};
+ghost use Rattle.bitvec.specs.Span.{KeepsOthers, BecomesList, element, with_filled};
+ghost use Rattle.bitvec_slice.specs.Bits.{AreFree, zeros_in};
+ghost use Rattle.bitvec_slice.specs.BitSlice.{bits_of};
+ghost use Rattle.freemap.specs.Blocks.{map_span, stored_blocks, word_count, HasRoom};
+ghost use Rattle.freemap.specs.Blocks.{AreInUse, IsLowest};
+ghost use Rattle.freemap.specs.Summary.{IsFull, IsFullFrom, IsFirstFreeOf};
 
-use bitvec::index::{BitIdx, Limits};
-use bitvec::order::Lsb0;
+use bitvec::mem;
+use bitvec::mem::BitRegister;
+use bitvec::order::{BitOrder, first_index};
 use bitvec::ptr::span::BitSpan;
 use bitvec_slice::slice::{BitSlice, BitSliceMut};
+use std::marker::PhantomData;
 
-/// The blocks of a store, 64 to each word: a bit is one where its block is in use.
+// As many bits as a span can have.
+const MOST: usize = 2305843009213693951;
+
+/// How many words a map of `blocks` blocks takes: as many as have a bit for each. Constant time.
+pub fn words_for(blocks: usize) -> usize
+    ensures { result ≡ word_count blocks }
+{
+    mem::elts::<u64>(blocks)
+}
+
+/// Whether `words` words have room for a map of `blocks` blocks, and a map can have as many, which
+/// is at most 2305843009213693951. Constant time.
+pub fn has_room(words: usize, blocks: usize) -> bool
+    ensures { IsTrue result ↔ HasRoom words blocks }
+{
+    blocks <= MOST && words_for(blocks) <= words
+}
+
+/// Which blocks of a store are in use. It lies in words that the caller lends, from the first bit
+/// on, and a bit is one where its block is in use.
+///
+/// The words are lent until the map is used for the last time, and have then what it became; every
+/// bit behind those of the blocks is as it was. So the words can be stored, and read back by
+/// [`from_words`](FreeMap::from_words).
+///
+/// # Examples
+///
+/// ```
+/// let mut words = [0u64; 2];
+/// let mut map = FreeMap::<Lsb0>::new_unchecked(&mut words, 100);
+/// assert_eq!(rt; map.alloc_run(20), Some(0));
+/// assert_eq!(rt; map.alloc(), Some(20));
+/// if map.is_in_use(4, 12) {
+///     map.free(4, 12);
+/// }
+/// assert_eq!(rt; map.alloc_run_aligned(8, 8), Some(8));
+/// assert_eq!(rt; map.count_free(), 83);
+/// ```
 #[derive(Drop)]
-pub struct FreeMap<const N: usize> {
-    words: [u64; N],
-    pub ghost short: { N * 64 ≤ region_max_bits },
+pub struct FreeMap<'a, O: BitOrder<u64>> {
+    words: &'a mut [u64],
+    blocks: usize,
+    of: PhantomData<O>,
+    pub ghost room: { HasRoom (length words.now) blocks },
 }
 
-// The span of every block of `words` words.
-fn span_of_all(words: usize) -> BitSpan<u64, Lsb0>
-    requires { words * 64 ≤ region_max_bits }
-    ensures { span_of result ≡ whole_span 64 words }
+// Makes `count` blocks from block `at` on be in use, or free, in the words of a map.
+fn fill_words<O: BitOrder<u64>>(
+    words: &mut [u64],
+    blocks: usize,
+    at: usize,
+    count: usize,
+    used: bool,
+)
+    requires room { HasRoom (length words.old) blocks }
+    requires inside { at + count ≤ blocks }
+    ensures { BecomesList 64 O.at_of (map_span blocks) words.old words.new
+        (with_filled (stored_blocks O.at_of blocks words.old) at (at + count) used) }
 {
-    BitSpan::new(0, BitIdx::MIN, words * 64).unwrap()
+    let span: BitSpan<u64, O> = BitSpan::at_unchecked(0, blocks);
+    let mut bits = BitSliceMut::new_unchecked(span, words);
+    bits.fill_range(at, at + count, used);
 }
 
-// The first of `count` blocks in a row that are all free, and `None` where there are none.
-fn find(words: &[u64], count: usize) -> Option<usize>
-    requires { length words.now * 64 ≤ region_max_bits }
-    ensures { MatchOption result ((at : ℕ) → ¬ AreFree (blocks_of words.now) at count)
-        (λ at. IsFirstFree (blocks_of words.now) count at) }
-{
-    BitSlice::new(span_of_all(words.len()), words)?.find_zeros(count)
-}
+impl<'a, O: BitOrder<u64>> FreeMap<'a, O> {
+    ghost use Rattle.freemap.specs.Map.{map_words, in_use, BecomesBlocks};
 
-// Whether there are `count` blocks from block `at` on that are all in use.
-fn are_used(words: &[u64], at: usize, count: usize) -> bool
-    requires { length words.now * 64 ≤ region_max_bits }
-    ensures { IsTrue result ↔ AreInUse (blocks_of words.now) at count }
-{
-    let Some(blocks) = BitSlice::new(span_of_all(words.len()), words) else {
-        return false;
-    };
-    match blocks.get_range(at, at.saturating_add(count)) {
-        Some(part) => part.all_ones(),
-        None => false,
-    }
-}
-
-// Makes `count` blocks from block `at` on be in use, or free.
-fn mark(words: &mut [u64], at: usize, count: usize, used: bool)
-    requires short { length words.old * 64 ≤ region_max_bits }
-    requires inside { at + count ≤ length words.old * 64 }
-    ensures blocks { blocks_of words.new
-        ≡ with_filled (blocks_of words.old) at (at + count) used }
-    ensures words { length words.new ≡ length words.old }
-{
-    let mut blocks = BitSliceMut::new_unchecked(span_of_all(words.len()), words);
-    blocks.fill_range(at, at + count, used);
-}
-
-impl<const N: usize> FreeMap<N> {
-    ghost use Rattle.freemap.specs.Map.{in_use};
-
-    /// A map of which every block is free, and `None` where a span cannot have as many bits.
-    pub fn new() -> Option<Self>
-        ensures accepted { IsSome result ↔ (N * 64 ≤ region_max_bits) }
-        ensures free { IfSome result (λ map. in_use map ≡ replicate (N * 64) false) }
+    // Its bits, for reading.
+    pub(crate) fn bits(&self) -> BitSlice<'_, u64, O>
+        ensures { bits_of result ≡ in_use self.now }
     {
-        if N <= 36028797018963967 {
-            Some(FreeMap { words: [0; N] })
+        BitSlice::new(BitSpan::at_unchecked(0, self.blocks), &*self.words).unwrap()
+    }
+
+    // Makes `count` blocks from block `at` on be in use, or free.
+    pub(crate) fn mark(&mut self, at: usize, count: usize, used: bool)
+        requires { at + count ≤ length (in_use self.old) }
+        ensures { BecomesBlocks self.old self.new
+            (with_filled (in_use self.old) at (at + count) used) }
+    {
+        if count == 1 {
+            self.set(at, used);
+        } else {
+            self.fill(at, count, used);
+        }
+    }
+
+    // The same of any number, by words.
+    fn fill(&mut self, at: usize, count: usize, used: bool)
+        requires { at + count ≤ length (in_use self.old) }
+        ensures { BecomesBlocks self.old self.new
+            (with_filled (in_use self.old) at (at + count) used) }
+    {
+        fill_words::<O>(self.words, self.blocks, at, count, used);
+    }
+
+    // The same of one block.
+    #[inline(always)]
+    pub(crate) fn set(&mut self, at: usize, used: bool)
+        requires { at < length (in_use self.old) }
+        ensures { BecomesBlocks self.old self.new
+            (with_filled (in_use self.old) at (at + 1) used) }
+    {
+        let span: BitSpan<u64, O> = BitSpan::at_unchecked(0, self.blocks);
+        let words = &mut *self.words;
+        span.write(words, at, used);
+    }
+
+    /// A map of `blocks` blocks that are all free. Requires that the words have room:
+    /// [`has_room`] is the test. Costs by words.
+    pub fn new_unchecked(words: &'a mut [u64], blocks: usize) -> Self
+        requires { HasRoom (length words.old) blocks }
+        ensures reference { (map_words result).ghost_name ≡ words.entry.ghost_name }
+        ensures free { in_use result ≡ replicate blocks false }
+        ensures others { KeepsOthers 64 O.at_of (map_span blocks) words.old
+            (map_words result).now }
+        ensures words { length (map_words result).now ≡ length words.old }
+    {
+        let mut map = Self::from_words_unchecked(words, blocks);
+        map.mark(0, blocks, false);
+        map
+    }
+
+    /// A map of `blocks` blocks that are all free. It refuses exactly where the words have no room
+    /// for it, and then gives them back as they were. Costs by words.
+    pub fn new(words: &'a mut [u64], blocks: usize) -> Result<Self, &'a mut [u64]>
+        ensures accepted { IsOk result ↔ HasRoom (length words.old) blocks }
+        ensures reference { IfOk result (λ map. (map_words map).ghost_name
+            ≡ words.entry.ghost_name) }
+        ensures free { IfOk result (λ map. in_use map ≡ replicate blocks false) }
+        ensures others { IfOk result (λ map. KeepsOthers 64 O.at_of (map_span blocks) words.old
+            (map_words map).now) }
+        ensures words { IfOk result (λ map. length (map_words map).now ≡ length words.old) }
+
+        // What is given back is the loan itself, and its words stay.
+        ensures back { IfErr result (λ rest. rest.ghost_name ≡ words.entry.ghost_name) }
+        ensures kept { IfErr result (λ rest. rest.now ≡ words.old) }
+    {
+        if has_room(words.len(), blocks) {
+            Ok(Self::new_unchecked(words, blocks))
+        } else {
+            Err(words)
+        }
+    }
+
+    /// The map of `blocks` blocks that words have, as they were stored. Requires that the words
+    /// have room: [`has_room`] is the test. Constant time.
+    pub fn from_words_unchecked(words: &'a mut [u64], blocks: usize) -> Self
+        requires { HasRoom (length words.old) blocks }
+        ensures reference { (map_words result).ghost_name ≡ words.entry.ghost_name }
+        ensures stored { in_use result ≡ stored_blocks O.at_of blocks words.old }
+        ensures words { (map_words result).now ≡ words.old }
+    {
+        FreeMap {
+            words,
+            blocks,
+            of: PhantomData,
+        }
+    }
+
+    /// The map of `blocks` blocks that words have, as they were stored. It refuses exactly where
+    /// they are too few for it, and then gives them back as they were. Constant time.
+    pub fn from_words(words: &'a mut [u64], blocks: usize) -> Result<Self, &'a mut [u64]>
+        ensures accepted { IsOk result ↔ HasRoom (length words.old) blocks }
+        ensures reference { IfOk result (λ map. (map_words map).ghost_name
+            ≡ words.entry.ghost_name) }
+        ensures stored { IfOk result (λ map. in_use map
+            ≡ stored_blocks O.at_of blocks words.old) }
+        ensures words { IfOk result (λ map. (map_words map).now ≡ words.old) }
+
+        // What is given back is the loan itself, and its words stay.
+        ensures back { IfErr result (λ rest. rest.ghost_name ≡ words.entry.ghost_name) }
+        ensures kept { IfErr result (λ rest. rest.now ≡ words.old) }
+    {
+        if has_room(words.len(), blocks) {
+            Ok(Self::from_words_unchecked(words, blocks))
+        } else {
+            Err(words)
+        }
+    }
+
+    /// How many blocks there are. The words that are lent say which are in use, as
+    /// [`from_words`](FreeMap::from_words) reads them. Constant time.
+    pub fn blocks(&self) -> usize
+        ensures count { result ≡ length (in_use self.now) }
+        ensures stored { in_use self.now
+            ≡ stored_blocks O.at_of result (map_words self.now).now }
+    {
+        self.blocks
+    }
+
+    /// Whether there are `count` blocks from block `at` on, and each is in use. Costs by words.
+    pub fn is_in_use(&self, at: usize, count: usize) -> bool
+        ensures { IsTrue result ↔ AreInUse (in_use self.now) at count }
+    {
+        if !self.has_blocks(at, count) {
+            return false;
+        }
+        self.bits().all_in(at, at + count)
+    }
+
+    /// Whether there are `count` blocks from block `at` on, and each is free. Costs by words.
+    pub fn is_free(&self, at: usize, count: usize) -> bool
+        ensures { IsTrue result ↔ AreFree (in_use self.now) at count }
+    {
+        if !self.has_blocks(at, count) {
+            return false;
+        }
+        !self.bits().any_in(at, at + count)
+    }
+
+    /// How many blocks are free. Costs by words.
+    pub fn count_free(&self) -> usize
+        ensures { result ≡ zeros_in (in_use self.now) }
+    {
+        self.bits().count_zeros()
+    }
+
+    // Whether block `block` is in use.
+    #[inline(always)]
+    pub(crate) fn is_set(&self, block: usize) -> bool
+        requires { block < length (in_use self.now) }
+        ensures { result ≡ element (in_use self.now) block }
+    {
+        let span: BitSpan<u64, O> = BitSpan::at_unchecked(0, self.blocks);
+        span.read(&*self.words, block)
+    }
+
+    // The lowest free block of word `w`.
+    #[inline(always)]
+    pub(crate) fn free_in_word(&self, w: usize) -> Option<usize>
+        requires { w < word_count (length (in_use self.now)) }
+        ensures { MatchOption result (IsFull (in_use self.now) w)
+            (IsFirstFreeOf (in_use self.now) w) }
+    {
+        let i = first_index::<u64, O>(self.words[w].not())?;
+        let block = w * 64 + usize::from(i);
+        if block < self.blocks {
+            Some(block)
         } else {
             None
         }
     }
 
-    /// How many blocks there are.
-    pub fn blocks(&self) -> usize
-        ensures { result ≡ length (in_use self.now) }
+    // The lowest free block from block `block` on in its word.
+    pub(crate) fn free_to_word_end(&self, block: usize) -> Option<usize>
+        ensures { MatchOption result (IsFullFrom (in_use self.now) block)
+            (λ at. IsLowest (λ b. (block ≤ b) × AreFree (in_use self.now) b 1) (Some at)) }
     {
-        N * 64
+        if self.blocks <= block {
+            return None;
+        }
+        let end = self.blocks.min((block / 64 + 1) * 64);
+        let part = self.bits().get_range(block, end)?;
+        match part.first_zero() {
+            Some(i) => Some(block + i),
+            None => None,
+        }
     }
 
-    /// Whether a block is in use, and `None` where there is no such block.
-    pub fn is_in_use(&self, block: usize) -> Option<bool>
-        ensures { result ≡ slice_get (in_use self.now) block }
+    // Whether no block of word `w` is free.
+    pub(crate) fn is_word_full(&self, w: usize) -> bool
+        requires { w < word_count (length (in_use self.now)) }
+        ensures { IsTrue result ↔ IsFull (in_use self.now) w }
     {
-        BitSlice::new(span_of_all(N), &self.words)?.get(block)
+        self.free_in_word(w).is_none()
     }
 
-    /// Whether there are `count` blocks from block `at` on that are all in use.
-    pub fn are_in_use(&self, at: usize, count: usize) -> bool
-        ensures { IsTrue result ↔ AreInUse (in_use self.now) at count }
+    // Whether there are `count` blocks from block `at` on.
+    fn has_blocks(&self, at: usize, count: usize) -> bool
+        ensures { IsTrue result ↔ (at + count ≤ length (in_use self.now)) }
     {
-        are_used(&self.words, at, count)
-    }
-
-    /// Hands out `count` blocks in a row, the first such that are all free, and returns the first
-    /// of them; `None` exactly where there are none, and then the map stays as it is.
-    ///
-    /// What is handed out was free, so none of it is out already, and every other block stays as
-    /// it is.
-    pub fn alloc(&mut self, count: usize) -> Option<usize>
-        ensures answer { MatchOption result ((at : ℕ) → ¬ AreFree (in_use self.old) at count)
-            (λ at. IsFirstFree (in_use self.old) count at) }
-        ensures taken { MatchOption result (in_use self.new ≡ in_use self.old)
-            (λ at. in_use self.new ≡ with_filled (in_use self.old) at (at + count) true) }
-    {
-        let at = find(&self.words, count)?;
-        mark(&mut self.words, at, count, true);
-        Some(at)
-    }
-
-    /// Takes `count` blocks back, from block `at` on, and leaves every other block as it is.
-    /// Requires that there are such blocks and that each is in use, so none is taken back twice:
-    /// [`are_in_use`](FreeMap::are_in_use) is the test.
-    pub fn free(&mut self, at: usize, count: usize)
-        requires { AreInUse (in_use self.old) at count }
-        ensures { in_use self.new ≡ with_filled (in_use self.old) at (at + count) false }
-    {
-        mark(&mut self.words, at, count, false);
+        at <= self.blocks && count <= self.blocks - at
     }
 }

@@ -1,9 +1,6 @@
-use Rattle.std.proofs.Common.{rules, ◌≡◌, length, arith}
-use Rattle.freemap.proofs.BlockLemmas.{blocks_long}
+use Rattle.std.proofs.Common.{sym}
+use Rattle.freemap.proofs.WordLemmas.{stored_long}
 use Rattle.freemap.proofs.map.FreeMap.blocks.Goals as goal
 
-pub returns : goal.returns
-returns g c =
-    let words = c.args.self.now.words in
-    let many : length words ≡ g.row.N = search rules in
-    omega (arith, blocks_long words, many)
+pub returns-clause-count : goal.returns-clause-count
+returns-clause-count g c = (let map = c.args.self.now in sym (stored_long g.O.BitAt.at_of map.blocks map.words.now))

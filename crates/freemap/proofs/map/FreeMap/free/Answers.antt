@@ -1,6 +1,6 @@
-use Rattle.std.proofs.Common.{arith}
-use Rattle.freemap.proofs.BlockLemmas.{blocks_long}
+use Rattle.freemap.specs.Map.{in_use}
+use Rattle.freemap.proofs.HistoryLemmas.{owned_less}
 use Rattle.freemap.proofs.map.FreeMap.free.Goals as goal
 
-pub mark-requires-clause-inside : goal.mark-requires-clause-inside
-mark-requires-clause-inside g c = omega (arith, c.requires.0, blocks_long c.args.self.now.words)
+pub returns-clause-owned : goal.returns-clause-owned
+returns-clause-owned g c = owned_less (in_use c.args.self.now) (in_use c.mark.new.self) c.args.at c.args.count c.mark.ensures.used c.requires.0

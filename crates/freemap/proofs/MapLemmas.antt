@@ -1,0 +1,48 @@
+-- Edits of the bits of a map, as edits of its blocks.
+use Rattle.std.proofs.Common.{◌≡◌, ℕ, ◌+◌, Bool, List, [], ◌++◌, ◌-◌, length, map, drop, replicate, sym, ap, ◌∙◌, subst, arith}
+use Rattle.std.proofs.Math.Seq.{drop-length}
+use Rattle.std.proofs.lemmas.List.{map-id, append-nil}
+use Rattle.bitvec.specs.Span.{Span, BecomesList, list_of, with_filled}
+use Rattle.freemap.specs.Blocks.{map_span, stored_blocks}
+use Rattle.freemap.proofs.WordLemmas.{stored_long}
+
+module _ (at : ℕ → ℕ) (blocks : ℕ) (span : Span) (is : span ≡ map_span blocks) where
+  -- the bits of a map's span are its blocks
+  pub shown : (words : List ℕ) → list_of 64 at span (map (λ w. w) words) ≡ stored_blocks at blocks words
+  shown words = ap (λ (s : Span). list_of 64 at s (map (λ w. w) words)) is ∙ ap (list_of 64 at (map_span blocks)) (map-id words)
+
+  -- an edit of the bits is one of the blocks
+  pub edited_words : (old new : List ℕ) (f : List Bool → List Bool) → BecomesList 64 at span (map (λ w. w) old) (map (λ w. w) new) (f (list_of 64 at span (map (λ w. w) old)))
+      → BecomesList 64 at (map_span blocks) old new (f (stored_blocks at blocks old))
+  edited_words old new f edit =
+      let here = subst (λ (s : Span). BecomesList 64 at s (map (λ w. w) old) (map (λ w. w) new) (f (list_of 64 at s (map (λ w. w) old)))) is edit in
+      let was = subst (λ (us : List ℕ). BecomesList 64 at (map_span blocks) us (map (λ w. w) new) (f (list_of 64 at (map_span blocks) us))) (map-id old) here in
+      subst (λ (us : List ℕ). BecomesList 64 at (map_span blocks) old us (f (stored_blocks at blocks old))) (map-id new) was
+
+  -- the same of words that were lent for it, and came back
+  pub edited_lent : (old lent left new : List ℕ) (f : List Bool → List Bool) → lent ≡ old → new ≡ left → BecomesList 64 at span (map (λ w. w) lent) (map (λ w. w) left) (f (list_of 64 at span (map (λ w. w) lent)))
+      → BecomesList 64 at (map_span blocks) old new (f (stored_blocks at blocks old))
+  edited_lent old lent left new f out back edit =
+      let was = subst (λ (us : List ℕ). BecomesList 64 at span (map (λ w. w) us) (map (λ w. w) left) (f (list_of 64 at span (map (λ w. w) us)))) out edit in
+      edited_words old new f (subst (λ (us : List ℕ). BecomesList 64 at span (map (λ w. w) old) (map (λ w. w) us) (f (list_of 64 at span (map (λ w. w) old)))) (sym back) was)
+
+  pub edited : (old new : List ℕ) (f : List Bool → List Bool) → BecomesList 64 at span (map (λ w. w) old) (map (λ w. w) new) (f (list_of 64 at span (map (λ w. w) old)))
+      → BecomesList 64 at (map_span (length (stored_blocks at blocks old))) old new (f (stored_blocks at blocks old))
+  edited old new f edit = subst (λ n. BecomesList 64 at (map_span n) old new (f (stored_blocks at blocks old))) (sym (stored_long at blocks old)) (edited_words old new f edit)
+
+-- what an edit shows: the blocks, and that there are as many
+pub edit_shows : (at : ℕ → ℕ) (blocks : ℕ) (old new : List ℕ) (ys : List Bool) → BecomesList 64 at (map_span (length (stored_blocks at blocks old))) old new ys → stored_blocks at blocks new ≡ ys
+edit_shows at blocks old new ys edit = ap (λ n. list_of 64 at (map_span n) new) (sym (stored_long at blocks old)) ∙ edit.list
+
+pub as_many : (at : ℕ → ℕ) (blocks : ℕ) (old new : List ℕ) → length (stored_blocks at blocks new) ≡ length (stored_blocks at blocks old)
+as_many at blocks old new = stored_long at blocks new ∙ sym (stored_long at blocks old)
+
+-- every block filled
+pub all_filled : (xs : List Bool) (n : ℕ) (bit : Bool) → length xs ≡ n → with_filled xs 0 (0 + n) bit ≡ replicate n bit
+all_filled xs n bit long =
+    let all : 0 + n ≡ length xs = omega (arith, long) in
+    let whole : 0 + n - 0 ≡ n = omega arith in
+    ap (λ k. [] ++ replicate k bit ++ drop (0 + n) xs) whole
+    ∙ ap (λ k. replicate n bit ++ drop k xs) all
+    ∙ ap (λ us. replicate n bit ++ us) (drop-length xs)
+    ∙ append-nil (replicate n bit)

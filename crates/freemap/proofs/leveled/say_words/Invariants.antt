@@ -1,0 +1,6 @@
+use Rattle.freemap.specs.Map.{in_use}
+use Rattle.freemap.specs.Summary.{SummarisesBeside}
+use Rattle.freemap.proofs.leveled.say_words.Given as goal
+
+abbrev pub invariant-loop-w : goal.invariant-loop-w
+invariant-loop-w g l = SummarisesBeside (in_use l.map) (in_use l.full) l.w l.words

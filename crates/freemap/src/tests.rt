@@ -1,0 +1,84 @@
+//! Callers, and the calls on stores of a few blocks.
+
+mod callers;
+
+use crate::leveled::{LeveledMap, summary_words_for};
+use crate::map::{FreeMap, has_room, words_for};
+use bitvec::order::{Lsb0, Msb0};
+use std::test::Fail;
+
+#[test]
+fn runs_come_and_go(rt: HostRuntime) -> Result<(), Fail> {
+    let mut words = [0u64; 2];
+    let mut map = FreeMap::<Lsb0>::new_unchecked(&mut words, 100);
+    assert_eq!(rt; map.alloc_run(20), Some(0));
+    assert_eq!(rt; map.alloc(), Some(20));
+    if map.is_in_use(4, 12) {
+        map.free(4, 12);
+    }
+    assert_eq!(rt; map.alloc_run_aligned(8, 8), Some(8));
+    assert_eq!(rt; map.count_free(), 83);
+    assert_eq!(rt; map.alloc_at_or_after(70), Some(70));
+    assert_eq!(rt; map.alloc_run(80), None);
+    assert_eq!(rt; map.alloc_run(29), Some(21));
+    assert!(rt; !map.reserve(69, 2));
+    assert!(rt; map.reserve(71, 29));
+    assert!(rt; !map.reserve(100, 1));
+    assert_eq!(rt; words, [0x0003_FFFF_FFFF_FF0F, 0x0000_000F_FFFF_FFC0]);
+    Ok(())
+}
+
+#[test]
+fn free_runs(rt: HostRuntime) -> Result<(), Fail> {
+    let mut words = [0x00FF_0000_0000_0F0Fu64];
+    let map = FreeMap::<Lsb0>::from_words_unchecked(&mut words, 64);
+    assert_eq!(rt; map.next_free_run(0), Some((4, 4)));
+    assert_eq!(rt; map.next_free_run(8), Some((12, 36)));
+    assert_eq!(rt; map.next_free_run(48), Some((56, 8)));
+    assert_eq!(rt; map.next_free_run(64), None);
+    assert_eq!(rt; map.largest_run(), 36);
+    assert!(rt; map.is_free(12, 36) && !map.is_free(12, 37));
+    assert!(rt; map.is_in_use(48, 8) && !map.is_in_use(48, 9));
+    Ok(())
+}
+
+#[test]
+fn other_orders_and_rooms(rt: HostRuntime) -> Result<(), Fail> {
+    let mut words = [0u64; 1];
+    let Ok(mut map) = FreeMap::<Msb0>::new(&mut words, 10) else {
+        return Ok(());
+    };
+    assert_eq!(rt; map.alloc_run(3), Some(0));
+    assert_eq!(rt; map.blocks(), 10);
+    assert_eq!(rt; words, [0xE000_0000_0000_0000]);
+    assert!(rt; FreeMap::<Msb0>::new(&mut words, 65).is_err());
+    assert_eq!(rt; words_for(65), 2);
+    assert!(rt; has_room(1, 64) && !has_room(1, 65));
+    Ok(())
+}
+
+#[test]
+fn levels(rt: HostRuntime) -> Result<(), Fail> {
+    let mut words = [0u64; 80];
+    let mut summary = [u64::MAX; 3];
+    assert_eq!(rt; summary_words_for(5000), 3);
+    let map = FreeMap::<Lsb0>::new_unchecked(&mut words, 5000);
+    let mut map = LeveledMap::over(map, &mut summary);
+    assert!(rt; map.reserve(0, 4900));
+    assert_eq!(rt; map.alloc(), Some(4900));
+    assert_eq!(rt; map.alloc_run_aligned(8, 8), Some(4904));
+    assert_eq!(rt; map.alloc_run(4), Some(4912));
+    assert_eq!(rt; map.alloc(), Some(4901));
+    assert_eq!(rt; map.as_map().count_free(), 86);
+    if map.as_map().is_in_use(100, 200) {
+        map.free(100, 200);
+    }
+    assert_eq!(rt; map.alloc_run(200), Some(100));
+    assert_eq!(rt; map.alloc_at_or_after(4903), Some(4903));
+    assert_eq!(rt; map.alloc_at_or_after(4904), Some(4916));
+    assert!(rt; map.reserve(4902, 1) && map.reserve(4917, 83));
+    assert_eq!(rt; map.alloc(), None);
+    assert_eq!(rt; map.alloc_at_or_after(0), None);
+    assert_eq!(rt; map.into_map().largest_run(), 0);
+    Ok(())
+}
