@@ -6,17 +6,16 @@ ghost use Rattle.bitvec_stream.specs.Numbers.{number_be};
 
 use bitvec::mem::BitRegister;
 use bitvec::order::BitOrder;
-use bitvec_slice::slice::{BitSlice, BitSliceMut};
+use bitvec_slice::slice::BitSlice;
 use bitvec_stream::error::{ReadError, WriteError};
 use bitvec_stream::reader::BitReader;
 use bitvec_stream::writer::BitWriter;
 
 /// Writes the version and the length of an IPv4 header, and leaves what lies between.
 pub fn write_header<R: BitRegister, O: BitOrder<R>>(
-    header: BitSliceMut<'_, R, O>,
+    writer: &mut BitWriter<'_, R, O>,
     length: u16,
 ) -> Result<(), WriteError> {
-    let mut writer = BitWriter::new(header);
     writer.write_be(4, 4u8)?;
     writer.skip(12)?;
     writer.write_be(16, length)
@@ -40,20 +39,18 @@ mod tests {
     use bitvec::order::Msb0;
     use bitvec_slice::slice::{BitSlice, BitSliceMut};
     use bitvec_stream::error::{ReadError, WriteError};
+    use bitvec_stream::writer::BitWriter;
 
     #[test]
     fn a_header_is_written_and_read(rt: HostRuntime) {
         let mut bytes = [0xFFu8; 4];
-        let header = BitSliceMut::<u8, Msb0>::all_unchecked(&mut bytes);
-        assert_eq!(rt; write_header(header, 1500), Ok(()));
+        let mut writer = BitWriter::new(BitSliceMut::<u8, Msb0>::all_unchecked(&mut bytes));
+        assert_eq!(rt; write_header(&mut writer, 1500), Ok(()));
+        assert_eq!(rt; write_header(&mut writer, 1500), Err(WriteError::NoRoom));
+        assert_eq!(rt; length_of(writer.written()), Ok(1500));
+        drop(writer);
         assert_eq!(rt; bytes, [0x4F, 0xFF, 0x05, 0xDC]);
-        assert_eq!(rt;
-            length_of(BitSlice::<u8, Msb0>::all_unchecked(&bytes)),
-            Ok(1500)
-        );
         let cut = BitSlice::<u8, Msb0>::all_unchecked(&bytes[..3]);
         assert_eq!(rt; length_of(cut), Err(ReadError::TooFew));
-        let cut = BitSliceMut::<u8, Msb0>::all_unchecked(&mut bytes[..1]);
-        assert_eq!(rt; write_header(cut, 1500), Err(WriteError::NoRoom));
     }
 }
