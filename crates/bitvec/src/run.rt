@@ -3,7 +3,7 @@
 //! Each span's list of bits goes its own way: what its commands answer, and what they leave, is
 //! what they give on that list alone. None of it is in the Rust crate.
 
-ghost use Rattle.std.specs.Prelude.{◌≡◌, ℕ, pos, ◌≤ℤ◌, ◌≤◌, ◌↔◌, IsTrue, IsSome, IfSome, All};
+ghost use Rattle.std.specs.Prelude.{◌≡◌, ℕ, pos, ◌≤ℤ◌, ◌<◌, ◌≤◌, ◌↔◌, IsTrue, IfSome, None, All};
 ghost use Rattle.std.specs.Prelude.{nat_abs, ◌+◌, ◌*◌};
 ghost use Rattle.std.specs.Prelude.{AllPairs, List, [], ◌∷◌, length, map};
 ghost use Rattle.std.specs.Int.{w64, cast_unsigned};
@@ -60,25 +60,11 @@ fn end<R: BitRegister, O>(span: BitSpan<R, O>) -> u128
     start(span) + span.len() as u128
 }
 
-// Whether a span lies within a memory of `words` words, by the number of its end.
-fn lies_within<R: BitRegister, O>(span: BitSpan<R, O>, words: usize) -> bool
-    ensures { IsTrue result ↔ Fits R.BITS (span_of span) words }
-{
-    if span.address() < 0 {
-        return false;
-    }
-    if span.is_empty() {
-        span.address() as usize <= words
-    } else {
-        end(span) <= words as u128 * u128::from(R::BITS)
-    }
-}
-
 // Whether each span lies within a memory of `words` words.
 fn all_fit<R: BitRegister, O>(spans: &[BitSpan<R, O>], words: usize) -> bool
     ensures { IsTrue result ↔ All (λ span. Fits R.BITS (span_of span) words) spans.now }
 {
-    spans.iter().all(|span| lies_within(*span, words))
+    spans.iter().all(|span| span.fits(words))
 }
 
 // So few words that the number of each of their bits, and of a bit as far behind them as a span
@@ -105,65 +91,39 @@ fn first_bit<R: BitRegister, O>(span: BitSpan<R, O>) -> usize
     span.address() as usize * usize::from(R::BITS) + head
 }
 
-// The numbers of a span's first bit and of the bit behind its last, where it lies within `words`
-// words.
-#[inline(always)]
-fn bits_within<R: BitRegister, O>(span: BitSpan<R, O>, words: usize) -> Option<(usize, usize)>
-    requires { words ≤ 36028797018963968 }
-    ensures inside { IsSome result ↔ Fits R.BITS (span_of span) words }
-    ensures start { IfSome result (λ it. it.0
-        ≡ nat_abs (span_of span).word * R.BITS + (span_of span).head) }
-    ensures end { IfSome result (λ it. it.1 ≡ it.0 + (span_of span).len) }
+// The number of the first span that does not lie within `words` words, or within `FEW_WORDS`, or
+// that has bits and starts before the end of one before it; `None` where there is no such span.
+fn first_out_of_order<R: BitRegister, O>(spans: &[BitSpan<R, O>], words: usize) -> Option<usize>
+    ensures within { IfSome result (λ i. i < length spans.now) }
+    ensures can_run { result ≡ None → CanRun R.BITS span_of spans.now words }
 {
-    if !starts_within(span, words) {
-        return None;
-    }
-    let start = first_bit(span);
-    let end = start + span.len();
-    if start < end && end > words * usize::from(R::BITS) {
-        return None;
-    }
-    Some((start, end))
-}
-
-// Whether the spans lie within `words` words and no two have a bit in common, by one pass that
-// tests the start of each with the end of the last one before it that has bits; `None` where a span
-// that has bits starts before that one, or where there are more than `FEW_WORDS`.
-fn rising_can_run<R: BitRegister, O>(spans: &[BitSpan<R, O>], words: usize) -> Option<bool>
-    ensures { IfSome result (λ can. IsTrue can ↔ CanRun R.BITS span_of spans.now words) }
-{
-    if words > FEW_WORDS {
-        return None;
-    }
-    let mut last = 0;
+    let words = words.min(FEW_WORDS);
+    let limit = words * usize::from(R::BITS);
     let mut upto = 0;
     for i in 0..spans.len() {
         let span = spans[i];
-        let Some((start, end)) = bits_within(span, words) else {
-            return Some(false);
-        };
-        if start < end {
-            if start < upto {
-                let before = spans[last];
-                return if before.is_disjoint(&span) {
-                    None
-                } else {
-                    Some(false)
-                };
+        if !starts_within(span, words) {
+            return Some(i);
+        }
+        if !span.is_empty() {
+            let start = first_bit(span);
+            let end = start + span.len();
+            if start < upto || limit < end {
+                return Some(i);
             }
-            last = i;
             upto = end;
         }
     }
-    Some(true)
+    None
 }
 
 /// Whether each span lies within a memory of `words` words and no two have a bit in common: the
 /// test of [`run`].
 ///
-/// Spans whose places rise, each that has bits behind the one before it that has, take one pass,
-/// and so do those that meet a neighbour in it; spans in no order are tested each with each, which
-/// [`can_run_in`] spares who has room for a number for each. Not in the Rust crate.
+/// Spans whose places rise, each that has bits behind the one before it that has, take one pass.
+/// The first that does not lie so is tested with each before it. Where it meets none of them, each
+/// span is tested with each, which [`can_run_in`] spares who has room for a number for each. Not in
+/// the Rust crate.
 ///
 /// # Examples
 ///
@@ -177,9 +137,9 @@ fn rising_can_run<R: BitRegister, O>(spans: &[BitSpan<R, O>], words: usize) -> O
 pub fn can_run<R: BitRegister, O>(spans: &[BitSpan<R, O>], words: usize) -> bool
     ensures { IsTrue result ↔ CanRun R.BITS span_of spans.now words }
 {
-    match rising_can_run(spans, words) {
-        Some(can) => can,
-        None => are_apart(spans) && all_fit(spans, words),
+    match first_out_of_order(spans, words) {
+        None => true,
+        Some(i) => all_fit(spans, words) && is_apart(spans[i], &spans[..i]) && are_apart(spans),
     }
 }
 

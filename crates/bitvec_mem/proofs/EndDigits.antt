@@ -5,7 +5,8 @@ use Rattle.std.proofs.Math.Pow.{shr_lt, pow_mono}
 use Rattle.std.proofs.lemmas.Bool.{cases_lt}
 use Rattle.std.proofs.lemmas.Nat.{le-div, pow_pos, leading_top}
 use Rattle.std.proofs.lemmas.Nat.Bits.{bit_at-trailing_zeros}
-use Rattle.std.specs.Int.{w128, trailing_zeros, leading_zeros}
+use Rattle.std.specs.Int.{w128, trailing_zeros}
+use lib.Count.{count_leading_zeros}
 use Rattle.bitvec_mem.specs.Digit.{digit}
 use Rattle.bitvec_mem.specs.Ones.{HasNoOne, IsLowestOne, IsHighestOne}
 use Rattle.bitvec_mem.proofs.DigitLemmas.{digit_above, digit-zero, true_not_false}
@@ -41,13 +42,12 @@ top_digit w j low high =
     let is : w / 2 ^ j ≡ 1 = omega (arith, up, down) in
     ap (λ n. n % 2 == 1) is
 
--- the highest
-pub highest : (bits w : ℕ) → bits ≤ 128 → w < 2 ^ bits → (w ≡ 0 → ⊥) → IsHighestOne bits w (127 - leading_zeros w128 w)
-highest bits w narrow small some =
-    let wide : w < 2 ^ 128 = omega (arith, small, pow_mono narrow) in
+-- the highest, of a number that lies below two to `by` as well
+pub highest : (bits by w : ℕ) → w < 2 ^ bits → w < 2 ^ by → (w ≡ 0 → ⊥) → IsHighestOne bits w (by - 1 - count_leading_zeros by w)
+highest bits by w small below some =
     let pos : 0 < w = omega (arith, some) in
-    let found = leading_top 128 w pos wide in
+    let found = leading_top by w pos below in
     let j = found.0 in
-    let is : j ≡ 127 - leading_zeros w128 w = omega (arith, found.1) in
+    let is : j ≡ by - 1 - count_leading_zeros by w = omega (arith, found.1) in
     let one = top_digit w j found.2 found.3 in
     subst (IsHighestOne bits w) is (one_below bits w j small one, one, λ q up lt. digit_above w (suc j) q found.3 (omega (arith, up)))

@@ -133,6 +133,15 @@ word_in bits word bit count words some h = word_within word (bit + count - 1) bi
 pub next_word_in : (bits word bit count words : ℕ) → bits < bit + count → word * bits + bit + count ≤ words * bits → word + 1 < words
 next_word_in bits word bit count words past h = word_within (word + 1) (bit + count - bits - 1) bits words (omega arith)
 
+-- the first words of four that lie in a memory, and the one behind them where bits reach into it
+pub block_word_in : (bits word bit k words : ℕ) → 0 < bits → k < 4 → word * bits + bit + 4 * bits ≤ words * bits → word + k < words
+block_word_in bits word bit k words some h fits =
+    let low : (k + 1) * bits ≤ 4 * bits = mul-le-mul_right bits (omega arith) in
+    word_within (word + k) 0 bits words (omega (arith, low))
+
+pub block_next_in : (bits word bit words : ℕ) → 0 < bit → word * bits + bit + 4 * bits ≤ words * bits → word + 4 < words
+block_next_in bits word bit words some fits = word_within (word + 4) (bit - 1) bits words (omega arith)
+
 -- where one place is not past another, by what each direction asks
 pub from_rising : (rising : Bool) (s t : ℕ) → (s < t → rising ≡ false) → rising ≡ true → t ≤ s
 from_rising rising s t h r = ⊎_elim (λ u. absurd (false≢true (sym (h u) ∙ r))) (λ u. u) (cases_lt s t)

@@ -4,7 +4,7 @@ use Rattle.std.specs.Int.{int_div_euclid}
 use Rattle.std.proofs.lemmas.Int.{ints}
 use Rattle.std.proofs.lemmas.Bool.{cases_eq, eq-eqb, ne_eqb}
 use Rattle.std.proofs.lemmas.Nat.{div-add-mod', mod_below, mod-mul-add}
-use Rattle.std.proofs.Math.Nat.{lt_of_mul-lt-mul_right, div-eq_of_lt, div-eq_of_lt-le, add-div_right}
+use Rattle.std.proofs.Math.Nat.{lt_of_mul-lt-mul_right, div-eq_of_lt, div-eq_of_lt-le, add-div_right, mul-add-div_right}
 use borrow.Author.Differences.{sum_is_lem, product_is, up, down}
 use Rattle.bitvec_ptr.specs.Place.{words_met, tail_of}
 
@@ -13,6 +13,16 @@ words_met-none bits head count e = rw (eq-eqb count 0 e) refl
 
 pub words_met-some : (bits head count : ℕ) → 0 < count → words_met bits head count ≡ (head + count - 1) / bits + 1
 words_met-some bits head count h = rw (ne_eqb count 0 (λ e. omega arith)) refl
+
+-- by the words and the rest of what lies before its last place
+pub met_split : (bits width head index count : ℕ) → width ≡ bits → index ≡ head → 0 < bits → 0 < count
+    → (count - 1) / width + (index + (count - 1) % width) / width + 1 ≡ words_met bits head count
+met_split bits width head index count e f some h =
+    rw (e, f) (
+    let parts = div-add-mod' (count - 1) bits in
+    let all : head + count - 1 ≡ (count - 1) / bits * bits + (head + (count - 1) % bits) = omega (arith, parts) in
+    sym (words_met-some bits head count h ∙ ap (λ n. n / bits + 1) all
+    ∙ ap (λ n. n + 1) (mul-add-div_right some ((count - 1) / bits) (head + (count - 1) % bits))))
 
 pub tail_of-none : (bits head count : ℕ) → count ≡ 0 → tail_of bits head count ≡ head
 tail_of-none bits head count e = rw (eq-eqb count 0 e) refl

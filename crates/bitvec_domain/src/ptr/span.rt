@@ -144,17 +144,31 @@ impl<R: BitRegister, O> BitSpan<R, O> {
         if bits > MAX_BITS {
             return Err(BitSpanError::TooLong(bits));
         }
-        let head = head.into_inner();
-        let met = (usize::from(head) + bits) / usize::from(R::BITS);
+        let met = (usize::from(head.into_inner()) + bits) / usize::from(R::BITS);
         if word > isize::MAX - met as isize {
             return Err(BitSpanError::TooHigh(word, PhantomData));
         }
-        Ok(BitSpan {
+        Ok(Self::new_unchecked(word, head, bits))
+    }
+
+    /// The span of `bits` bits from the bit `head` of a word on.
+    ///
+    /// Requires what [`new`](BitSpan::new) tests: at most 2305843009213693951 bits, and that the
+    /// word in which the span ends does not pass the greatest `isize`. Constant time. In place of
+    /// the Rust crate's private `BitSpan::new_unchecked`.
+    #[inline(always)]
+    pub fn new_unchecked(word: isize, head: BitIdx<R>, bits: usize) -> Self
+        requires short { bits ≤ region_max_bits }
+        requires low { int_div_euclid (place_at R.BITS word head +ℤ pos bits) (pos R.BITS)
+            ≤ℤ isize.MAX }
+        ensures { span_of result ≡ record { word = word; head = head; len = bits } }
+    {
+        BitSpan {
             word,
-            head,
+            head: head.into_inner(),
             len: bits,
             of: PhantomData,
-        })
+        }
     }
 
     /// The span of `bits` bits from a pointer on, refused as [`new`](BitSpan::new) of its word and
@@ -416,7 +430,15 @@ impl<R: BitRegister, O> BitSpan<R, O> {
         ensures short { result.0 ≤ region_max_bits }
         ensures tail { result.1 ≡ tail_of R.BITS (span_of self.now).head (span_of self.now).len }
     {
-        self.head().span(self.len)
+        if self.len == 0 {
+            return (0, BitEnd::new_unchecked(self.head));
+        }
+        let width = usize::from(R::BITS);
+        let last = usize::from(self.head) + (self.len - 1);
+        (
+            last / width + 1,
+            BitEnd::new_unchecked((last % width + 1) as u8),
+        )
     }
 
     // The bounds of the span's bits in the `k`-th word, of those that it meets, where it ends
@@ -452,11 +474,19 @@ impl<R: BitRegister, O> BitSpan<R, O> {
     /// assert!(rt; span.fits(3));
     /// assert!(rt; !span.fits(2));
     /// ```
+    #[inline(always)]
     pub fn fits(&self, words: usize) -> bool
         ensures { IsTrue result ↔ Fits R.BITS (span_of self.now) words }
     {
-        let elements = self.elements();
-        0 <= self.word && elements <= words && self.word as usize <= words - elements
+        if self.word < 0 {
+            return false;
+        }
+        let word = self.word as usize;
+        if self.is_empty() {
+            return word <= words;
+        }
+        let last = usize::from(self.head) + (self.len - 1);
+        word + last / usize::from(R::BITS) < words
     }
 
     /// Whether no bit is in both spans, as it is where one of them has none. Not in the Rust crate.

@@ -46,5 +46,10 @@ pub fn highest_one<R: BitRegister>(word: R) -> Option<u8>
     if number == 0 {
         return None;
     }
+    // (a word of at most 64 bits is counted in a register of the machine)
+    if number < 1 << 64 {
+        let low = number as u64;
+        return Some((63 - low.leading_zeros()) as u8);
+    }
     Some((127 - number.leading_zeros()) as u8)
 }

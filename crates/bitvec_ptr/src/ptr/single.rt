@@ -297,11 +297,18 @@ impl<R: BitRegister, O> BitPtr<R, O> {
         0 <= self.word && (self.word as usize) < words
     }
 
-    // How many words `count` bits from this one on meet.
+    // How many words `count` bits from this one on meet. Nothing but `count == 0` is asked, since
+    // it is by chance whether a few bits pass the end of a word.
     pub(crate) fn elements(self, count: usize) -> usize
         ensures { result ≡ words_met R.BITS (ptr_of self).bit count }
     {
-        self.bit().span(count).0
+        if count == 0 {
+            return 0;
+        }
+        let width = usize::from(R::BITS);
+        let before = count - 1;
+        let over = usize::from(self.bit) + before % width;
+        before / width + over / width + 1
     }
 
     /// Whether the words that `count` bits from this one on meet are among the first `words` of a

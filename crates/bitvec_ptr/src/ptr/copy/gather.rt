@@ -379,6 +379,40 @@ pub(super) fn gathered_from_pair<R: BitRegister, O: BitOrder<R>, R2: BitRegister
     singly_of_two::<R, O, R2, O2>(low, high, shift, word, bit, count)
 }
 
+// The word that has all its bits from two neighbouring words, from index `shift` of the first on.
+// It asks nothing of the shift, so that LLVM can make several such words side by side.
+#[inline(always)]
+pub(super) fn gathered_whole<R: BitRegister, O: BitOrder<R>>(
+    way: Way,
+    low: R,
+    high: R,
+    shift: u8,
+) -> R
+    requires most { shift < R.BITS }
+    requires way { Allows way R.BITS O.at_of R.BITS O.at_of shift 0 }
+    requires rising { way ≡ Way.Rising → 0 < shift }
+    requires falling { way ≡ Way.Falling → 0 < shift }
+    ensures low { (j : ℕ) → shift + j < R.BITS
+        → digit (R.number result) (O.at_of j) ≡ digit (R.number low) (O.at_of (shift + j)) }
+    ensures high { (j : ℕ) → j < R.BITS → R.BITS ≤ shift + j
+        → digit (R.number result) (O.at_of j)
+        ≡ digit (R.number high) (O.at_of (shift + j - R.BITS)) }
+{
+    match way {
+        Way::Whole => {
+            return low;
+        }
+        Way::Rising => {
+            return taken::<R, O, R, O>(true, low, high, shift);
+        }
+        Way::Falling => {
+            return taken::<R, O, R, O>(false, low, high, shift);
+        }
+        Way::Singly => {}
+    }
+    singly_of_two::<R, O, R, O>(low, high, shift, low, 0, R::BITS)
+}
+
 // The word with a piece of `count` bits from its index `bit` on, from a memory of words of another
 // width from a place on: one share from each word that is read.
 fn gathered_across_widths<R: BitRegister, O: BitOrder<R>, R2: BitRegister, O2: BitOrder<R2>>(

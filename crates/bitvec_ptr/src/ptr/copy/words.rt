@@ -5,7 +5,8 @@
 //! function that makes the writer, so that its mark and count are kept in registers; and so is the
 //! one that finds the sections of a target, so that each loop knows where it starts.
 
-ghost use Rattle.std.specs.Prelude.{◌≡◌, ◌+◌, ◌-◌, ◌*◌, ◌<◌, ◌≤◌, true, false, length};
+ghost use Rattle.std.specs.Prelude.{◌≡◌, ℕ, ◌+◌, ◌-◌, ◌*◌, ◌<◌, ◌≤◌, true, false, length, map};
+ghost use Rattle.std.specs.Prelude.{slice_index, List};
 ghost use Rattle.bitvec_ptr.specs.Combinations.{HasCombined, HasCombinedWithin};
 ghost use Rattle.bitvec_ptr.specs.Cursor.{offset};
 ghost use Rattle.bitvec_ptr.specs.Place.{words_met};
@@ -13,7 +14,9 @@ ghost use Rattle.bitvec_ptr.specs.Ways.{Allows};
 ghost use Rattle.bitvec_ptr.specs.WordWriter.{writer_of};
 
 use crate::ptr::combine::Combine;
-use crate::ptr::copy::gather::{Way, gathered_from, gathered_from_pair, pair_in, way_of};
+use crate::ptr::copy::gather::{
+    Way, gathered_from, gathered_from_pair, gathered_whole, pair_in, way_of,
+};
 use crate::ptr::cursor::Cursor;
 use crate::ptr::writer::WordWriter;
 use bitvec_mem::mem::BitRegister;
@@ -46,6 +49,39 @@ fn combine_word<C: Combine, R: BitRegister, O: BitOrder<R>, R2: BitRegister, O2:
     writer.put(to, C::word(old, theirs));
 }
 
+// Combines one word of the writer's memory, from its index `bit` on, with `count` bits of two
+// words, from index `shift` of the first on: two neighbours of any list of words.
+#[inline(always)]
+fn combine_pair<C: Combine, R: BitRegister, O: BitOrder<R>>(
+    way: Way,
+    low: R,
+    high: R,
+    shift: u8,
+    writer: &mut WordWriter<R>,
+    to: usize,
+    bit: u8,
+    count: u8,
+)
+    requires some { 0 < count }
+    requires most { shift < R.BITS }
+    requires bit_in { bit + count ≤ R.BITS }
+    requires way { Allows way R.BITS O.at_of R.BITS O.at_of shift bit }
+    requires to_in { to < length (writer_of writer.old).words }
+    requires rising { (writer_of writer.old).rising ≡ true → (writer_of writer.old).mark ≤ to }
+    requires falling { (writer_of writer.old).rising ≡ false → to < (writer_of writer.old).mark }
+    ensures { (source : List R) (word : ℕ)
+        → word * R.BITS + shift + count ≤ length source * R.BITS
+        → R.number low ≡ slice_index (map R.number source) word
+        → (R.BITS < shift + count → R.number high
+        ≡ slice_index (map R.number source) (word + 1))
+        → HasCombined C.of R.BITS O.at_of R.number source (word * R.BITS + shift) R.BITS O.at_of
+        R.number writer.old writer.new (to * R.BITS + bit) count to 1 }
+{
+    let old = writer.get(to);
+    let ours = gathered_from_pair::<R, O, R, O>(way, low, high, shift, C::ground(old), bit, count);
+    writer.put(to, C::word(old, ours));
+}
+
 // Combines one word of the writer's memory, from its index `bit` on, with `count` bits of that
 // memory.
 #[inline(always)]
@@ -67,18 +103,8 @@ fn combine_word_within<C: Combine, R: BitRegister, O: BitOrder<R>>(
     ensures { HasCombinedWithin C.of R.BITS O.at_of R.number (offset from) writer.old writer.new (to
         * R.BITS + bit) count to 1 }
 {
-    let old = writer.get(to);
     let (low, high) = pair_in(writer, from, count);
-    let ours = gathered_from_pair::<R, O, R, O>(
-        way,
-        low,
-        high,
-        from.bit,
-        C::ground(old),
-        bit,
-        count,
-    );
-    writer.put(to, C::word(old, ours));
+    combine_pair::<C, R, O>(way, low, high, from.bit, writer, to, bit, count);
 }
 
 // Combines whole words, the first of them first.
@@ -130,10 +156,132 @@ fn combine_row_falling<
     }
 }
 
-// Combines whole words with bits of the same memory that lie at or behind them, the first word
-// first.
+// Combines one whole word of the writer's memory with the bits of two words, from index `shift` of
+// the first on: two neighbours of any list of words.
 #[inline(always)]
-fn combine_row_rising_within<C: Combine, R: BitRegister, O: BitOrder<R>>(
+fn combine_whole<C: Combine, R: BitRegister, O: BitOrder<R>>(
+    way: Way,
+    low: R,
+    high: R,
+    shift: u8,
+    writer: &mut WordWriter<R>,
+    to: usize,
+)
+    requires most { shift < R.BITS }
+    requires way { Allows way R.BITS O.at_of R.BITS O.at_of shift 0 }
+    requires shifts_up { way ≡ Way.Rising → 0 < shift }
+    requires shifts_down { way ≡ Way.Falling → 0 < shift }
+    requires to_in { to < length (writer_of writer.old).words }
+    requires rising { (writer_of writer.old).rising ≡ true → (writer_of writer.old).mark ≤ to }
+    requires falling { (writer_of writer.old).rising ≡ false → to < (writer_of writer.old).mark }
+    ensures { (source : List R) (word : ℕ)
+        → word * R.BITS + shift + R.BITS ≤ length source * R.BITS
+        → R.number low ≡ slice_index (map R.number source) word
+        → (0 < shift → R.number high ≡ slice_index (map R.number source) (word + 1))
+        → HasCombined C.of R.BITS O.at_of R.number source (word * R.BITS + shift) R.BITS O.at_of
+        R.number writer.old writer.new (to * R.BITS) R.BITS to 1 }
+{
+    let old = writer.get(to);
+    let ours = gathered_whole::<R, O>(way, low, high, shift);
+    writer.put(to, C::word(old, ours));
+}
+
+// The last of the words that four words' bits from a place on lie in: the fourth where the place is
+// the first of its word, and else the fifth.
+#[inline(always)]
+fn last_of_block<R: BitRegister>(from: Cursor<R>) -> usize
+    requires { from.word + 4 ≤ usize.MAX }
+    ensures fifth { 0 < from.bit → result ≡ from.word + 4 }
+    ensures fourth { from.bit ≡ 0 → result ≡ from.word + 3 }
+{
+    if from.bit > 0 {
+        return from.word + 4;
+    }
+    from.word + 3
+}
+
+// Four words of the writer's memory, from that of a place on, and the word behind them; the last of
+// the four once more where the place is the first of its word. The word in the middle is read last,
+// so that LLVM orders the operations of all four alike and makes them side by side.
+#[inline(always)]
+fn block_in<R: BitRegister>(writer: &WordWriter<R>, from: Cursor<R>) -> (R, R, R, R, R)
+    requires { offset from + 4 * R.BITS ≤ length (writer_of writer.now).words * R.BITS }
+    ensures one { R.number result.0 ≡ slice_index (map R.number (writer_of writer.now).words)
+        from.word }
+    ensures two { R.number result.1 ≡ slice_index (map R.number (writer_of writer.now).words)
+        (from.word + 1) }
+    ensures three { R.number result.2 ≡ slice_index (map R.number (writer_of writer.now).words)
+        (from.word + 2) }
+    ensures four { R.number result.3 ≡ slice_index (map R.number (writer_of writer.now).words)
+        (from.word + 3) }
+    ensures five { 0 < from.bit → R.number result.4
+        ≡ slice_index (map R.number (writer_of writer.now).words) (from.word + 4) }
+{
+    let first = from.word;
+    let last = last_of_block(from);
+    let (one, two) = (writer.get(first), writer.get(first + 1));
+    let (five, four) = (writer.get(last), writer.get(first + 3));
+    let three = writer.get(first + 2);
+    (one, two, three, four, five)
+}
+
+// Combines four whole words with bits of the same memory, the first word first. All words are read
+// before one is put, so the four are made side by side, wherever the bits lie.
+#[inline(always)]
+fn combine_block_rising_within<C: Combine, R: BitRegister, O: BitOrder<R>>(
+    way: Way,
+    from: Cursor<R>,
+    writer: &mut WordWriter<R>,
+    to: usize,
+)
+    requires way { Allows way R.BITS O.at_of R.BITS O.at_of from.bit 0 }
+    requires shifts_up { way ≡ Way.Rising → 0 < from.bit }
+    requires shifts_down { way ≡ Way.Falling → 0 < from.bit }
+    requires from_in { offset from + 4 * R.BITS ≤ length (writer_of writer.old).words * R.BITS }
+    requires to_in { to + 4 ≤ length (writer_of writer.old).words }
+    requires direction { (writer_of writer.old).rising ≡ true }
+    requires stands { (writer_of writer.old).mark ≡ to }
+    ensures { HasCombinedWithin C.of R.BITS O.at_of R.number (offset from) writer.old writer.new (to
+        * R.BITS) (4 * R.BITS) to 4 }
+{
+    let (one, two, three, four, five) = block_in(writer, from);
+    let bit = from.bit;
+    combine_whole::<C, R, O>(way, one, two, bit, writer, to);
+    combine_whole::<C, R, O>(way, two, three, bit, writer, to + 1);
+    combine_whole::<C, R, O>(way, three, four, bit, writer, to + 2);
+    combine_whole::<C, R, O>(way, four, five, bit, writer, to + 3);
+}
+
+// The same with the last word first.
+#[inline(always)]
+fn combine_block_falling_within<C: Combine, R: BitRegister, O: BitOrder<R>>(
+    way: Way,
+    from: Cursor<R>,
+    writer: &mut WordWriter<R>,
+    to: usize,
+)
+    requires way { Allows way R.BITS O.at_of R.BITS O.at_of from.bit 0 }
+    requires shifts_up { way ≡ Way.Rising → 0 < from.bit }
+    requires shifts_down { way ≡ Way.Falling → 0 < from.bit }
+    requires from_in { offset from + 4 * R.BITS ≤ length (writer_of writer.old).words * R.BITS }
+    requires to_in { to + 4 ≤ length (writer_of writer.old).words }
+    requires direction { (writer_of writer.old).rising ≡ false }
+    requires stands { (writer_of writer.old).mark ≡ to + 4 }
+    ensures { HasCombinedWithin C.of R.BITS O.at_of R.number (offset from) writer.old writer.new (to
+        * R.BITS) (4 * R.BITS) to 4 }
+{
+    let (one, two, three, four, five) = block_in(writer, from);
+    let bit = from.bit;
+    combine_whole::<C, R, O>(way, four, five, bit, writer, to + 3);
+    combine_whole::<C, R, O>(way, three, four, bit, writer, to + 2);
+    combine_whole::<C, R, O>(way, two, three, bit, writer, to + 1);
+    combine_whole::<C, R, O>(way, one, two, bit, writer, to);
+}
+
+// Combines whole words with bits of the same memory that lie at or behind them, word by word, the
+// first word first.
+#[inline(always)]
+fn combine_few_rising_within<C: Combine, R: BitRegister, O: BitOrder<R>>(
     way: Way,
     from: Cursor<R>,
     writer: &mut WordWriter<R>,
@@ -156,10 +304,10 @@ fn combine_row_rising_within<C: Combine, R: BitRegister, O: BitOrder<R>>(
     }
 }
 
-// Combines whole words with bits of the same memory that lie at or before them, the last word
-// first.
+// Combines whole words with bits of the same memory that lie at or before them, word by word, the
+// last word first.
 #[inline(always)]
-fn combine_row_falling_within<C: Combine, R: BitRegister, O: BitOrder<R>>(
+fn combine_few_falling_within<C: Combine, R: BitRegister, O: BitOrder<R>>(
     way: Way,
     from: Cursor<R>,
     writer: &mut WordWriter<R>,
@@ -181,6 +329,73 @@ fn combine_row_falling_within<C: Combine, R: BitRegister, O: BitOrder<R>>(
         let read = from.words_on::<R>(k);
         combine_word_within::<C, R, O>(way, read, writer, to + k, 0, R::BITS);
     }
+}
+
+// Combines whole words with bits of the same memory that lie at or behind them, the first word
+// first, and as many as can be four at a time. It is asked before whether the bits start a word,
+// which they do in one way alone, so that the loop asks nothing.
+#[inline(always)]
+fn combine_row_rising_within<C: Combine, R: BitRegister, O: BitOrder<R>>(
+    way: Way,
+    from: Cursor<R>,
+    writer: &mut WordWriter<R>,
+    to: usize,
+    count: usize,
+)
+    requires way { Allows way R.BITS O.at_of R.BITS O.at_of from.bit 0 }
+    requires short { count * R.BITS ≤ usize.MAX }
+    requires from_in { offset from + count * R.BITS ≤ length (writer_of writer.old).words * R.BITS }
+    requires to_in { to + count ≤ length (writer_of writer.old).words }
+    requires before { to * R.BITS ≤ offset from }
+    requires direction { (writer_of writer.old).rising ≡ true }
+    requires stands { (writer_of writer.old).mark ≡ to }
+    ensures { HasCombinedWithin C.of R.BITS O.at_of R.number (offset from) writer.old writer.new (to
+        * R.BITS) (count * R.BITS) to count }
+{
+    if way != Way::Whole && from.bit == 0 {
+        combine_few_rising_within::<C, R, O>(way, from, writer, to, count);
+        return;
+    }
+    for block in 0..count / 4 {
+        let read = from.words_on::<R>(block * 4);
+        combine_block_rising_within::<C, R, O>(way, read, writer, to + block * 4);
+    }
+    let few = count % 4;
+    let rest = from.words_on::<R>(count - few);
+    combine_few_rising_within::<C, R, O>(way, rest, writer, to + (count - few), few);
+}
+
+// Combines whole words with bits of the same memory that lie at or before them, the last word
+// first, and as many as can be four at a time. It is asked before whether the bits start a word,
+// which they do in one way alone, so that the loop asks nothing.
+#[inline(always)]
+fn combine_row_falling_within<C: Combine, R: BitRegister, O: BitOrder<R>>(
+    way: Way,
+    from: Cursor<R>,
+    writer: &mut WordWriter<R>,
+    to: usize,
+    count: usize,
+)
+    requires way { Allows way R.BITS O.at_of R.BITS O.at_of from.bit 0 }
+    requires short { count * R.BITS ≤ usize.MAX }
+    requires from_in { offset from + count * R.BITS ≤ length (writer_of writer.old).words * R.BITS }
+    requires to_in { to + count ≤ length (writer_of writer.old).words }
+    requires behind { offset from ≤ to * R.BITS }
+    requires direction { (writer_of writer.old).rising ≡ false }
+    requires stands { (writer_of writer.old).mark ≡ to + count }
+    ensures { HasCombinedWithin C.of R.BITS O.at_of R.number (offset from) writer.old writer.new (to
+        * R.BITS) (count * R.BITS) to count }
+{
+    if way != Way::Whole && from.bit == 0 {
+        combine_few_falling_within::<C, R, O>(way, from, writer, to, count);
+        return;
+    }
+    for block in 0..count / 4 {
+        let k = count - 4 - block * 4;
+        let read = from.words_on::<R>(k);
+        combine_block_falling_within::<C, R, O>(way, read, writer, to + k);
+    }
+    combine_few_falling_within::<C, R, O>(way, from, writer, to, count % 4);
 }
 
 // Whether all of `count` bits from an index of a word on lie in that word.

@@ -19,7 +19,7 @@ returns-then-word-met-clause-accepted g c =
     let width = g.R.BitRegister.BITS in
     let some : 0 < width = omega (arith, g.met.R.BitRegister.width_at_least_8) in
     let met : (c.from.result + c.args.bits) / c.from-2.result ≡ (c.args.head + c.args.bits) / width =
-    ap (λ v. (v + c.args.bits) / c.from-2.result) (c.from.ensures ∙ c.into_inner-head.ensures.value) ∙ ap (λ v. (c.args.head + c.args.bits) / v) (c.from-2.ensures ∙ c.BITS.ensures) in
+    ap (λ v. (v + c.args.bits) / c.from-2.result) (c.from.ensures ∙ c.into_inner.ensures.value) ∙ ap (λ v. (c.args.head + c.args.bits) / v) (c.from-2.ensures ∙ c.BITS.ensures) in
     rw (floor_place width c.args.word c.args.head c.args.bits some) (λ e. absurd cc, λ low. absurd (omega (arith, ints, met, low)))
 
 pub returns-then-word-met-clause-too_high : goal.returns-then-word-met-clause-too_high
@@ -27,13 +27,13 @@ returns-then-word-met-clause-too_high g c =
     let width = g.R.BitRegister.BITS in
     let some : 0 < width = omega (arith, g.met.R.BitRegister.width_at_least_8) in
     let met : (c.from.result + c.args.bits) / c.from-2.result ≡ (c.args.head + c.args.bits) / width =
-    ap (λ v. (v + c.args.bits) / c.from-2.result) (c.from.ensures ∙ c.into_inner-head.ensures.value) ∙ ap (λ v. (c.args.head + c.args.bits) / v) (c.from-2.ensures ∙ c.BITS.ensures) in
+    ap (λ v. (v + c.args.bits) / c.from-2.result) (c.from.ensures ∙ c.into_inner.ensures.value) ∙ ap (λ v. (c.args.head + c.args.bits) / v) (c.from-2.ensures ∙ c.BITS.ensures) in
     rw (floor_place width c.args.word c.args.head c.args.bits some) (λ _. (omega arith, omega (arith, ints, met)), λ _. (let same : to_z w64 (of_z w64 c.args.word) ≡ c.args.word = omega (arith, ints) in rw same refl))
 
-pub invariant_of-result-clause-low : goal.invariant_of-result-clause-low
-invariant_of-result-clause-low g c =
+pub new_unchecked-requires-clause-low : goal.new_unchecked-requires-clause-low
+new_unchecked-requires-clause-low g c =
     let width = g.R.BitRegister.BITS in
     let some : 0 < width = omega (arith, g.met.R.BitRegister.width_at_least_8) in
-    let met : (c.from.result + c.args.bits) / c.from-2.result ≡ (c.into_inner-head.result + c.args.bits) / width =
-    ap (λ v. (v + c.args.bits) / c.from-2.result) c.from.ensures ∙ ap (λ v. (c.into_inner-head.result + c.args.bits) / v) (c.from-2.ensures ∙ c.BITS.ensures) in
-    rw (floor_place width (to_z w64 (of_z w64 c.args.word)) c.into_inner-head.result c.args.bits some) (omega (arith, ints, met))
+    let met : (c.from.result + c.args.bits) / c.from-2.result ≡ (c.args.head + c.args.bits) / width =
+    ap (λ v. (v + c.args.bits) / c.from-2.result) (c.from.ensures ∙ c.into_inner.ensures.value) ∙ ap (λ v. (c.args.head + c.args.bits) / v) (c.from-2.ensures ∙ c.BITS.ensures) in
+    rw (floor_place width (to_z w64 (of_z w64 c.args.word)) c.args.head c.args.bits some) (omega (arith, ints, met))

@@ -1,61 +1,75 @@
-use Rattle.std.proofs.Common.{◌≡◌, ◌+◌, ◌-◌, ◌*◌, ◌≤◌, length, refl, ap, ◌∙◌, arith}
+use Rattle.std.proofs.Common.{◌≡◌, ◌+◌, ◌-◌, ◌*◌, ◌/◌, ◌%◌, ◌≤◌, length, refl, ap, ◌∙◌, arith}
 use Rattle.std.proofs.Math.Nat.{mul-le-mul_right}
+use Rattle.std.proofs.lemmas.Nat.{div-add-mod'}
 use Rattle.bitvec_ptr.proofs.CopyLemmas.{place_below}
-use Rattle.bitvec_ptr.proofs.GatherLemmas.{allows_elsewhere}
-use Rattle.bitvec_ptr.proofs.ListJoins.{row_less}
-use Rattle.bitvec_ptr.proofs.WriterJoins.{nothing_combined, has_combined_as, joined_falling_within}
+use Rattle.bitvec_ptr.proofs.WriterJoins.{nothing_combined, joined_falling_within}
 use Rattle.bitvec_ptr.proofs.ptr.copy.words.combine_row_falling_within.Goals as goal
 
-pub loop-done-init : goal.loop-done-init
-loop-done-init g c =
-    nothing_combined (omega arith) (omega arith)
+pub loop-block-init : goal.loop-block-init
+loop-block-init g c = nothing_combined (omega arith) (omega arith)
 
 pub words_on-read-requires-clause-short : goal.words_on-read-requires-clause-short
 words_on-read-requires-clause-short g c =
-    let less = row_less g.R.BitRegister.BITS (c.args.count - 1 - c.loop-done.done) c.args.count (omega arith) in
+    let less : (c.args.count - 4 - c.loop-block.block * 4) * g.R.BitRegister.BITS ≤ c.args.count * g.R.BitRegister.BITS =
+    mul-le-mul_right g.R.BitRegister.BITS (omega arith) in
     omega (arith, less)
 
 pub words_on-read-requires-clause-inside : goal.words_on-read-requires-clause-inside
 words_on-read-requires-clause-inside g c =
     let R = g.R.BitRegister in
-    let less = row_less R.BITS (c.args.count - 1 - c.loop-done.done) c.args.count (omega arith) in
-    place_below R.BITS (c.args.from.word * R.BITS + c.args.from.bit + (c.args.count - 1 - c.loop-done.done) * R.BITS)
-    (length c.args.writer.now.words.now) (omega (arith, g.met.R.BitRegister.width_at_least_8)) (omega (arith, less)) (omega arith)
+    let k = c.args.count - 4 - c.loop-block.block * 4 in
+    let less : k * R.BITS ≤ c.args.count * R.BITS = mul-le-mul_right R.BITS (omega arith) in
+    place_below R.BITS (c.args.from.word * R.BITS + c.args.from.bit + k * R.BITS) (length c.args.writer.now.words.now)
+    (omega (arith, g.met.R.BitRegister.width_at_least_8)) (omega (arith, less, c.requires.from_in)) (omega arith)
 
-pub combine_word_within-requires-clause-way : goal.combine_word_within-requires-clause-way
-combine_word_within-requires-clause-way g c =
+pub combine_block_falling_within-requires-clause-from_in : goal.combine_block_falling_within-requires-clause-from_in
+combine_block_falling_within-requires-clause-from_in g c =
     let R = g.R.BitRegister in
-    allows_elsewhere c.args.way R.BITS g.O.BitAt.at_of R.BITS g.O.BitAt.at_of c.args.from.bit 0 c.words_on-read.result.bit 0 c.requires.way
-    (λ w e. c.words_on-read.ensures.bit refl ∙ e)
+    let k = c.args.count - 4 - c.loop-block.block * 4 in
+    let parts = div-add-mod' c.args.count 4 in
+    let less : (k + 4) * R.BITS ≤ c.args.count * R.BITS = mul-le-mul_right R.BITS (omega (arith, parts)) in
+    let same : length c.loop-block.writer.words.now * R.BITS ≡ length c.args.writer.now.words.now * R.BITS =
+    ap (λ n. n * R.BITS) c.loop-block.invariant.len in
+    omega (arith, less, c.words_on-read.ensures.place, same, c.requires.from_in)
 
-pub combine_word_within-requires-clause-from_in : goal.combine_word_within-requires-clause-from_in
-combine_word_within-requires-clause-from_in g c =
-    let less = row_less g.R.BitRegister.BITS (c.args.count - 1 - c.loop-done.done) c.args.count (omega arith) in
-    let same : length c.loop-done.writer.words.now * g.R.BitRegister.BITS ≡ length c.args.writer.now.words.now * g.R.BitRegister.BITS =
-    ap (λ n. n * g.R.BitRegister.BITS) c.loop-done.invariant.len in
-    omega (arith, less, c.words_on-read.ensures.place, c.BITS.ensures, same, c.requires.from_in)
-
-pub loop-done-preserved : goal.loop-done-preserved
-loop-done-preserved g c =
+pub combine_few_falling_within-requires-2-clause-from_in : goal.combine_few_falling_within-requires-2-clause-from_in
+combine_few_falling_within-requires-2-clause-from_in g c =
     let R = g.R.BitRegister in
-    let done = c.loop-done.done in
-    let k = c.args.count - 1 - done in
-    let rest : c.args.count - (done + 1) ≡ k = omega arith in
-    let one : c.args.count - done ≡ k + 1 = omega arith in
-    let here : (c.args.count - (done + 1)) * R.BITS ≡ k * R.BITS = ap (λ v. v * R.BITS) rest in
-    let there : (c.args.count - done) * R.BITS ≡ k * R.BITS + R.BITS = ap (λ v. v * R.BITS) one ∙ omega arith in
-    let all : k * R.BITS + (done + 1) * R.BITS ≡ c.args.count * R.BITS =
-    (let v : k + (done + 1) ≡ c.args.count = omega arith in omega (arith, ap (λ n. n * R.BITS) v)) in
+    let parts = div-add-mod' c.args.count 4 in
+    let less : c.args.count % 4 * R.BITS ≤ c.args.count * R.BITS = mul-le-mul_right R.BITS (omega (arith, parts)) in
+    let same : length c.loop-block.writer.words.now * R.BITS ≡ length c.args.writer.now.words.now * R.BITS =
+    ap (λ n. n * R.BITS) c.loop-block.invariant.len in
+    omega (arith, less, same, c.requires.from_in)
+
+pub loop-block-preserved : goal.loop-block-preserved
+loop-block-preserved g c =
+    let R = g.R.BitRegister in
+    let block = c.loop-block.block in
+    let k = c.args.count - 4 - block * 4 in
+    let parts = div-add-mod' c.args.count 4 in
+    let rest : c.args.count - (block + 1) * 4 ≡ k = omega arith in
+    let more : c.args.count - block * 4 ≡ k + 4 = omega (arith, parts) in
+    let here : (c.args.count - (block + 1) * 4) * R.BITS ≡ k * R.BITS = ap (λ v. v * R.BITS) rest in
+    let there : (c.args.count - block * 4) * R.BITS ≡ k * R.BITS + 4 * R.BITS = ap (λ v. v * R.BITS) more ∙ omega arith in
+    let whole : k + (block + 1) * 4 ≡ c.args.count = omega (arith, parts) in
+    let all : k * R.BITS + (block + 1) * 4 * R.BITS ≡ c.args.count * R.BITS = omega (arith, ap (λ n. n * R.BITS) whole) in
     let room : (c.args.to + c.args.count) * R.BITS ≤ length c.args.writer.now.words.now * R.BITS = mul-le-mul_right R.BITS c.requires.to_in in
-    let width = c.BITS.ensures in
-    joined_falling_within c.requires.direction (omega (arith, here, c.requires.behind)) (omega (arith, here, all, room))
-    (omega (arith, here, there, width)) (omega (arith, here, there, width)) (omega (arith, here, c.words_on-read.ensures.place)) (omega (arith, here))
-    (omega (arith, rest)) (omega (arith, width)) refl c.loop-done.invariant c.combine_word_within.ensures
+    let both : 4 * R.BITS + block * 4 * R.BITS ≡ (block + 1) * 4 * R.BITS = omega arith in
+    let met : block * 4 + 4 ≡ (block + 1) * 4 = omega arith in
+    joined_falling_within c.requires.direction (omega (arith, here, c.requires.behind)) (omega (arith, here, all, room)) (omega (arith, here, there))
+    (omega (arith, here, there)) (omega (arith, here, c.words_on-read.ensures.place)) (omega (arith, here)) (omega (arith, rest)) both met
+    c.loop-block.invariant c.combine_block_falling_within.ensures
 
 pub returns : goal.returns
 returns g c =
     let R = g.R.BitRegister in
-    let none : c.args.count - c.loop-done.done ≡ 0 = omega arith in
-    let left : (c.args.count - c.loop-done.done) * R.BITS ≡ 0 = ap (λ n. n * R.BITS) none ∙ omega arith in
-    let all : c.loop-done.done ≡ c.args.count = omega arith in
-    has_combined_as (omega (arith, left)) (omega (arith, left)) (ap (λ n. n * R.BITS) all) (omega (arith, none)) all c.loop-done.invariant
+    let few = c.args.count % 4 in
+    let done = c.loop-block.block * 4 in
+    let parts = div-add-mod' c.args.count 4 in
+    let left : c.args.count - done ≡ few = omega (arith, parts) in
+    let here : (c.args.count - done) * R.BITS ≡ few * R.BITS = ap (λ v. v * R.BITS) left in
+    let whole : done + few ≡ c.args.count = omega (arith, parts) in
+    let all : few * R.BITS + done * R.BITS ≡ c.args.count * R.BITS = omega (arith, ap (λ v. v * R.BITS) whole) in
+    let room : (c.args.to + c.args.count) * R.BITS ≤ length c.args.writer.now.words.now * R.BITS = mul-le-mul_right R.BITS c.requires.to_in in
+    joined_falling_within c.requires.direction c.requires.behind (omega (arith, room)) (omega (arith, here)) (omega (arith, here)) refl refl refl all whole
+    c.loop-block.invariant c.combine_few_falling_within-2.ensures

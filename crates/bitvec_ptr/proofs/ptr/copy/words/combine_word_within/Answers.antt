@@ -1,62 +1,6 @@
-use Rattle.std.proofs.Common.{◌≡◌, ◌+◌, ◌*◌, ◌<◌, ◌≤◌, length, map, ap, ◌∙◌, arith}
-use Rattle.std.specs.Prelude.{slice_index}
-use Rattle.std.proofs.lemmas.List.{length-map, length-set, map-set}
-use Rattle.bitvec_mem.specs.Digit.{digit}
-use Rattle.bitvec_ptr.specs.Memory.{bit_of, memory_bits}
-use Rattle.bitvec_ptr.proofs.CopyLemmas.{word_is}
-use Rattle.bitvec_ptr.proofs.GatherLemmas.{IsFromPair, pair_bits, IsCombinedWord, word_combined}
 use Rattle.bitvec_ptr.proofs.ptr.copy.words.combine_word_within.Goals as goal
 
 pub returns : goal.returns
 returns g c =
-    let R = g.R.BitRegister in
-    let at = g.O.BitAt.at_of in
-    let words = c.args.writer.now.words.now in
-    let from = c.args.from in
-    let to = c.args.to in
-    let of = g.C.Combine.of in
-    let below = g.met.O.BitOrder.one_to_one.below in
-    let s = from.word * R.BITS + from.bit in
-    let bit = c.args.bit in
-    let old = c.get-old.result in
-    let word = c.word in
-    let with = c.gathered_from_pair-ours in
     let pair = c.pair_in-low in
-    let most : from.bit < R.BITS = omega (arith, g.met.R.BitRegister.width_at_least_8) in
-    let end : c.args.count ≤ R.BITS = omega arith in
-    let was : R.number c.get-old.result ≡ slice_index (map R.number words) to =
-    word_is R.number words to c.get-old.result c.requires.to_in c.get-old.ensures in
-    let long = length-map words R.number in
-    let room : to < length (map R.number words) = omega (arith, long, c.requires.to_in) in
-    let holds : from.word * R.BITS + from.bit + c.args.count ≤ length (map R.number words) * R.BITS =
-    omega (arith, c.requires.from_in, ap (λ n. n * R.BITS) long) in
-    let both : IsFromPair R.BITS at at from.bit bit c.args.count (R.number with.result) (R.number pair.result.0) (R.number pair.result.1) =
-    record { most = most; end = end; first = with.ensures.low; second = with.ensures.high } in
-    let gathers = pair_bits both (map R.number words) from.word pair.ensures.low pair.ensures.high in
-    let combined : IsCombinedWord of R.BITS at (map R.number words) s R.BITS at (map R.number words) to bit c.args.count (R.number word.result) =
-    record {
-      some = c.requires.some;
-      end = c.requires.bit_in;
-      inside = room;
-      has = holds;
-      digits = λ j h.
-          word.ensures (at (bit + j)) (below (bit + j) (omega arith))
-          ∙ ap (λ b. of (digit (R.number old) (at (bit + j))) b) (gathers j h)
-          ∙ ap (λ n. of (digit n (at (bit + j))) (bit_of R.BITS at (map R.number words) (s + j))) was;
-      others = λ j h u.
-          word.ensures (at j) (below j h)
-          ∙ ap (λ b. of (digit (R.number old) (at j)) b) (with.ensures.outside j h u)
-          ∙ c.ground.ensures (at j) (below j h)
-          ∙ ap (λ n. digit n (at j)) was;
-    } in
-    record {
-      reference = c.put.ensures.reference;
-      direction = c.put.ensures.direction;
-      len = ap length c.put.ensures.words ∙ length-set words to word.result;
-      writes = c.put.ensures.writes;
-      rising_mark = c.put.ensures.rising_mark;
-      falling_mark = c.put.ensures.falling_mark;
-      bits = ap (λ w. memory_bits R.BITS at (map R.number w)) c.put.ensures.words
-          ∙ ap (memory_bits R.BITS at) (map-set R.number words to word.result)
-          ∙ word_combined combined;
-    }
+    c.combine_pair.ensures c.args.writer.now.words.now c.args.from.word c.requires.from_in pair.ensures.low pair.ensures.high

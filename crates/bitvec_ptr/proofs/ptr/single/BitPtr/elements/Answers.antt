@@ -1,7 +1,8 @@
-use Rattle.std.proofs.Common.{arith}
-use Rattle.bitvec_ptr.proofs.PlaceLemmas.{words_met-from_span}
+use Rattle.std.proofs.Common.{◌<◌, ◌∙◌, arith}
+use Rattle.bitvec_ptr.proofs.PlaceLemmas.{met_split}
 use Rattle.bitvec_ptr.proofs.ptr.single.BitPtr.elements.Goals as goal
 
 pub returns : goal.returns
 returns g c =
-    words_met-from_span g.R.BitRegister.BITS c.bit.result c.args.self.bit c.args.count c.span.result.0 (omega (arith, g.met.R.BitRegister.width_at_least_8)) c.bit.ensures.value (λ e. (c.span.ensures.empty e).0) c.span.ensures.elements
+    met_split g.R.BitRegister.BITS c.from-width.result c.args.self.bit c.from.result c.args.count (c.from-width.ensures ∙ c.BITS.ensures)
+    c.from.ensures (omega (arith, g.met.R.BitRegister.width_at_least_8)) (omega arith)
