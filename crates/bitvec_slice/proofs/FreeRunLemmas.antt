@@ -198,14 +198,6 @@ starts_none test starts have count short are none i = (
   (λ all. (are i).1 (λ j from upto. all j from (omega arith))),
 )
 
--- the loop over longer and longer runs ends with all, or with none
-pub starts_end : (test starts : ℕ → Bool) (have count : ℕ) → have ≤ count → AreStarts test have starts → (have < count → (i : ℕ) → starts i ≡ false) → AreStarts test count starts
-starts_end test starts have count short are none =
-    elim (cases_lt have count) [
-      | inl less ↦ starts_none test starts have count short are (none less)
-      | inr most ↦ (let e : have ≡ count = omega arith in subst (λ n. AreStarts test n starts) e are)
-    ]
-
 -- ---- a run in a word, with those that pass before it
 
 pub behind-first : (before : ℕ) (test : ℕ → Bool) (t : ℕ) → t < before → behind before test t ≡ true

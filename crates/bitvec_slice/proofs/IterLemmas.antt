@@ -1,6 +1,6 @@
 -- What runs of calls give of an iterator whose state shows the list of what is left, and the first and the last bit of a
 -- range of a span.
-use Rattle.std.proofs.Common.{◌≡◌, ℕ, suc, ◌+◌, ◌-◌, ◌*◌, ◌/◌, ◌%◌, ◌<◌, ◌≤◌, Bool, false, List, [], ◌∷◌, ◌++◌, length, take, drop, sym, ap, ◌∙◌, arith, length-drop, get_or-drop}
+use Rattle.std.proofs.Common.{◌≡◌, ℕ, suc, ◌+◌, ◌-◌, ◌*◌, ◌/◌, ◌%◌, ◌<◌, ◌≤◌, Bool, false, List, [], ◌∷◌, ◌++◌, length, take, drop, refl, sym, ap, ◌∙◌, arith, length-drop, get_or-drop}
 use Rattle.std.specs.Prelude.{pos, ◌+ℤ◌}
 use Rattle.std.specs.Iterator.{YieldsFirst, YieldsLast}
 use Rattle.std.specs.Iterator.Runs.{YieldsInOrder, YieldsInReverse}
@@ -8,7 +8,7 @@ use Rattle.std.proofs.Math.Seq.{drop-cons, take-suc}
 use Rattle.std.proofs.iter.runs.Sources.{from_front, from_back, as_is, as_is_back}
 use Rattle.std.proofs.lemmas.Int.{ints}
 use Rattle.std.proofs.lemmas.Nat.{div-add-mod', div-mul-add, mod-mul-add}
-use Rattle.bitvec.specs.Span.{Span, Fits, element, list_of, span_from, span_range}
+use Rattle.bitvec.specs.Span.{Span, Fits, element, list_of, span_from, span_range, span_upto}
 use Rattle.bitvec.proofs.BecomesLemmas.{range-list}
 use Rattle.bitvec.proofs.MemoryLemmas.{place_parts}
 use Rattle.bitvec.proofs.PartLemmas.{length-list_of}
@@ -47,6 +47,10 @@ range_whole bits span to in_head all =
     let words : span.word +ℤ pos ((span.head + 0) / bits) ≡ span.word = omega (arith, ints, none) in
     let lens : to - 0 ≡ span.len = omega (arith, all) in
     λ i. record { word = words i; head = heads i; len = lens i }
+
+-- the range of the bits before a bit
+pub range_upto : (bits : ℕ) (span : Span) (to : ℕ) → span.head < bits → span_range bits span 0 to ≡ span_upto span to
+range_upto bits span to in_head = range_whole bits (span_upto span to) to in_head refl
 
 -- the first of the elements from number `from` to before number `to`, and those behind it
 first_between : (xs : List Bool) (from to : ℕ) → from < to → to ≤ length xs → take (to - from) (drop from xs) ≡ element xs from ∷ take (to - (from + 1)) (drop (from + 1) xs)

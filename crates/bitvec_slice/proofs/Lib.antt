@@ -2,6 +2,7 @@ pub mod ByteNumbers
 pub mod EditRangeLemmas
 mod FieldJoinLemmas
 pub mod FieldLemmas
+mod FieldNearLemmas
 pub mod FieldStoreLemmas
 pub mod FindLemmas
 pub mod FreeRunLemmas
@@ -10,13 +11,15 @@ mod IterLemmas
 pub mod ListCountLemmas
 mod ListEdits
 mod NextLemmas
+mod NumberWordLemmas
 pub mod OnesLemmas
 mod PartMasks
 pub mod PatternLemmas
 mod PieceLemmas
 mod QuestionLemmas
-mod RunLemmas
+pub mod RunLemmas
 pub mod SameBitLemmas
+mod SamePlaceLemmas
 mod SetLemmas
 pub mod SignedLemmas
 mod SkipLemmas

@@ -1,5 +1,5 @@
 -- Lists compared and combined element by element.
-use Rattle.std.proofs.Common.{◌≡◌, ◌↔◌, ℕ, ◌<◌, Bool, false, List, length, sym, ap, ◌∙◌, arith}
+use Rattle.std.proofs.Common.{◌≡◌, ◌↔◌, Bool, false, List, length, ap, ◌∙◌, arith}
 use Rattle.std.proofs.lemmas.List.{ext_get_or}
 use Rattle.bitvec.specs.Memory.{zip_with}
 use Rattle.bitvec.specs.Span.{element}

@@ -1,9 +1,9 @@
 -- Digits of truth values as texts.
-use Rattle.std.proofs.Common.{◌≡◌, ℕ, Bool, true, false, List, [], ◌∷◌, ◌==◌, ◌<◌, ◌⊎◌, inl, inr, map, length, refl, sym, ap, subst, ◌∙◌, arith, add-one, ◌+◌}
+use Rattle.std.proofs.Common.{◌≡◌, ℕ, Bool, true, false, List, [], ◌∷◌, ◌==◌, ◌<◌, inl, inr, length, refl, sym, subst, arith, add-one, ◌+◌}
 use Rattle.std.specs.declared.fmt.Error.{Error}
 use Rattle.std.specs.declared.fmt.Formatter.{Formatter}
 use Rattle.std.specs.Prelude.{Result, slice_index}
-use Rattle.std.specs.Fmt.{HasWrittenStyled, HasWritten, WritesStyledOnOk, WritesOnOk, IsDefaultSpec, IsPlainFormatter}
+use Rattle.std.specs.Fmt.{HasWrittenStyled, WritesStyledOnOk, WritesOnOk, IsDefaultSpec}
 use Rattle.bitvec.specs.Numeral.{numeral}
 use Rattle.bitvec.specs.Span.{element}
 use Rattle.std.proofs.lemmas.List.{length-map, get_or-map}

@@ -7,6 +7,7 @@ pub mod Field
 pub mod FreeRuns
 pub mod Iter
 pub mod Lengths
+pub mod Numbers
 pub mod Ones
 pub mod Patterns
 pub mod PieceIters

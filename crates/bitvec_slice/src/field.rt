@@ -13,8 +13,9 @@ ghost use Rattle.bitvec.specs.Place.{words_met};
 ghost use Rattle.bitvec.specs.Span.{Fits, element, with_word};
 ghost use Rattle.bitvec_slice.specs.Field.{IsSequential, stretch_start, stretch_end};
 ghost use Rattle.bitvec_slice.specs.Field.{digit_place, field_number, field_list};
-ghost use Rattle.bitvec_slice.specs.Words.{merged_digit};
+ghost use Rattle.bitvec_slice.specs.Words.{merged_digit, digit_from};
 
+mod digits;
 mod signed;
 
 pub use self::signed::SignedNumber;
@@ -122,21 +123,27 @@ fn place<R: BitRegister, O, N: BitRegister>(span: BitSpan<R, O>, k: usize, big: 
 fn low_ones<R: BitRegister>(count: usize) -> R
     requires some { 0 < count }
     requires within { count ≤ R.BITS }
-    ensures { (p : ℕ) → p < R.BITS → digit (R.number result) p ≡ nat_lt p count }
+    ensures below { R.number result < 2 ^ R.BITS }
+    ensures digits { (p : ℕ) → p < R.BITS → digit (R.number result) p ≡ nat_lt p count }
 {
     R::ALL.shr(R::BITS - count as u8)
 }
 
 // The `k`-th word that a span meets, whole.
 #[inline(always)]
-fn word_met<R: BitRegister, O: BitOrder<R>>(span: BitSpan<R, O>, memory: &[R], k: usize) -> R
+pub(crate) fn word_met<R: BitRegister, O: BitOrder<R>>(
+    span: BitSpan<R, O>,
+    memory: &[R],
+    k: usize,
+) -> R
     requires fits { Fits R.BITS (span_of span) (length memory.now) }
     requires met { k < words_met R.BITS (span_of span).head (span_of span).len }
     ensures { (j : ℕ) → j < (span_of span).len → ((span_of span).head + j) / R.BITS ≡ k
         → digit (R.number result) (O.at_of (((span_of span).head + j) % R.BITS))
         ≡ element (list_by span O.at_of memory.now) j }
 {
-    memory[span.address() as usize + k]
+    let words = &memory[span.address() as usize..];
+    words[k]
 }
 
 // The part of the `k`-th word that a span meets, as a number.
@@ -286,6 +293,17 @@ fn load<R: BitRegister, O: Sequential<R>, N: BitRegister>(
     load_words(span, memory, big)
 }
 
+// The lowest digits of a number, as many as a word has.
+#[inline(always)]
+fn low_digits<R: BitRegister, N: BitRegister>(value: N) -> R
+    ensures below { R.number result < 2 ^ R.BITS }
+    ensures digits { (p : ℕ) → p < R.BITS
+        → digit (R.number result) p ≡ digit (N.number value) p }
+{
+    let digits = value.to_u128() & R::ALL.to_u128();
+    R::from_u128(digits).unwrap()
+}
+
 // The digits of a number that lie in the `k`-th word's part, where they lie in that word.
 #[inline(always)]
 fn word_digits<R: BitRegister, O: Sequential<R>, N: BitRegister>(
@@ -301,9 +319,8 @@ fn word_digits<R: BitRegister, O: Sequential<R>, N: BitRegister>(
         ≡ digit (N.number value)
         (digit_place big R.BITS O.RISES (span_of span).head (span_of span).len j) }
 {
-    let digits = value.shr(place::<R, O, N>(span, k, big)).to_u128();
-    let part = digits & R::ALL.to_u128();
-    R::from_u128(part).unwrap().shl(shift::<R, O>(span, k))
+    let part = value.shr(place::<R, O, N>(span, k, big));
+    low_digits::<R, N>(part).shl(shift::<R, O>(span, k))
 }
 
 // The positions of the bits that the `k`-th word has of a span, as a word whose digits there are one.
@@ -383,6 +400,71 @@ fn store_words<R: BitRegister, O: Sequential<R>, N: BitRegister>(
     }
 }
 
+// The lowest digits of a word in their order, as many as a span of at most a word's bits has, where
+// its first word has the span. A word's other digits stand beside them.
+#[inline(always)]
+fn in_first<R: BitRegister, O: Sequential<R>>(span: BitSpan<R, O>, word: R) -> R
+    requires some { 0 < (span_of span).len }
+    requires near { (span_of span).len ≤ R.BITS }
+    requires below { R.number word < 2 ^ R.BITS }
+    ensures { (i : ℕ) → i < R.BITS → digit (R.number result) (O.at_of i)
+        ≡ digit_from O.RISES (span_of span).head (span_of span).len (R.number word) i }
+{
+    let head = span.head().into_inner();
+    if O::RISES {
+        return word.shl(head);
+    }
+    let end = head + span.len() as u8;
+    if end <= R::BITS {
+        word.shl(R::BITS - end)
+    } else {
+        word.shr(end - R::BITS)
+    }
+}
+
+// The same where its second word has the span.
+#[inline(always)]
+fn in_second<R: BitRegister, O: Sequential<R>>(span: BitSpan<R, O>, word: R) -> R
+    requires near { (span_of span).len ≤ R.BITS }
+    requires over { R.BITS < (span_of span).head + (span_of span).len }
+    requires below { R.number word < 2 ^ R.BITS }
+    ensures { (i : ℕ) → i < R.BITS → digit (R.number result) (O.at_of i)
+        ≡ digit_from O.RISES (span_of span).head (span_of span).len (R.number word) (R.BITS + i) }
+{
+    let head = span.head().into_inner();
+    if O::RISES {
+        return word.shr(R::BITS - head);
+    }
+    let over = head + span.len() as u8 - R::BITS;
+    word.shl(R::BITS - over)
+}
+
+// Makes the bits of a span of at most a word's bits the lowest digits of a number in their order, in
+// one word or in two, and changes no other bit.
+#[inline(always)]
+fn store_near<R: BitRegister, O: Sequential<R>, N: BitRegister>(
+    span: BitSpan<R, O>,
+    memory: &mut [R],
+    value: N,
+)
+    requires fits { Fits R.BITS (span_of span) (length memory.old) }
+    requires some { 0 < (span_of span).len }
+    requires near { (span_of span).len ≤ R.BITS }
+    ensures { Becomes span O.at_of memory.old memory.new
+        (field_list (not O.RISES) R.BITS O.RISES (span_of span).head (span_of span).len
+        (N.number value)) }
+{
+    let digits = low_digits::<R, N>(value);
+    let ones = low_ones::<R>(span.len());
+    let end = usize::from(span.head().into_inner()) + span.len();
+    let (word, mask) = (in_first(span, digits), in_first(span, ones));
+    put_word(span, memory, 0, word, mask);
+    if usize::from(R::BITS) < end {
+        let (word, mask) = (in_second(span, digits), in_second(span, ones));
+        put_word(span, memory, 1, word, mask);
+    }
+}
+
 // Makes the bits of a span the digits of a number, a part of a word at a time, and changes no other
 // bit.
 #[inline(always)]
@@ -397,6 +479,10 @@ fn store_digits<R: BitRegister, O: Sequential<R>, N: BitRegister>(
     ensures { Becomes span O.at_of memory.old memory.new
         (field_list big R.BITS O.RISES (span_of span).head (span_of span).len (N.number value)) }
 {
+    let width = usize::from(R::BITS);
+    if O::RISES != big && 0 < span.len() && span.len() <= width {
+        return store_near(span, memory, value);
+    }
     let elements = span.elements();
     if elements == 1 {
         store_part(span, memory, 0, value, big);

@@ -354,3 +354,19 @@ fn a_run_of_zeros_at_a_multiple(rt: HostRuntime) {
     assert_eq!(rt; slice.find_zeros_from(10, 3, 4), None);
     assert_eq!(rt; slice.find_zeros_from(10, 3, 1), Some(13));
 }
+
+#[test]
+fn numbers_under_any_order(rt: HostRuntime) {
+    let memory = [0x2Cu8];
+    let slice = BitSlice::<u8, Msb0>::all_unchecked(&memory);
+    assert_eq!(rt; slice.load_digits_le::<u32>(2, 6), 13);
+    assert_eq!(rt; slice.load_digits_be::<u32>(2, 6), 11);
+}
+
+#[test]
+fn a_number_stored_under_any_order(rt: HostRuntime) {
+    let mut memory = [0x00u8];
+    let mut slice = BitSliceMut::<u8, Msb0>::all_unchecked(&mut memory);
+    slice.store_digits_le(2, 6, 13u32);
+    assert_eq!(rt; memory, [0x2C]);
+}

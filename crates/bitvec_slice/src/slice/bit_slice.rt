@@ -3,13 +3,25 @@
 ghost use Rattle.std.specs.Prelude.{◌≡◌, ⊤, ◌-◌, ◌<◌, ◌↔◌, IsTrue, IsSome, IfSome, MatchOption};
 ghost use Rattle.std.specs.Prelude.{length, map, slice_get};
 ghost use Rattle.bitvec.specs.BitSpan.{span_of, list_by};
+ghost use Rattle.bitvec.specs.Digit.{digit};
 ghost use Rattle.bitvec.specs.Span.{Fits, element};
 ghost use Rattle.bitvec_slice.specs.Lengths.{HasLength};
 
+use crate::field::word_met;
+use bitvec::index::{BitIdx, BitMask};
+use bitvec::mem;
 use bitvec::mem::BitRegister;
 use bitvec::order::BitOrder;
 use bitvec::ptr::span::BitSpan;
 use std::alloc::AllocError;
+
+// The digit of a word at the position of an index.
+#[inline(always)]
+fn bit_at<R: BitRegister, O: BitOrder<R>>(word: R, index: BitIdx<R>) -> bool
+    ensures { result ≡ digit (R.number word) (O.at_of index) }
+{
+    BitMask::new(word).test(index.select::<O>())
+}
 
 /// The bits of a span in a memory, for reading.
 ///
@@ -93,7 +105,10 @@ impl<'a, R: BitRegister, O: BitOrder<R>> BitSlice<'a, R, O> {
         requires { i < slice_len self.now }
         ensures { result ≡ element (bits_of self.now) i }
     {
-        self.span.read(self.memory, i)
+        let width = mem::bits_of::<R>();
+        let place = self.head() + i;
+        let word = word_met(self.span, self.memory, place / width);
+        bit_at::<R, O>(word, BitIdx::new_unchecked((place % width) as u8))
     }
 
     /// The first bit, and `None` where there are no bits. Constant time.

@@ -62,7 +62,7 @@ impl<'a, R: BitRegister, O: BitOrder<R>> BitSliceMut<'a, R, O> {
     pub(crate) fn span(&self) -> BitSpan<R, O>
         ensures { span_of result ≡ lent_span self.now }
     {
-        BitSpan::new(self.word(), BitIdx::new_unchecked(self.head), self.len).unwrap()
+        BitSpan::new_unchecked(self.word(), BitIdx::new_unchecked(self.head), self.len)
     }
 
     /// The bits of a span in a memory. Requires that the span lies in it: [`fits`](BitSpan::fits)

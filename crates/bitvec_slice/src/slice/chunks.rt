@@ -1,11 +1,12 @@
 //! The pieces of a slice, each of one number of bits: from its front or from its back on.
 
-ghost use Rattle.std.specs.Prelude.{◌≡◌, ⊤, ◌-◌, ◌%◌, ◌<◌, Some, length, take, drop, IfSome};
+ghost use Rattle.std.specs.Prelude.{◌≡◌, ⊤, ◌-◌, ◌%◌, ◌<◌, Some, length, min, take, drop, IfSome};
 ghost use Rattle.std.specs.Iterator.{YieldsFirstBy, YieldsLastBy, item_count, at_most, UpTo};
+ghost use Rattle.std.specs.Iterator.{MakesProgress};
 ghost use Rattle.std.specs.Iterator.SizeHint.{IsWithinCount};
 ghost use Rattle.std.specs.Slice.Iter.{chunk_count};
-ghost use Rattle.bitvec_slice.specs.BitSlice.{bits_of};
-ghost use Rattle.bitvec_slice.specs.Pieces.{chunks_of, rchunks_of};
+ghost use Rattle.bitvec_slice.specs.BitSlice.{slice_len, bits_of};
+ghost use Rattle.bitvec_slice.specs.Pieces.{chunks_of, rchunks_of, last_start};
 
 use crate::slice::BitSlice;
 use bitvec::mem::BitRegister;
@@ -132,24 +133,33 @@ impl<'a, R: BitRegister, O: BitOrder<R>> Clone for ChunksExact<'a, R, O> {
 }
 
 impl<'a, R: BitRegister, O: BitOrder<R>> ChunksExact<'a, R, O> {
-    ghost use Rattle.bitvec_slice.specs.PieceIters.{chunks_remainder};
+    ghost use Rattle.bitvec_slice.specs.PieceIters.{chunks_remainder, remainder_of};
 
     /// The bits behind the last whole piece. Constant time. As in the Rust crate.
     pub fn remainder(&self) -> BitSlice<'a, R, O>
-        ensures { bits_of result ≡ chunks_remainder self.now }
+        ensures bits { bits_of result ≡ chunks_remainder self.now }
+        ensures place { result ≡ remainder_of self.now }
     {
         self.remainder
     }
 }
 
 impl<'a, R: BitRegister, O: BitOrder<R>> BitSlice<'a, R, O> {
-    ghost use Rattle.bitvec_slice.specs.PieceIters.{chunks_left, rchunks_left, chunks_exact_left, chunks_remainder};
+    ghost use Rattle.bitvec_slice.specs.PieceIters.{chunks_left, chunks_rest, chunks_size};
+    ghost use Rattle.bitvec_slice.specs.PieceIters.{rchunks_left, rchunks_rest, rchunks_size};
+    ghost use Rattle.bitvec_slice.specs.PieceIters.{chunks_exact_left, chunks_remainder};
+    ghost use Rattle.bitvec_slice.specs.PieceIters.{chunks_exact_rest, chunks_exact_size};
+    ghost use Rattle.bitvec_slice.specs.PieceIters.{remainder_of, IsRangeOf};
 
     /// The bits in pieces of `n`, from the first bit on; the last piece has what is left. Requires
     /// that `n` is not 0. Constant time, and so is each call of `next`. As in the Rust crate.
     pub fn chunks(&self, n: usize) -> Chunks<'a, R, O>
         requires { 0 < n }
-        ensures { chunks_left result ≡ chunks_of n (bits_of self.now) }
+        ensures pieces { chunks_left result ≡ chunks_of n (bits_of self.now) }
+
+        // They lie where the slice lies.
+        ensures rest { chunks_rest result ≡ self.now }
+        ensures size { chunks_size result ≡ n }
     {
         Chunks {
             rest: *self,
@@ -166,6 +176,13 @@ impl<'a, R: BitRegister, O: BitOrder<R>> BitSlice<'a, R, O> {
             in chunks_exact_left result ≡ chunks_of n (take (length xs - length xs % n) xs) }
         ensures remainder { let xs = bits_of self.now
             in chunks_remainder result ≡ drop (length xs - length xs % n) xs }
+
+        // They lie where the slice lies, and the remainder behind them.
+        ensures rest { let len = slice_len self.now
+            in IsRangeOf self.now 0 (len - len % n) (chunks_exact_rest result) }
+        ensures size { chunks_exact_size result ≡ n }
+        ensures behind { let len = slice_len self.now
+            in IsRangeOf self.now (len - len % n) len (remainder_of result) }
     {
         let len = self.len();
         let (whole, remainder) = self.split_at(len - len % n);
@@ -180,7 +197,11 @@ impl<'a, R: BitRegister, O: BitOrder<R>> BitSlice<'a, R, O> {
     /// `next`. As in the Rust crate.
     pub fn rchunks(&self, n: usize) -> RChunks<'a, R, O>
         requires { 0 < n }
-        ensures { rchunks_left result ≡ rchunks_of n (bits_of self.now) }
+        ensures pieces { rchunks_left result ≡ rchunks_of n (bits_of self.now) }
+
+        // They lie where the slice lies.
+        ensures rest { rchunks_rest result ≡ self.now }
+        ensures size { rchunks_size result ≡ n }
     {
         RChunks {
             rest: *self,
@@ -192,13 +213,25 @@ impl<'a, R: BitRegister, O: BitOrder<R>> BitSlice<'a, R, O> {
 impl<'a, R: BitRegister, O: BitOrder<R>> Iterator for Chunks<'a, R, O> {
     type Item = BitSlice<'a, R, O>;
 
-    ghost use Rattle.bitvec_slice.specs.PieceIters.{chunks_left};
+    ghost use Rattle.bitvec_slice.specs.PieceIters.{chunks_left, chunks_rest, chunks_size};
+    ghost use Rattle.bitvec_slice.specs.PieceIters.{TakesFirst};
 
     ghost next_gives = { YieldsFirstBy bits_of chunks_left };
 
     ghost remaining = { item_count chunks_left };
 
-    fn next(&mut self) -> Option<BitSlice<'a, R, O>> {
+    /// Takes the first of the pieces that are left.
+    fn next(&mut self) -> Option<BitSlice<'a, R, O>>
+        ensures steps { YieldsFirstBy bits_of chunks_left self.old result self.new }
+        ensures goes { MakesProgress (λ _. ⊤) (item_count chunks_left)
+            self.old result self.new }
+
+        // The piece is the first bits of what is left, and then those behind it are left.
+        ensures place { let left = chunks_rest self.old
+            in let cut = min (chunks_size self.old) (slice_len left)
+            in TakesFirst left cut cut result (chunks_rest self.new) }
+        ensures size { chunks_size self.new ≡ chunks_size self.old }
+    {
         let len = self.rest.len();
         if len == 0 {
             return None;
@@ -219,11 +252,23 @@ impl<'a, R: BitRegister, O: BitOrder<R>> Iterator for Chunks<'a, R, O> {
 }
 
 impl<'a, R: BitRegister, O: BitOrder<R>> DoubleEndedIterator for Chunks<'a, R, O> {
-    ghost use Rattle.bitvec_slice.specs.PieceIters.{chunks_left};
+    ghost use Rattle.bitvec_slice.specs.PieceIters.{chunks_left, chunks_rest, chunks_size};
+    ghost use Rattle.bitvec_slice.specs.PieceIters.{TakesLast};
 
     ghost next_back_gives = { YieldsLastBy bits_of chunks_left };
 
-    fn next_back(&mut self) -> Option<BitSlice<'a, R, O>> {
+    /// Takes the last of the pieces that are left.
+    fn next_back(&mut self) -> Option<BitSlice<'a, R, O>>
+        ensures steps { YieldsLastBy bits_of chunks_left self.old result self.new }
+        ensures goes { MakesProgress (λ _. ⊤) (item_count chunks_left)
+            self.old result self.new }
+
+        // The piece is the last bits of what is left, and then those before it are left.
+        ensures place { let left = chunks_rest self.old
+            in let cut = last_start (chunks_size self.old) (slice_len left)
+            in TakesLast left cut cut result (chunks_rest self.new) }
+        ensures size { chunks_size self.new ≡ chunks_size self.old }
+    {
         let len = self.rest.len();
         if len == 0 {
             return None;
@@ -246,13 +291,25 @@ impl<'a, R: BitRegister, O: BitOrder<R>> FusedIterator for Chunks<'a, R, O> {}
 impl<'a, R: BitRegister, O: BitOrder<R>> Iterator for RChunks<'a, R, O> {
     type Item = BitSlice<'a, R, O>;
 
-    ghost use Rattle.bitvec_slice.specs.PieceIters.{rchunks_left};
+    ghost use Rattle.bitvec_slice.specs.PieceIters.{rchunks_left, rchunks_rest, rchunks_size};
+    ghost use Rattle.bitvec_slice.specs.PieceIters.{TakesLast};
 
     ghost next_gives = { YieldsFirstBy bits_of rchunks_left };
 
     ghost remaining = { item_count rchunks_left };
 
-    fn next(&mut self) -> Option<BitSlice<'a, R, O>> {
+    /// Takes the first of the pieces that are left.
+    fn next(&mut self) -> Option<BitSlice<'a, R, O>>
+        ensures steps { YieldsFirstBy bits_of rchunks_left self.old result self.new }
+        ensures goes { MakesProgress (λ _. ⊤) (item_count rchunks_left)
+            self.old result self.new }
+
+        // The piece is the last bits of what is left, and then those before it are left.
+        ensures place { let left = rchunks_rest self.old
+            in let cut = slice_len left - rchunks_size self.old
+            in TakesLast left cut cut result (rchunks_rest self.new) }
+        ensures size { rchunks_size self.new ≡ rchunks_size self.old }
+    {
         let len = self.rest.len();
         if len == 0 {
             return None;
@@ -273,11 +330,23 @@ impl<'a, R: BitRegister, O: BitOrder<R>> Iterator for RChunks<'a, R, O> {
 }
 
 impl<'a, R: BitRegister, O: BitOrder<R>> DoubleEndedIterator for RChunks<'a, R, O> {
-    ghost use Rattle.bitvec_slice.specs.PieceIters.{rchunks_left};
+    ghost use Rattle.bitvec_slice.specs.PieceIters.{rchunks_left, rchunks_rest, rchunks_size};
+    ghost use Rattle.bitvec_slice.specs.PieceIters.{TakesFirst};
 
     ghost next_back_gives = { YieldsLastBy bits_of rchunks_left };
 
-    fn next_back(&mut self) -> Option<BitSlice<'a, R, O>> {
+    /// Takes the last of the pieces that are left.
+    fn next_back(&mut self) -> Option<BitSlice<'a, R, O>>
+        ensures steps { YieldsLastBy bits_of rchunks_left self.old result self.new }
+        ensures goes { MakesProgress (λ _. ⊤) (item_count rchunks_left)
+            self.old result self.new }
+
+        // The piece is the first bits of what is left, and then those behind it are left.
+        ensures place { let left = rchunks_rest self.old in let len = slice_len left
+            in let cut = len - last_start (rchunks_size self.old) len
+            in TakesFirst left cut cut result (rchunks_rest self.new) }
+        ensures size { rchunks_size self.new ≡ rchunks_size self.old }
+    {
         let len = self.rest.len();
         if len == 0 {
             return None;
@@ -300,20 +369,35 @@ impl<'a, R: BitRegister, O: BitOrder<R>> FusedIterator for RChunks<'a, R, O> {}
 impl<'a, R: BitRegister, O: BitOrder<R>> Iterator for ChunksExact<'a, R, O> {
     type Item = BitSlice<'a, R, O>;
 
-    ghost use Rattle.bitvec_slice.specs.PieceIters.{chunks_exact_left};
+    ghost use Rattle.bitvec_slice.specs.PieceIters.{chunks_exact_left, chunks_exact_rest};
+    ghost use Rattle.bitvec_slice.specs.PieceIters.{chunks_exact_size, remainder_of};
+    ghost use Rattle.bitvec_slice.specs.PieceIters.{TakesFirst};
 
     ghost next_gives = { YieldsFirstBy bits_of chunks_exact_left };
 
     ghost remaining = { item_count chunks_exact_left };
 
-    fn next(&mut self) -> Option<BitSlice<'a, R, O>> {
+    /// Takes the first of the pieces that are left.
+    fn next(&mut self) -> Option<BitSlice<'a, R, O>>
+        ensures steps { YieldsFirstBy bits_of chunks_exact_left self.old result self.new }
+        ensures goes { MakesProgress (λ _. ⊤) (item_count chunks_exact_left)
+            self.old result self.new }
+
+        // The piece is the first bits of what is left, and then those behind it are left.
+        ensures place { let left = chunks_exact_rest self.old
+            in let cut = min (chunks_exact_size self.old) (slice_len left)
+            in TakesFirst left cut cut result (chunks_exact_rest self.new) }
+        ensures size { chunks_exact_size self.new ≡ chunks_exact_size self.old }
+        ensures behind { remainder_of self.new ≡ remainder_of self.old }
+    {
         self.whole.next()
     }
 
     fn size_hint(&self) -> (usize, Option<usize>)
         ensures lower { IsWithinCount result.0 (at_most (length (chunks_exact_left self.now))) }
         ensures upper { IfSome result.1 (UpTo (at_most (length (chunks_exact_left self.now)))) }
-        ensures exact { (result.0 ≡ length (chunks_exact_left self.now)) × (result.1 ≡ Some result.0) }
+        ensures exact { (result.0 ≡ length (chunks_exact_left self.now))
+            × (result.1 ≡ Some result.0) }
     {
         let left = self.len();
         (left, Some(left))
@@ -321,11 +405,25 @@ impl<'a, R: BitRegister, O: BitOrder<R>> Iterator for ChunksExact<'a, R, O> {
 }
 
 impl<'a, R: BitRegister, O: BitOrder<R>> DoubleEndedIterator for ChunksExact<'a, R, O> {
-    ghost use Rattle.bitvec_slice.specs.PieceIters.{chunks_exact_left};
+    ghost use Rattle.bitvec_slice.specs.PieceIters.{chunks_exact_left, chunks_exact_rest};
+    ghost use Rattle.bitvec_slice.specs.PieceIters.{chunks_exact_size, remainder_of};
+    ghost use Rattle.bitvec_slice.specs.PieceIters.{TakesLast};
 
     ghost next_back_gives = { YieldsLastBy bits_of chunks_exact_left };
 
-    fn next_back(&mut self) -> Option<BitSlice<'a, R, O>> {
+    /// Takes the last of the pieces that are left.
+    fn next_back(&mut self) -> Option<BitSlice<'a, R, O>>
+        ensures steps { YieldsLastBy bits_of chunks_exact_left self.old result self.new }
+        ensures goes { MakesProgress (λ _. ⊤) (item_count chunks_exact_left)
+            self.old result self.new }
+
+        // The piece is the last bits of what is left, and then those before it are left.
+        ensures place { let left = chunks_exact_rest self.old
+            in let cut = last_start (chunks_exact_size self.old) (slice_len left)
+            in TakesLast left cut cut result (chunks_exact_rest self.new) }
+        ensures size { chunks_exact_size self.new ≡ chunks_exact_size self.old }
+        ensures behind { remainder_of self.new ≡ remainder_of self.old }
+    {
         self.whole.next_back()
     }
 }

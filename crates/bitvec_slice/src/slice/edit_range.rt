@@ -24,7 +24,7 @@ impl<'a, R: BitRegister, O: BitOrder<R>> BitSliceMut<'a, R, O> {
 
     // The span of the bits from number `from` to before number `to`. An edit of its list is an edit
     // of that stretch of the slice's.
-    fn part(&self, from: usize, to: usize) -> BitSpan<R, O>
+    pub(crate) fn part(&self, from: usize, to: usize) -> BitSpan<R, O>
         requires ordered { from ≤ to }
         requires inside { to ≤ lent_len self.now }
         ensures fits { Fits R.BITS (span_of result) (length (lent_memory self.now).now) }

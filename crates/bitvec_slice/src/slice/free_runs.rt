@@ -97,12 +97,14 @@ fn starts_in<R: BitRegister>(word: R, count: u8, rises: bool) -> R
     let mut starts = word;
     // A one of `starts` is the first of `have` zeros.
     let mut have: u8 = 1;
-    while have < count && starts != R::ZERO {
-        let by = have.min(count - have);
-        starts = starts.and(brought_back(starts, by, rises));
-        have += by;
+    while have < count - have {
+        starts = starts.and(brought_back(starts, have, rises));
+        have += have;
+        if starts.to_u128() == 0 {
+            return starts;
+        }
     }
-    starts
+    starts.and(brought_back(starts, count - have, rises))
 }
 
 // Where `count` ones first begin, of a word's digits and `before` ones before them: the number of

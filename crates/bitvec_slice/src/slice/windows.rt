@@ -1,9 +1,10 @@
 //! The windows of a slice: a number of bits side by side, from each bit on.
 
-ghost use Rattle.std.specs.Prelude.{◌≡◌, ⊤, ◌<◌, Some, length, IfSome};
+ghost use Rattle.std.specs.Prelude.{◌≡◌, ⊤, ◌-◌, ◌<◌, Some, length, IfSome};
 ghost use Rattle.std.specs.Iterator.{YieldsFirstBy, YieldsLastBy, item_count, at_most, UpTo};
+ghost use Rattle.std.specs.Iterator.{MakesProgress};
 ghost use Rattle.std.specs.Iterator.SizeHint.{IsWithinCount};
-ghost use Rattle.bitvec_slice.specs.BitSlice.{bits_of};
+ghost use Rattle.bitvec_slice.specs.BitSlice.{slice_len, bits_of};
 ghost use Rattle.bitvec_slice.specs.Pieces.{windows_of};
 
 use crate::slice::BitSlice;
@@ -47,14 +48,18 @@ impl<'a, R: BitRegister, O: BitOrder<R>> Clone for Windows<'a, R, O> {
 }
 
 impl<'a, R: BitRegister, O: BitOrder<R>> BitSlice<'a, R, O> {
-    ghost use Rattle.bitvec_slice.specs.PieceIters.{windows_left};
+    ghost use Rattle.bitvec_slice.specs.PieceIters.{windows_left, windows_rest, windows_size};
 
     /// Each `n` bits that are side by side, from the first `n` on: none, where there are less.
     /// Requires that `n` is not 0. Constant time, and so is each call of `next`. As in the Rust
     /// crate.
     pub fn windows(&self, n: usize) -> Windows<'a, R, O>
         requires { 0 < n }
-        ensures { windows_left result ≡ windows_of n (bits_of self.now) }
+        ensures pieces { windows_left result ≡ windows_of n (bits_of self.now) }
+
+        // They lie where the slice lies.
+        ensures rest { windows_rest result ≡ self.now }
+        ensures size { windows_size result ≡ n }
     {
         Windows {
             rest: *self,
@@ -66,13 +71,24 @@ impl<'a, R: BitRegister, O: BitOrder<R>> BitSlice<'a, R, O> {
 impl<'a, R: BitRegister, O: BitOrder<R>> Iterator for Windows<'a, R, O> {
     type Item = BitSlice<'a, R, O>;
 
-    ghost use Rattle.bitvec_slice.specs.PieceIters.{windows_left};
+    ghost use Rattle.bitvec_slice.specs.PieceIters.{windows_left, windows_rest, windows_size};
+    ghost use Rattle.bitvec_slice.specs.PieceIters.{TakesFirst};
 
     ghost next_gives = { YieldsFirstBy bits_of windows_left };
 
     ghost remaining = { item_count windows_left };
 
-    fn next(&mut self) -> Option<BitSlice<'a, R, O>> {
+    /// Takes the first of the windows that are left.
+    fn next(&mut self) -> Option<BitSlice<'a, R, O>>
+        ensures steps { YieldsFirstBy bits_of windows_left self.old result self.new }
+        ensures goes { MakesProgress (λ _. ⊤) (item_count windows_left)
+            self.old result self.new }
+
+        // The window is the first bits of what is left, and then one bit less is left.
+        ensures place { let left = windows_rest self.old
+            in TakesFirst left (windows_size self.old) 1 result (windows_rest self.new) }
+        ensures size { windows_size self.new ≡ windows_size self.old }
+    {
         if self.rest.len() < self.size {
             return None;
         }
@@ -93,11 +109,23 @@ impl<'a, R: BitRegister, O: BitOrder<R>> Iterator for Windows<'a, R, O> {
 }
 
 impl<'a, R: BitRegister, O: BitOrder<R>> DoubleEndedIterator for Windows<'a, R, O> {
-    ghost use Rattle.bitvec_slice.specs.PieceIters.{windows_left};
+    ghost use Rattle.bitvec_slice.specs.PieceIters.{windows_left, windows_rest, windows_size};
+    ghost use Rattle.bitvec_slice.specs.PieceIters.{TakesLast};
 
     ghost next_back_gives = { YieldsLastBy bits_of windows_left };
 
-    fn next_back(&mut self) -> Option<BitSlice<'a, R, O>> {
+    /// Takes the last of the windows that are left.
+    fn next_back(&mut self) -> Option<BitSlice<'a, R, O>>
+        ensures steps { YieldsLastBy bits_of windows_left self.old result self.new }
+        ensures goes { MakesProgress (λ _. ⊤) (item_count windows_left)
+            self.old result self.new }
+
+        // The window is the last bits of what is left, and then one bit less is left.
+        ensures place { let left = windows_rest self.old in let len = slice_len left
+            in let from = len - windows_size self.old
+            in TakesLast left from (len - 1) result (windows_rest self.new) }
+        ensures size { windows_size self.new ≡ windows_size self.old }
+    {
         let len = self.rest.len();
         if len < self.size {
             return None;

@@ -18,7 +18,7 @@ unwrap-requires g c =
     let joined = g.R.BitRegister.number c.load_joined.result in
     let is = near_number g.O.Sequential.RISES bits span.head span.len (list_of bits g.O.BitAt.at_of (span_of span) words) joined (g.R.BitRegister.number c.and-digits.result)
     (omega (arith, eight)) (omega (arith, span.in_word, eight)) (length-list_of bits g.O.BitAt.at_of (span_of span) words) c.requires.near c.and-digits.ensures.below
-    (λ p h. c.and-digits.ensures.digits p h ∙ ap (λ b. b && digit joined p) (c.low_ones.ensures p h ∙ ap (nat_lt p) c.len.ensures)) c.load_joined.ensures in
+    (λ p h. c.and-digits.ensures.digits p h ∙ ap (λ b. b && digit joined p) (c.low_ones.ensures.digits p h ∙ ap (nat_lt p) c.len.ensures)) c.load_joined.ensures in
     let more : 2 ^ span.len ≤ 2 ^ most = pow_mono c.requires.small in
     some_unless c.from_u128.result (λ none. absurd (omega (arith, is.0, more, c.to_u128.ensures.number, c.from_u128.ensures.refused.0 none)))
 
@@ -33,4 +33,4 @@ returns g c =
     same
     ∙ (near_number g.O.Sequential.RISES bits span.head span.len (list_of bits g.O.BitAt.at_of (span_of span) words) joined (g.R.BitRegister.number c.and-digits.result)
     (omega (arith, eight)) (omega (arith, span.in_word, eight)) (length-list_of bits g.O.BitAt.at_of (span_of span) words) c.requires.near c.and-digits.ensures.below
-    (λ p h. c.and-digits.ensures.digits p h ∙ ap (λ b. b && digit joined p) (c.low_ones.ensures p h ∙ ap (nat_lt p) c.len.ensures)) c.load_joined.ensures).1
+    (λ p h. c.and-digits.ensures.digits p h ∙ ap (λ b. b && digit joined p) (c.low_ones.ensures.digits p h ∙ ap (nat_lt p) c.len.ensures)) c.load_joined.ensures).1

@@ -31,5 +31,5 @@ returns g c =
     let part =
     part_cut width span.head span.len c.args.k bit (omega (arith, eight)) (omega (arith, span.in_word, eight)) c.requires.met at w v r rises g.met.O.Sequential.sequence c.word_met-word.ensures
     (subst (λ n. IsMovedDown n width w v) {y = part_shift rises width span.head span.len c.args.k} c.shift.ensures.value down) c.and.ensures.below
-    (λ p h. c.and.ensures.digits p h ∙ ap (λ b. b && digit v p) (c.low_ones.ensures p h ∙ ap (nat_lt p) count)) in
+    (λ p h. c.and.ensures.digits p h ∙ ap (λ b. b && digit v p) (c.low_ones.ensures.digits p h ∙ ap (nat_lt p) count)) in
     record { digits = part.digits; past = part.past }

@@ -4,8 +4,8 @@ use Rattle.bitvec.specs.Digit.{digit}
 use Rattle.bitvec.proofs.DigitLemmas.{digit_all}
 use Rattle.bitvec_slice.proofs.field.low_ones.Goals as goal
 
-pub returns : goal.returns
-returns g c =
+pub returns-clause-digits : goal.returns-clause-digits
+returns-clause-digits g c =
     let width = g.R.BitRegister.BITS in
     let all : g.R.BitRegister.number c.ALL.result ≡ 2 ^ width - 1 = ap g.R.BitRegister.number c.ALL.ensures ∙ g.met.R.BitRegister.all_is_greatest in
     λ p h. elim (cases_lt p c.args.count) [

@@ -1,8 +1,8 @@
-use Rattle.std.proofs.Common.{◌≡◌, map, ap, ◌∙◌, refl, sym, subst, ℕ, length, arith}
+use Rattle.std.proofs.Common.{◌≡◌, map, ap, ◌∙◌, refl, sym, ℕ, arith}
 use Rattle.std.proofs.lemmas.List.{length-map}
 use Rattle.bitvec.specs.BitSpan.{span_of}
 use Rattle.bitvec.specs.Place.{words_met}
-use Rattle.bitvec.specs.Span.{Fits, list_of}
+use Rattle.bitvec.specs.Span.{list_of}
 use Rattle.bitvec.proofs.BecomesLemmas.{becomes, numbers-many}
 use Rattle.bitvec.proofs.PartLemmas.{length-list_of}
 use Rattle.bitvec_slice.specs.Field.{field_list}

@@ -1,7 +1,7 @@
-use Rattle.std.proofs.Common.{◌≡◌, ℕ, ◌+◌, ◌<◌, ◌-◌, ◌^◌, ap, ◌∙◌, subst, arith, bit_and, rules}
+use Rattle.std.proofs.Common.{◌≡◌, ℕ, ◌+◌, ◌<◌, ◌∙◌, subst, arith}
 use Rattle.bitvec.specs.Digit.{digit}
 use Rattle.bitvec_slice.proofs.FieldLemmas.{part_place, part_shift}
-use Rattle.bitvec_slice.proofs.FieldStoreLemmas.{masked, stored_digit}
+use Rattle.bitvec_slice.proofs.FieldStoreLemmas.{stored_digit}
 use Rattle.bitvec_slice.proofs.field.word_digits.Goals as goal
 
 pub returns : goal.returns
@@ -11,16 +11,11 @@ returns g c =
     let span = c.args.span in
     let eight = g.met.R.BitRegister.width_at_least_8 in
     let v = g.N.BitRegister.number c.args.value in
-    let part = g.N.BitRegister.number c.shr.result in
+    let part = g.N.BitRegister.number c.shr-part.result in
     let r = g.R.BitRegister.number c.shl.result in
-    let is : g.R.BitRegister.number c.unwrap.result ≡ bit_and c.to_u128-digits.result c.to_u128.result = search rules in
-    let mask : c.to_u128.result ≡ 2 ^ width - 1 = c.to_u128.ensures.number ∙ ap g.R.BitRegister.number c.ALL.ensures ∙ g.met.R.BitRegister.all_is_greatest in
-    let down = subst (λ (n : ℕ). (p : ℕ) → n + p < most → digit part p ≡ digit v (n + p)) {y = part_place c.args.big width span.head span.len c.args.k} c.place.ensures.value c.shr.ensures.moved in
+    let down = subst (λ (n : ℕ). (p : ℕ) → n + p < most → digit part p ≡ digit v (n + p)) {y = part_place c.args.big width span.head span.len c.args.k} c.place.ensures.value c.shr-part.ensures.moved in
     let up = subst (λ (n : ℕ). (p : ℕ) → n + p < width → digit r (n + p) ≡ digit part p) {y = part_shift g.O.Sequential.RISES width span.head span.len c.args.k} c.shift.ensures.value
-    (λ p h. c.shl.ensures.moved p h
-    ∙ ap (λ n. digit n p) is
-    ∙ masked width c.to_u128-digits.result c.to_u128.result p mask (omega (arith, h))
-    ∙ ap (λ n. digit n p) c.to_u128-digits.ensures.number) in
+    (λ p h. c.shl.ensures.moved p h ∙ c.low_digits.ensures.digits p (omega (arith, h))) in
     λ j inside word.
     stored_digit width span.head span.len c.args.k v (omega (arith, eight)) (omega (arith, span.in_word, eight)) j inside word
     c.args.big g.O.Sequential.RISES g.O.BitAt.at_of most part r g.met.O.Sequential.sequence c.requires.small down up

@@ -23,6 +23,6 @@ returns g c =
     let count : c.stretch-start.result.1 - c.stretch-start.result.0 ≡ stretch_end width span.head span.len c.args.k - stretch_start width span.head c.args.k =
     ap (λ n. n - c.stretch-start.result.0) c.stretch-start.ensures.end ∙ ap (λ n. stretch_end width span.head span.len c.args.k - n) c.stretch-start.ensures.start in
     part_mask rises width span.head span.len c.args.k g.O.BitAt.at_of m r (omega (arith, eight)) (omega (arith, span.in_word, eight)) c.requires g.met.O.Sequential.sequence
-    (λ q h. c.low_ones.ensures q h ∙ ap (nat_lt q) count)
+    (λ q h. c.low_ones.ensures.digits q h ∙ ap (nat_lt q) count)
     (subst (λ (n : ℕ). (q : ℕ) → q < n → digit r q ≡ false) {y = part_shift rises width span.head span.len c.args.k} c.shift.ensures.value c.shl.ensures.low)
     (subst (λ (n : ℕ). (q : ℕ) → n + q < width → digit r (n + q) ≡ digit m q) {y = part_shift rises width span.head span.len c.args.k} c.shift.ensures.value c.shl.ensures.moved)

@@ -1,5 +1,4 @@
-use Rattle.std.proofs.Common.{◌≡◌, ◌<◌, ◌≤◌, ◌==◌, ◌∙◌, sym, ap, map, length, subst, arith}
-use Rattle.std.proofs.lemmas.List.{length-map}
+use Rattle.std.proofs.Common.{◌<◌, ◌≤◌, ◌∙◌, sym, map, arith}
 use Rattle.bitvec.specs.BitSpan.{span_of}
 use Rattle.bitvec.proofs.BecomesLemmas.{more-becomes, all-becomes}
 use Rattle.bitvec_slice.specs.SliceText.{text_bits}

@@ -1,4 +1,4 @@
-use Rattle.std.proofs.Common.{◌≡◌, ◌-◌, List, Bool, drop, length, true≢false, sym, ap, arith, ◌∙◌}
+use Rattle.std.proofs.Common.{◌-◌, drop, true≢false, sym, arith, ◌∙◌}
 use Rattle.bitvec_slice.specs.BitSlice.{bits_of}
 use Rattle.bitvec_slice.proofs.PatternLemmas.{too_short_end}
 use Rattle.bitvec_slice.proofs.slice.bit_slice.BitSlice.ends_with.Goals as goal

@@ -1,6 +1,6 @@
-use Rattle.std.proofs.Common.{rules, ◌≡◌, ◌<◌, ◌≤◌, ◌+◌, length, sym, ◌∙◌, arith}
+use Rattle.std.proofs.Common.{rules, arith}
 use Rattle.bitvec_slice.specs.BitSlice.{bits_of}
-use Rattle.bitvec_slice.proofs.PatternLemmas.{has_none, none_is, has_here, none_up_to, none_past}
+use Rattle.bitvec_slice.proofs.PatternLemmas.{none_is, has_here, none_up_to, none_past}
 use Rattle.bitvec_slice.proofs.slice.bit_slice.BitSlice.find.Goals as goal
 
 pub returns-in_err-i : goal.returns-in_err-i

@@ -1,4 +1,4 @@
-use Rattle.std.proofs.Common.{ℕ, ◌+◌, ◌-◌, ◌<◌, ◌≤◌, length}
+use Rattle.std.proofs.Common.{ℕ, ◌-◌, ◌<◌, ◌≤◌, length}
 use Rattle.bitvec_slice.specs.BitSlice.{bits_of}
 use Rattle.bitvec_slice.specs.Patterns.{HasAt}
 use Rattle.bitvec_slice.proofs.slice.bit_slice.BitSlice.find.Given as goal

@@ -1,4 +1,4 @@
-use Rattle.std.proofs.Common.{◌≡◌, ◌∷◌, sym, ◌∙◌}
+use Rattle.std.proofs.Common.{◌∷◌, sym, ◌∙◌}
 use Rattle.bitvec_slice.specs.BitSlice.{bits_of}
 use Rattle.bitvec_slice.proofs.PatternLemmas.{first_then_rest}
 use Rattle.bitvec_slice.proofs.slice.bit_slice.BitSlice.split_first.Goals as goal

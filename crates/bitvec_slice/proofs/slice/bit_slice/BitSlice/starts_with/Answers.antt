@@ -1,4 +1,4 @@
-use Rattle.std.proofs.Common.{◌≡◌, ◌↔◌, List, Bool, take, length, true≢false, sym, ap, subst, arith, ◌∙◌}
+use Rattle.std.proofs.Common.{take, true≢false, sym, ap, arith, ◌∙◌}
 use Rattle.bitvec_slice.specs.BitSlice.{bits_of}
 use Rattle.bitvec_slice.proofs.PatternLemmas.{too_short}
 use Rattle.bitvec_slice.proofs.slice.bit_slice.BitSlice.starts_with.Goals as goal

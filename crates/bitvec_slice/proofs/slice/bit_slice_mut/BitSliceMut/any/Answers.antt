@@ -1,4 +1,4 @@
-use Rattle.std.proofs.Common.{◌≡◌, ◌↔◌, Bool, List, true, false, subst}
+use Rattle.std.proofs.Common.{◌≡◌, ◌↔◌, Bool, List, false, subst}
 use Rattle.bitvec.specs.Truths.{AllAre}
 use Rattle.bitvec_slice.proofs.slice.bit_slice_mut.BitSliceMut.any.Goals as goal
 

@@ -1,4 +1,4 @@
-use Rattle.std.proofs.Common.{◌≡◌, ◌↔◌, Bool, List, true, false, subst}
+use Rattle.std.proofs.Common.{◌≡◌, ◌↔◌, Bool, List, false, subst}
 use Rattle.bitvec_slice.specs.Bits.{AllBetween}
 use Rattle.bitvec_slice.proofs.slice.bit_slice_mut.BitSliceMut.any_in.Goals as goal
 

@@ -1,4 +1,4 @@
-use Rattle.std.proofs.Common.{◌≡◌, ◌≤◌, ℕ, ◌+◌, ◌-◌, List, Bool, length, map, refl, subst, arith, ap, ◌∙◌}
+use Rattle.std.proofs.Common.{◌≡◌, ◌≤◌, ℕ, ◌+◌, ◌-◌, length, map, refl, subst, arith, ap, ◌∙◌}
 use Rattle.std.specs.Prelude.{slice_range}
 use Rattle.bitvec.specs.Memory.{zip_with}
 use Rattle.bitvec.specs.Span.{BecomesList, list_of}

@@ -1,9 +1,9 @@
-use Rattle.std.proofs.Common.{◌≡◌, ◌≤◌, ℕ, ◌+◌, ◌-◌, List, Bool, length, map, refl, subst, arith}
+use Rattle.std.proofs.Common.{◌≡◌, ◌≤◌, ℕ, ◌+◌, ◌-◌, length, map, refl, subst, arith}
 use Rattle.bitvec.specs.Span.{BecomesList, list_of}
 use Rattle.bitvec_slice.specs.BitSlice.{slice_memory, bits_of}
 use Rattle.bitvec_slice.specs.BitSliceMut.{lent_span, lent_words}
 use Rattle.bitvec_slice.specs.Ranges.{with_range, KeepsStretches}
-use Rattle.bitvec_slice.proofs.EditRangeLemmas.{range_long, range_edited}
+use Rattle.bitvec_slice.proofs.EditRangeLemmas.{range_edited}
 use Rattle.bitvec_slice.proofs.slice.bit_slice_mut.BitSliceMut.copy_from_range.Goals as goal
 
 pub returns : goal.returns

@@ -1,4 +1,4 @@
-use Rattle.std.proofs.Common.{◌≡◌, ◌-◌, ◌++◌, List, length, map, take, drop, sym, subst, ap, ◌∙◌}
+use Rattle.std.proofs.Common.{◌++◌, length, take, drop, sym, subst, ap, ◌∙◌}
 use Rattle.std.specs.Prelude.{slice_range}
 use Rattle.bitvec.specs.BitSpan.{span_of}
 use Rattle.bitvec.specs.Span.{Span, Fits, list_of}

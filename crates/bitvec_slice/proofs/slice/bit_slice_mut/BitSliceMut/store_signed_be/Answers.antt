@@ -1,9 +1,8 @@
-use Rattle.std.proofs.Common.{true, ◌≡◌, ◌≤◌, ◌%◌, ◌^◌, length, rules, arith}
+use Rattle.std.proofs.Common.{true, length, rules, arith}
 use Rattle.std.specs.Prelude.{FitsSigned}
 use Rattle.std.specs.Int.{w128}
 use Rattle.bitvec.proofs.PartLemmas.{length-list_of}
 use Rattle.bitvec_slice.specs.BitSliceMut.{lent_span, lent_words, lent_bits}
-use Rattle.bitvec_slice.specs.Signed.{complement_of}
 use Rattle.bitvec_slice.proofs.FieldStoreLemmas.{field_list_low}
 use Rattle.bitvec_slice.proofs.SignedLemmas.{low_digits, loaded_back}
 use Rattle.bitvec_slice.proofs.slice.bit_slice_mut.BitSliceMut.store_signed_be.Goals as goal

@@ -1,7 +1,9 @@
-use Rattle.std.proofs.Common.{◌∙◌, min, take, drop, ap, arith}
+use Rattle.std.proofs.Common.{◌<◌, ◌∙◌, min, take, drop, sym, ap, arith}
 use Rattle.std.proofs.lemmas.List.{take_min, drop_min}
-use Rattle.bitvec_slice.specs.BitSlice.{bits_of}
+use Rattle.bitvec.specs.Span.{span_from, span_upto}
+use Rattle.bitvec_slice.specs.BitSlice.{slice_span, bits_of}
 use Rattle.bitvec_slice.specs.PieceIters.{chunks_left}
+use Rattle.bitvec_slice.proofs.IterLemmas.{range_upto}
 use Rattle.bitvec_slice.proofs.PieceLemmas.{chunks_first, progress_first_by}
 use Rattle.bitvec_slice.proofs.slice.chunks.ChunksIterator.next.Goals as goal
 
@@ -17,3 +19,14 @@ returns-clause-steps g c =
 
 pub returns-clause-goes : goal.returns-clause-goes
 returns-clause-goes g c = progress_first_by _ bits_of chunks_left _ _ _ tt (returns-clause-steps g c)
+
+pub returns-clause-place : goal.returns-clause-place
+returns-clause-place g c =
+    let it = c.args.self.now in
+    let width = g.R.BitRegister.BITS in
+    let left = slice_span it.rest in
+    let in_head : left.head < width = omega (arith, it.rest.span.in_word, g.met.R.BitRegister.width_at_least_8) in
+    let cut = c.min.ensures ∙ ap (min it.size) c.len-len.ensures.value in (
+      (c.split_at.ensures.front_memory, c.split_at.ensures.front_span ∙ ap (span_upto left) cut ∙ sym (range_upto width left (min it.size left.len) in_head)),
+      (c.split_at.ensures.back_memory, c.split_at.ensures.back_span ∙ ap (span_from width left) cut),
+    )

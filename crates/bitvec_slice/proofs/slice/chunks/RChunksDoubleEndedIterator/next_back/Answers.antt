@@ -1,6 +1,9 @@
-use Rattle.std.proofs.Common.{◌-◌, ◌*◌, ◌/◌, ◌∙◌, length, take, drop, refl, ap, arith}
-use Rattle.bitvec_slice.specs.BitSlice.{bits_of}
+use Rattle.std.proofs.Common.{◌<◌, ◌-◌, ◌*◌, ◌/◌, ◌∙◌, length, take, drop, refl, sym, ap, arith}
+use Rattle.bitvec.specs.Span.{span_from, span_upto}
+use Rattle.bitvec_slice.specs.BitSlice.{slice_span, bits_of}
 use Rattle.bitvec_slice.specs.PieceIters.{rchunks_left}
+use Rattle.bitvec_slice.specs.Pieces.{last_start}
+use Rattle.bitvec_slice.proofs.IterLemmas.{range_upto}
 use Rattle.bitvec_slice.proofs.PieceLemmas.{progress_last_by, rchunks_last}
 use Rattle.bitvec_slice.proofs.slice.chunks.RChunksDoubleEndedIterator.next_back.Goals as goal
 
@@ -15,3 +18,14 @@ returns-clause-steps g c =
 
 pub returns-clause-goes : goal.returns-clause-goes
 returns-clause-goes g c = progress_last_by _ bits_of rchunks_left _ _ _ tt (returns-clause-steps g c)
+
+pub returns-clause-place : goal.returns-clause-place
+returns-clause-place g c =
+    let it = c.args.self.now in
+    let width = g.R.BitRegister.BITS in
+    let left = slice_span it.rest in
+    let in_head : left.head < width = omega (arith, it.rest.span.in_word, g.met.R.BitRegister.width_at_least_8) in
+    let cut = ap (λ l. l - last_start it.size l) c.len-len.ensures.value in (
+      (c.split_at.ensures.front_memory, c.split_at.ensures.front_span ∙ ap (span_upto left) cut ∙ sym (range_upto width left (left.len - last_start it.size left.len) in_head)),
+      (c.split_at.ensures.back_memory, c.split_at.ensures.back_span ∙ ap (span_from width left) cut),
+    )

@@ -1,6 +1,7 @@
-use Rattle.std.proofs.Common.{arith}
-use Rattle.bitvec_slice.specs.BitSlice.{bits_of}
+use Rattle.std.proofs.Common.{◌<◌, ◌∙◌, sym, arith}
+use Rattle.bitvec_slice.specs.BitSlice.{slice_span, bits_of}
 use Rattle.bitvec_slice.specs.PieceIters.{windows_left}
+use Rattle.bitvec_slice.proofs.IterLemmas.{range_upto}
 use Rattle.bitvec_slice.proofs.PieceLemmas.{progress_first_by, windows_first}
 use Rattle.bitvec_slice.proofs.slice.windows.WindowsIterator.next.Goals as goal
 
@@ -12,3 +13,13 @@ returns-clause-steps g c =
 
 pub returns-clause-goes : goal.returns-clause-goes
 returns-clause-goes g c = progress_first_by _ bits_of windows_left _ _ _ tt (returns-clause-steps g c)
+
+pub returns-clause-place : goal.returns-clause-place
+returns-clause-place g c =
+    let it = c.args.self.now in
+    let width = g.R.BitRegister.BITS in
+    let left = slice_span it.rest in
+    let in_head : left.head < width = omega (arith, it.rest.span.in_word, g.met.R.BitRegister.width_at_least_8) in (
+      (c.split_at.ensures.front_memory, c.split_at.ensures.front_span ∙ sym (range_upto width left it.size in_head)),
+      (c.split_at-2.ensures.back_memory, c.split_at-2.ensures.back_span),
+    )

@@ -1,0 +1,25 @@
+use Rattle.std.proofs.Common.{◌≡◌, ◌≤◌, ℕ, ◌+◌, ◌-◌, Bool, List, take, refl, ap, subst, ◌∙◌, arith}
+use Rattle.bitvec_slice.specs.BitSlice.{slice_len, bits_of}
+use Rattle.bitvec_slice.specs.BitSliceMut.{lent_bits, BecomesBits}
+use Rattle.bitvec_slice.specs.Numbers.{digits_le}
+use Rattle.bitvec_slice.specs.Ranges.{with_range, KeepsStretches}
+use Rattle.bitvec_slice.proofs.NumberWordLemmas.{low_bits}
+use Rattle.bitvec_slice.proofs.slice.bit_slice_mut.BitSliceMut.store_copied_le.Goals as goal
+
+pub returns : goal.returns
+returns g c =
+    let old = c.args.self.now in
+    let new = c.copy_from_range.new.self in
+    let xs = lent_bits old in
+    let from = c.args.from in
+    let count = c.args.to - from in
+    let few : count ≤ 128 = omega (arith, c.requires.small, g.met.N.BitRegister.width_at_most_128) in
+    let given = c.split_at.result.0 in
+    let end : from + slice_len given ≡ c.args.to = omega (arith, c.split_at.ensures.front_len, c.requires.ordered, few) in
+    let shown : bits_of given ≡ digits_le count (g.N.BitRegister.number c.args.value) =
+    c.split_at.ensures.front ∙ ap (λ (us : List Bool). take count us) c.all_unchecked-word.ensures.bits ∙ low_bits _ c.to_u128.result count few (λ i h. refl) ∙ ap (digits_le count) c.to_u128.ensures.number in
+    record {
+      bits = subst (λ (p : ℕ). BecomesBits old new (with_range xs from p (digits_le count (g.N.BitRegister.number c.args.value)))) end
+          (subst (λ (us : List Bool). BecomesBits old new (with_range xs from (from + slice_len given) us)) shown c.copy_from_range.ensures.bits);
+      beside = subst (λ (p : ℕ). KeepsStretches from p xs (lent_bits new)) end c.copy_from_range.ensures.beside;
+    }
