@@ -6,6 +6,6 @@ mod MultipleLemmas
 pub mod NumberLemmas
 mod ReadLemmas
 pub mod SignedGolombLemmas
-mod WordLemmas
+mod WindowLemmas
 pub mod WriteLemmas
 pub mod WriterLemmas

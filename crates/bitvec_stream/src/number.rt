@@ -1,9 +1,9 @@
-//! Numbers of the bits of a slice, whatever its register and order, and bits of a number.
+//! Numbers of all bits of a slice, signed ones too, whatever its register and order.
 //!
-//! The bits go through a word of 128 bits by the copies of slices, so no register and no order has
-//! a way of its own.
+//! The bits of signed numbers go through a word of 128 bits by the copies of slices, so no register
+//! and no order has a way of its own.
 
-ghost use Rattle.std.specs.Prelude.{◌≡◌, ◌^◌, ◌<◌, ◌≤◌, length};
+ghost use Rattle.std.specs.Prelude.{◌≡◌, ◌≤◌, length};
 ghost use Rattle.bitvec.specs.BitSpan.{span_of};
 ghost use Rattle.bitvec.specs.Span.{Fits};
 ghost use Rattle.bitvec_slice.specs.BitSlice.{slice_len, bits_of};
@@ -35,28 +35,12 @@ fn high_span(count: usize) -> BitSpan<u128, Msb0>
     whole.range(128 - count, 128)
 }
 
-// The number of a slice's bits, the first the lowest.
-pub(crate) fn load_le<R: BitRegister, O: BitOrder<R>>(part: BitSlice<'_, R, O>) -> u128
-    requires { slice_len part ≤ 128 }
-    ensures number { result ≡ number_le (bits_of part.entry) }
-    ensures below { result < 2 ^ length (bits_of part.entry) }
-{
-    let mut words = [0u128];
-    let mut digits = BitSliceMut::new_unchecked(low_span(part.len()), &mut words);
-    digits.copy_from_bitslice(part);
-    digits.load_le()
-}
-
 // The number of a slice's bits, the first the highest.
 pub(crate) fn load_be<R: BitRegister, O: BitOrder<R>>(part: BitSlice<'_, R, O>) -> u128
     requires { slice_len part ≤ 128 }
-    ensures number { result ≡ number_be (bits_of part.entry) }
-    ensures below { result < 2 ^ length (bits_of part.entry) }
+    ensures { result ≡ number_be (bits_of part.entry) }
 {
-    let mut words = [0u128];
-    let mut digits = BitSliceMut::new_unchecked(high_span(part.len()), &mut words);
-    digits.copy_from_bitslice(part);
-    digits.load_be()
+    part.load_digits_be(0, part.len())
 }
 
 // The signed number whose two's complement a slice's bits are, the first the lowest digit.

@@ -1,6 +1,7 @@
 //! Streams, by the names that a user writes.
 #![tactic(auto)]
 
+mod callers;
 #[cfg(test)]
 mod codes;
 #[cfg(test)]

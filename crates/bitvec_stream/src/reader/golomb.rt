@@ -1,6 +1,6 @@
 //! Numbers as Exp-Golomb codes.
 
-ghost use Rattle.std.specs.Prelude.{◌≡◌, ◌+◌, ◌<◌, ◌≤◌, ◌^◌, ℕ, MatchOption, MatchResult};
+ghost use Rattle.std.specs.Prelude.{◌≡◌, ⊤, ◌+◌, ◌*◌, ◌<◌, ◌≤◌, ◌^◌, ℕ, MatchOption, MatchResult};
 ghost use Rattle.std.specs.Prelude.{IsTrue, ◌↔◌, ◌-◌, true, length};
 ghost use Rattle.bitvec.specs.Span.{element};
 ghost use Rattle.bitvec_slice.specs.BitSlice.{bits_of};
@@ -12,8 +12,9 @@ ghost use Rattle.bitvec_stream.specs.Refusals.{IsCodeRefusal};
 use crate::error::ReadError;
 use crate::number::load_be;
 use crate::reader::BitReader;
+use bitvec::mem;
 use bitvec::mem::BitRegister;
-use bitvec::order::BitOrder;
+use bitvec::order::{BitOrder, Direction, direction_of};
 use bitvec_slice::field::SignedNumber;
 use bitvec_slice::slice::BitSlice;
 
@@ -113,6 +114,53 @@ impl<'a, R: BitRegister, O: BitOrder<R>> BitReader<'a, R, O> {
         }
     }
 
+    // Where the code that the bits that are left begin with lies in as many of them as a word has,
+    // and goes by words: how many zeros it begins with, and the number of its digits behind them.
+    #[inline(always)]
+    fn near_code(&self) -> Option<(usize, R)>
+        ensures { MatchOption result ⊤ (λ it. let number = R.number it.1
+            in StartsWith (rest self.now) (golomb (number - 1)) × (0 < number)
+            × (length (golomb (number - 1)) ≡ 2 * it.0 + 1)) }
+    {
+        let width = mem::bits_of::<R>();
+        if self.remaining() < width {
+            return None;
+        }
+        if direction_of::<R, O>() != Direction::Falls {
+            return None;
+        }
+        let window: R = self
+            .slice
+            .load_digits_be(self.position, self.position + width);
+        let top = mem::highest_one(window)?;
+        let zeros = R::BITS - 1 - top;
+        if R::BITS <= 2 * zeros {
+            return None;
+        }
+        let number = window.shr(R::BITS - 1 - 2 * zeros);
+        Some((usize::from(zeros), number))
+    }
+
+    // What `read_exp_golomb` does, whatever the code's length is.
+    #[inline(never)]
+    fn read_far_code<N: BitRegister>(&mut self) -> Result<N, ReadError>
+        ensures value { MatchResult result
+            (λ value. StartsWith (rest self.old) (golomb (N.number value)))
+            (IsCodeRefusal (λ n. 2 ^ N.BITS ≤ n) (rest self.old)) }
+        ensures moved { MatchResult result
+            (λ value. Passes self.old self.new (length (golomb (N.number value))))
+            (λ _. self.new ≡ self.old) }
+    {
+        let digits = self.code()?;
+        match code_value(digits) {
+            Some(value) => {
+                self.pass(2 * digits.len() - 1);
+                Ok(value)
+            }
+            None => Err(ReadError::TooLarge),
+        }
+    }
+
     /// The number whose Exp-Golomb code the bits that are left begin with, as `ue(v)` of ITU-T
     /// H.264 and H.265: as many zeros as the number, plus one, has binary digits, less one, and
     /// then these digits, the highest first. So `1` is 0, `010` is 1, `011` is 2 and `00100` is 3.
@@ -141,10 +189,12 @@ impl<'a, R: BitRegister, O: BitOrder<R>> BitReader<'a, R, O> {
             (λ value. Passes self.old self.new (length (golomb (N.number value))))
             (λ _. self.new ≡ self.old) }
     {
-        let digits = self.code()?;
-        match code_value(digits) {
+        let Some((zeros, above)) = self.near_code() else {
+            return self.read_far_code();
+        };
+        match N::from_u128(above.to_u128() - 1) {
             Some(value) => {
-                self.pass(2 * digits.len() - 1);
+                self.pass(2 * zeros + 1);
                 Ok(value)
             }
             None => Err(ReadError::TooLarge),

@@ -4,7 +4,6 @@ ghost use Rattle.std.specs.Prelude.{◌≡◌, ◌≤◌, ◌↔◌, IsOk, IfOk,
 ghost use Rattle.bitvec_stream.specs.Numbers.{number_le, number_be};
 
 use crate::error::ReadError;
-use crate::number::{load_be, load_le};
 use crate::reader::BitReader;
 use bitvec::mem::BitRegister;
 use bitvec::order::BitOrder;
@@ -68,8 +67,11 @@ impl<'a, R: BitRegister, O: BitOrder<R>> BitReader<'a, R, O> {
             ≡ number_be (take count (rest self.now))) }
         ensures refused { IfErr result (λ error. error ≡ ReadError.TooFew) }
     {
-        let part = self.peek_slice(count)?;
-        Ok(N::from_u128(load_be(part)).unwrap())
+        if self.remaining() < count {
+            return Err(ReadError::TooFew);
+        }
+        let end = self.position + count;
+        Ok(self.slice.load_digits_be(self.position, end))
     }
 
     /// What [`read_le`](BitReader::read_le) gives; the reader stays before the bits. Requires and
@@ -81,7 +83,10 @@ impl<'a, R: BitRegister, O: BitOrder<R>> BitReader<'a, R, O> {
             ≡ number_le (take count (rest self.now))) }
         ensures refused { IfErr result (λ error. error ≡ ReadError.TooFew) }
     {
-        let part = self.peek_slice(count)?;
-        Ok(N::from_u128(load_le(part)).unwrap())
+        if self.remaining() < count {
+            return Err(ReadError::TooFew);
+        }
+        let end = self.position + count;
+        Ok(self.slice.load_digits_le(self.position, end))
     }
 }

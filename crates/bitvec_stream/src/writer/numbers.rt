@@ -6,16 +6,18 @@ ghost use Rattle.bitvec_stream.specs.Numbers.{digits_le, digits_be};
 
 use crate::error::WriteError;
 use crate::writer::BitWriter;
+use bitvec::mem;
 use bitvec::mem::BitRegister;
-use bitvec::order::{BitOrder, Lsb0, Msb0};
-use bitvec_slice::slice::BitSlice;
+use bitvec::order::BitOrder;
 
 // Whether a number has no digit from digit `count` on.
-fn has_digits(number: u128, count: usize) -> bool
-    requires { count ≤ 128 }
-    ensures { IsTrue result ↔ (number < 2 ^ count) }
+#[inline(always)]
+fn has_digits<N: BitRegister>(number: N, count: usize) -> bool
+    requires { count ≤ N.BITS }
+    ensures { IsTrue result ↔ (N.number number < 2 ^ count) }
 {
-    count == 128 || number >> count == 0
+    let digits = number.to_u128();
+    count == mem::bits_of::<N>() || digits >> count == 0
 }
 
 impl<'a, R: BitRegister, O: BitOrder<R>> BitWriter<'a, R, O> {
@@ -23,27 +25,27 @@ impl<'a, R: BitRegister, O: BitOrder<R>> BitWriter<'a, R, O> {
 
     // Writes the `count` lowest digits of a number, the highest of them first. There is room for
     // them.
-    pub(super) fn put_be(&mut self, count: usize, digits: u128)
-        requires few { count ≤ 128 }
+    #[inline(always)]
+    pub(super) fn put_be<N: BitRegister>(&mut self, count: usize, digits: N)
+        requires few { count ≤ N.BITS }
         requires inside { count ≤ length (room self.old) }
-        ensures { Writes self.old self.new (digits_be count digits) }
+        ensures { Writes self.old self.new (digits_be count (N.number digits)) }
     {
-        let words = [digits];
-        let word = BitSlice::<u128, Msb0>::all_unchecked(&words);
-        let (_, part) = word.split_at(128 - count);
-        self.put_slice(part);
+        let end = self.position + count;
+        self.slice.store_digits_be(self.position, end, digits);
+        self.position = end;
     }
 
     // Writes the `count` lowest digits of a number, the lowest first. There is room for them.
-    pub(super) fn put_le(&mut self, count: usize, digits: u128)
-        requires few { count ≤ 128 }
+    #[inline(always)]
+    pub(super) fn put_le<N: BitRegister>(&mut self, count: usize, digits: N)
+        requires few { count ≤ N.BITS }
         requires inside { count ≤ length (room self.old) }
-        ensures { Writes self.old self.new (digits_le count digits) }
+        ensures { Writes self.old self.new (digits_le count (N.number digits)) }
     {
-        let words = [digits];
-        let word = BitSlice::<u128, Lsb0>::all_unchecked(&words);
-        let (part, _) = word.split_at(count);
-        self.put_slice(part);
+        let end = self.position + count;
+        self.slice.store_digits_le(self.position, end, digits);
+        self.position = end;
     }
 
     /// Writes a number in `count` bits, the first the highest digit. It refuses with `NoRoom`
@@ -64,11 +66,10 @@ impl<'a, R: BitRegister, O: BitOrder<R>> BitWriter<'a, R, O> {
         if self.remaining() < count {
             return Err(WriteError::NoRoom);
         }
-        let digits = value.to_u128();
-        if !has_digits(digits, count) {
+        if !has_digits(value, count) {
             return Err(WriteError::TooManyDigits);
         }
-        self.put_be(count, digits);
+        self.put_be(count, value);
         Ok(())
     }
 
@@ -104,11 +105,10 @@ impl<'a, R: BitRegister, O: BitOrder<R>> BitWriter<'a, R, O> {
         if self.remaining() < count {
             return Err(WriteError::NoRoom);
         }
-        let digits = value.to_u128();
-        if !has_digits(digits, count) {
+        if !has_digits(value, count) {
             return Err(WriteError::TooManyDigits);
         }
-        self.put_le(count, digits);
+        self.put_le(count, value);
         Ok(())
     }
 }

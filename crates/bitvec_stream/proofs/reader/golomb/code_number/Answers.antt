@@ -7,13 +7,13 @@ pub overflow_sub-result : goal.overflow_sub-result
 overflow_sub-result g c =
     let few : length (bits_of c.args.digits) ≤ 128 = omega (arith, c.len.ensures.list, c.if-len-le128.true) in
     let it = code_small (bits_of c.args.digits) c.requires few in
-    omega (arith, c.load_be.ensures.number, it.0)
+    omega (arith, c.load_be.ensures, it.0)
 
 pub returns-then-len-le128 : goal.returns-then-len-le128
 returns-then-len-le128 g c =
     let few : length (bits_of c.args.digits) ≤ 128 = omega (arith, c.len.ensures.list, c.if-len-le128.true) in
     let it = code_small (bits_of c.args.digits) c.requires few in
-    (omega (arith, c.load_be.ensures.number, it.0), omega (arith, c.load_be.ensures.number, it.0, it.1))
+    (omega (arith, c.load_be.ensures, it.0), omega (arith, c.load_be.ensures, it.0, it.1))
 
 pub returns-then-len-gt129 : goal.returns-then-len-gt129
 returns-then-len-gt129 g c =

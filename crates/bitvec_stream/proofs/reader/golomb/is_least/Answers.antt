@@ -19,6 +19,6 @@ returns g c =
     let xs = bits_of c.args.digits in
     let many : length xs ≡ 129 = sym c.len.ensures.list ∙ omega (arith, c.if-len-ne129.false) in
     let next = code_next xs _ c.requires c.split_at.ensures.back many in (
-      λ h. let one = eqb-true c.load_be.result 1 h in omega (arith, next, one, c.load_be.ensures.number),
-      λ is. eq-eqb c.load_be.result 1 (omega (arith, next, is, c.load_be.ensures.number)),
+      λ h. let one = eqb-true c.load_be.result 1 h in omega (arith, next, one, c.load_be.ensures),
+      λ is. eq-eqb c.load_be.result 1 (omega (arith, next, is, c.load_be.ensures)),
     )

@@ -1,11 +1,22 @@
-use Rattle.std.proofs.Common.{Bool, List, ◌-◌, drop, refl, ap, ◌∙◌}
+use Rattle.std.proofs.Common.{◌≡◌, ◌≤◌, ℕ, ◌+◌, ◌-◌, length, sym, ap, arith, length-drop}
+use Rattle.bitvec_slice.specs.BitSliceMut.{lent_words, lent_bits}
+use Rattle.bitvec_slice.specs.Ranges.{with_range}
 use Rattle.bitvec_stream.specs.Numbers.{digits_be}
-use Rattle.bitvec_stream.proofs.WordLemmas.{high_bits}
-use Rattle.bitvec_stream.proofs.WriterLemmas.{writes-as}
+use Rattle.bitvec_stream.proofs.NumberLemmas.{length-digits_be}
+use Rattle.bitvec_stream.proofs.WriterLemmas.{becomes-as, stretch_written}
 use Rattle.bitvec_stream.proofs.writer.BitWriter.put_be.Goals as goal
 
 pub returns : goal.returns
 returns g c =
-    let count = c.args.count in
-    let bits = c.split_at.ensures.back ∙ ap (λ (xs : List Bool). drop (128 - count) xs) c.all_unchecked-word.ensures.bits ∙ high_bits _ c.args.digits count c.requires.few (λ i h. refl) in
-    writes-as c.args.self.now c.put_slice.new.self _ (digits_be count c.args.digits) bits c.put_slice.ensures
+    let old = c.args.self.now.slice in
+    let new = c.store_digits_be.new.self in
+    let xs = lent_bits old in
+    let p = c.args.self.now.position in
+    let n = c.args.count in
+    let value = g.N.BitRegister.number c.args.digits in
+    let many = length-digits_be n value in
+    let some : p + n ≤ length xs = omega (arith, c.requires.inside, length-drop p xs, c.args.self.now.within, old.many (lent_words old)) in
+    let same : p + n - p ≡ n = omega arith in
+    let edit = becomes-as old new _ (with_range xs p (p + n) (digits_be n value)) (ap (λ (m : ℕ). with_range xs p (p + n) (digits_be m value)) same) c.store_digits_be.ensures.bits in
+    let done = stretch_written old new (digits_be n value) p n many some edit in
+    (done.0.front, done.0.behind, ap (λ m. p + m) (sym many), done.1)

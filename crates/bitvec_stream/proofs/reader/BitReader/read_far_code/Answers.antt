@@ -3,7 +3,7 @@ use Rattle.bitvec_slice.specs.BitSlice.{bits_of}
 use Rattle.bitvec_stream.specs.Golomb.{golomb}
 use Rattle.bitvec_stream.specs.Reader.{rest, Passes}
 use Rattle.bitvec_stream.proofs.GolombLemmas.{code_of, code_beyond}
-use Rattle.bitvec_stream.proofs.reader.BitReader.read_exp_golomb.Goals as goal
+use Rattle.bitvec_stream.proofs.reader.BitReader.read_far_code.Goals as goal
 
 pub returns-in-Some-clause-value : goal.returns-in-Some-clause-value
 returns-in-Some-clause-value g c =

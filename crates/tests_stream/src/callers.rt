@@ -1,0 +1,145 @@
+//! Callers of the codes and of unary numbers, with what they know of the bits.
+
+ghost use Rattle.std.specs.Prelude.{◌≡◌, ◌^◌, ◌≤◌, ◌++◌, ◌∷◌, [], true, false};
+ghost use Rattle.std.specs.Prelude.{MatchOption, MatchResult, IfOk, drop, length, replicate};
+ghost use Rattle.bitvec.specs.Truths.{AllAre};
+ghost use Rattle.bitvec_slice.specs.BitSlice.{bits_of};
+ghost use Rattle.bitvec_slice.specs.Bits.{BeginsWith};
+ghost use Rattle.bitvec_stream.specs.Golomb.{golomb, signed_place, StartsWith};
+ghost use Rattle.bitvec_stream.specs.Golomb.{IsSignedLacking};
+ghost use Rattle.bitvec_stream.specs.Reader.{rest};
+ghost use Rattle.bitvec_stream.specs.Refusals.{IsCodeRefusal};
+ghost use Rattle.bitvec_stream.specs.Writer.{written, room};
+
+use bitvec::mem::BitRegister;
+use bitvec::order::BitOrder;
+use bitvec_slice::slice::BitSlice;
+use bitvec_stream::error::{ReadError, WriteError};
+use bitvec_stream::reader::BitReader;
+use bitvec_stream::writer::BitWriter;
+
+/// Reads a number of 32 digits by its code.
+fn read_code<R: BitRegister, O: BitOrder<R>>(
+    reader: &mut BitReader<'_, R, O>,
+) -> Result<u32, ReadError>
+    ensures { MatchResult result (λ n. StartsWith (rest reader.old) (golomb n))
+        (IsCodeRefusal (λ n. 2 ^ 32 ≤ n) (rest reader.old)) }
+{
+    reader.read_exp_golomb()
+}
+
+/// Reads a signed number of 32 digits by its code.
+fn read_signed_code<R: BitRegister, O: BitOrder<R>>(
+    reader: &mut BitReader<'_, R, O>,
+) -> Result<i32, ReadError>
+    ensures { MatchResult result (λ z. StartsWith (rest reader.old) (golomb (signed_place z)))
+        (IsCodeRefusal (IsSignedLacking 32) (rest reader.old)) }
+{
+    reader.read_signed_exp_golomb()
+}
+
+/// Reads a number's code, and gives its length.
+fn code_length<R: BitRegister, O: BitOrder<R>>(
+    reader: &mut BitReader<'_, R, O>,
+) -> Result<usize, ReadError>
+    ensures { IfOk result (λ count. rest reader.new ≡ drop count (rest reader.old)) }
+{
+    let before = reader.position();
+    let _: u64 = reader.read_exp_golomb()?;
+    Ok(reader.position() - before)
+}
+
+/// How many bits a slice begins with that are the same as one; `None` where all are.
+fn first_unary<R: BitRegister, O: BitOrder<R>>(
+    slice: BitSlice<'_, R, O>,
+    bit: bool,
+) -> Option<usize>
+    ensures { MatchOption result (AllAre bit (bits_of slice.entry))
+        (λ count. BeginsWith bit (bits_of slice.entry) count) }
+{
+    let mut reader = BitReader::new(slice);
+    match reader.read_unary(bit) {
+        Ok(count) => Some(count),
+        Err(_) => None,
+    }
+}
+
+/// Writes a number's code.
+fn write_code<R: BitRegister, O: BitOrder<R>>(
+    writer: &mut BitWriter<'_, R, O>,
+    number: u32,
+) -> Result<(), WriteError>
+    ensures { MatchResult result (λ _. written writer.new ≡ written writer.old ++ golomb number)
+        (λ error. (error ≡ WriteError.NoRoom) × (writer.new ≡ writer.old)) }
+{
+    writer.write_exp_golomb(number)
+}
+
+/// Writes a signed number's code.
+fn write_signed_code<R: BitRegister, O: BitOrder<R>>(
+    writer: &mut BitWriter<'_, R, O>,
+    number: i32,
+) -> Result<(), WriteError>
+    ensures { MatchResult result
+        (λ _. written writer.new ≡ written writer.old ++ golomb (signed_place number))
+        (λ error. (error ≡ WriteError.NoRoom) × (writer.new ≡ writer.old)) }
+{
+    writer.write_signed_exp_golomb(number)
+}
+
+/// Writes zeros and a one.
+fn write_zeros<R: BitRegister, O: BitOrder<R>>(
+    writer: &mut BitWriter<'_, R, O>,
+    count: usize,
+) -> Result<(), WriteError>
+    ensures { MatchResult result
+        (λ _. written writer.new ≡ written writer.old ++ replicate count false ++ (true ∷ []))
+        (λ error. (length (room writer.old) ≤ count) × (writer.new ≡ writer.old)) }
+{
+    if writer.remaining() <= count {
+        return Err(WriteError::NoRoom);
+    }
+    writer.write_unary(false, count)
+}
+
+#[cfg(test)]
+mod tests {
+    use super::{
+        code_length, first_unary, read_code, read_signed_code, write_code, write_signed_code,
+        write_zeros,
+    };
+    use bitvec::order::{Lsb0, Msb0};
+    use bitvec_slice::slice::BitSliceMut;
+    use bitvec_stream::error::{ReadError, WriteError};
+    use bitvec_stream::reader::BitReader;
+    use bitvec_stream::writer::BitWriter;
+
+    #[test]
+    fn what_callers_read_and_write(rt: HostRuntime) {
+        let mut memory = [0x00u8; 2];
+        let slice = BitSliceMut::<u8, Msb0>::all_unchecked(&mut memory);
+        let mut writer = BitWriter::new(slice);
+        assert_eq!(rt; write_code(&mut writer, 7), Ok(()));
+        assert_eq!(rt; write_signed_code(&mut writer, -1), Ok(()));
+        assert_eq!(rt; write_zeros(&mut writer, 2), Ok(()));
+        assert_eq!(rt; write_zeros(&mut writer, 3), Err(WriteError::NoRoom));
+        assert_eq!(rt; first_unary(writer.written(), false), Some(3));
+        let mut reader = BitReader::new(writer.written());
+        assert_eq!(rt; read_code(&mut reader), Ok(7));
+        assert_eq!(rt; read_signed_code(&mut reader), Ok(-1));
+        assert_eq!(rt; read_code(&mut reader), Err(ReadError::Unended));
+        let mut reader = BitReader::new(writer.written());
+        assert_eq!(rt; code_length(&mut reader), Ok(7));
+        assert_eq!(rt; code_length(&mut reader), Ok(3));
+        assert_eq!(rt; code_length(&mut reader), Err(ReadError::Unended));
+    }
+
+    #[test]
+    fn a_slice_of_zeros(rt: HostRuntime) {
+        let mut memory = [0x00u64; 3];
+        let slice = BitSliceMut::<u64, Lsb0>::all_unchecked(&mut memory);
+        let mut reader = BitReader::new(slice.as_bitslice());
+        assert_eq!(rt; read_code(&mut reader), Err(ReadError::Unended));
+        assert_eq!(rt; first_unary(slice.as_bitslice(), false), None);
+    }
+}
