@@ -1,3 +1,4 @@
+mod FreeRunLemmas
 pub mod HistoryLemmas
 mod MapLemmas
 mod RunLemmas

@@ -3,4 +3,5 @@ pub mod FreeRuns
 pub mod History
 pub mod Leveled
 pub mod Map
+pub mod RunsLeft
 pub mod Summary

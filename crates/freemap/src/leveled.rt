@@ -14,6 +14,7 @@ ghost use Rattle.freemap.specs.Summary.{summary_words, IsFull, SaysOf, Summarise
 ghost use Rattle.freemap.specs.Summary.{SummarisesBeside};
 
 use crate::map::{FreeMap, words_for};
+use crate::runs::FreeRuns;
 use bitvec::order::BitOrder;
 
 /// How many words the levels over a map of `blocks` blocks take. Constant time.
@@ -142,6 +143,8 @@ fn refresh_rest<O: BitOrder<u64>>(
 
 impl<'a, O: BitOrder<u64>> LeveledMap<'a, O> {
     ghost use Rattle.freemap.specs.Leveled.{map_of};
+    ghost use Rattle.freemap.specs.FreeRuns.{free_runs};
+    ghost use Rattle.freemap.specs.RunsLeft.{free_runs_left};
 
     /// A map under levels in words of their own. Requires that the words have room for them:
     /// [`summary_words_for`] says how many are wanted. Costs by the words of the map.
@@ -166,6 +169,14 @@ impl<'a, O: BitOrder<u64>> LeveledMap<'a, O> {
         &self.blocks
     }
 
+    /// The runs of free blocks, lowest first, as [`iter_free_runs`](FreeMap::iter_free_runs) of the
+    /// map gives them. Constant time.
+    pub fn iter_free_runs(&self) -> FreeRuns<'_, O>
+        ensures { free_runs_left result ≡ free_runs (in_use (map_of self.now)) }
+    {
+        self.blocks.iter_free_runs()
+    }
+
     /// The map alone, without its levels. Constant time.
     pub fn into_map(self) -> FreeMap<'a, O>
         ensures { result ≡ map_of self.entry }
@@ -174,6 +185,7 @@ impl<'a, O: BitOrder<u64>> LeveledMap<'a, O> {
     }
 
     // Makes `count` blocks from block `at` on be in use, or free.
+    #[inline(always)]
     fn mark(&mut self, at: usize, count: usize, used: bool)
         requires { at + count ≤ length (in_use (map_of self.old)) }
         ensures { let old = map_of self.old in BecomesBlocks old (map_of self.new)
@@ -200,6 +212,7 @@ impl<'a, O: BitOrder<u64>> LeveledMap<'a, O> {
     }
 
     // The same of one block. The upper level is looked at only where the lower says something new.
+    #[inline(always)]
     fn mark_one(&mut self, at: usize, used: bool)
         requires { at < length (in_use (map_of self.old)) }
         ensures { let old = map_of self.old in BecomesBlocks old (map_of self.new)
@@ -213,6 +226,7 @@ impl<'a, O: BitOrder<u64>> LeveledMap<'a, O> {
     }
 
     // Hands out `count` free blocks from block `at` on.
+    #[inline(always)]
     fn take(&mut self, at: usize, count: usize)
         requires { AreFree (in_use (map_of self.old)) at count }
         ensures taken { let old = map_of self.old in BecomesBlocks old (map_of self.new)
@@ -334,6 +348,7 @@ impl<'a, O: BitOrder<u64>> LeveledMap<'a, O> {
     /// Requires that there are such blocks and that each is in use, so none is taken back twice:
     /// [`is_in_use`](FreeMap::is_in_use) of [`as_map`](LeveledMap::as_map) is the test. Where they
     /// are a live range, the other ranges stay live, and hold what is in use.
+    #[inline(always)]
     pub fn free(&mut self, at: usize, count: usize)
         requires { AreInUse (in_use (map_of self.old)) at count }
         ensures freed { let old = map_of self.old in BecomesBlocks old (map_of self.new)

@@ -17,3 +17,4 @@ mod tests;
 
 pub use crate::leveled::LeveledMap;
 pub use crate::map::FreeMap;
+pub use crate::runs::FreeRuns;

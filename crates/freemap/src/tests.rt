@@ -43,6 +43,32 @@ fn free_runs(rt: HostRuntime) -> Result<(), Fail> {
 }
 
 #[test]
+fn all_free_runs(rt: HostRuntime) -> Result<(), Fail> {
+    let mut words = [0x00FF_0000_0000_0F0Fu64];
+    let map = FreeMap::<Lsb0>::from_words_unchecked(&mut words, 64);
+    let mut runs = map.iter_free_runs();
+    assert_eq!(rt; runs.next(), Some((4, 4)));
+    assert_eq!(rt; runs.next(), Some((12, 36)));
+    assert_eq!(rt; runs.next(), Some((56, 8)));
+    assert_eq!(rt; runs.next(), None);
+    Ok(())
+}
+
+#[test]
+fn free_runs_across_words(rt: HostRuntime) -> Result<(), Fail> {
+    let mut words = [0x0FFF_FFFF_FFFF_FFFFu64, 0, 0x8000_0000_0000_00F0];
+    let mut summary = [0; 2];
+    let map = FreeMap::<Lsb0>::from_words_unchecked(&mut words, 191);
+    let map = LeveledMap::over(map, &mut summary);
+    let mut runs = map.iter_free_runs();
+    assert_eq!(rt; runs.next(), Some((60, 72)));
+    assert_eq!(rt; runs.clone().unwrap().next(), Some((136, 55)));
+    assert_eq!(rt; runs.next(), Some((136, 55)));
+    assert_eq!(rt; runs.next(), None);
+    Ok(())
+}
+
+#[test]
 fn other_orders_and_rooms(rt: HostRuntime) -> Result<(), Fail> {
     let mut words = [0u64; 1];
     let Ok(mut map) = FreeMap::<Msb0>::new(&mut words, 10) else {
