@@ -1,0 +1,4 @@
+pub mod FrontLemmas
+pub mod GrowthLemmas
+mod LendLemmas
+pub mod VecLemmas

@@ -1,0 +1,16 @@
+-- Why a text is not read as a vector.
+use Rattle.std.specs.Prelude.{⊤, ℕ, ◌<◌, ◌++◌, List, codes, length, slice_index}
+use Rattle.std.specs.Fmt.{decimal}
+use Rattle.bitvec_slice.specs.SliceText.{IsDigit, AreDigits}
+use Rattle.bitvec_vec.specs.declared.vec.text.FromTextError.{FromTextError}
+use Rattle.bitvec_vec.specs.declared.vec.text.FromTextError.TheVariants.{NotADigit, NoMemory}
+
+-- the character that is named is the first of a text that is neither a zero nor a one; of memory nothing is said
+abbrev pub IsTextRefusal : List ℕ → FromTextError → Type 0
+IsTextRefusal text (NotADigit at) = (at < length text) × AreDigits text at × (¬ IsDigit (slice_index text at))
+IsTextRefusal text NoMemory = ⊤
+
+-- that in words, for a reader
+abbrev pub unread_text : FromTextError → List ℕ
+unread_text (NotADigit at) = codes "character " ++ (decimal at ++ codes " is neither 0 nor 1")
+unread_text NoMemory = codes "there is no memory"

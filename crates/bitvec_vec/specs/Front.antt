@@ -1,0 +1,17 @@
+-- The first bits of a memory. `bits` is the width of a word, `at` takes an index in a word to its position in the number,
+-- and a memory is the list of its words' numbers.
+use Rattle.std.specs.Prelude.{ℕ, pos, Bool, List}
+use Rattle.bitvec.specs.Place.{words_met}
+use Rattle.bitvec.specs.Span.{Span, list_of}
+
+-- the span of the first `len` bits
+abbrev pub front_span : ℕ → Span
+front_span len = record { word = pos 0; head = 0; len = len }
+
+-- the first `len` bits, in order
+abbrev pub front_bits : ℕ → (ℕ → ℕ) → ℕ → List ℕ → List Bool
+front_bits bits at len words = list_of bits at (front_span len) words
+
+-- how many words `len` bits take: those that the first `len` bits of a memory meet
+abbrev pub words_for : ℕ → ℕ → ℕ
+words_for bits len = words_met bits 0 len

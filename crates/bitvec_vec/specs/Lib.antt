@@ -1,0 +1,4 @@
+pub mod BitVec
+pub mod Front
+pub mod FromText
+pub mod Lends

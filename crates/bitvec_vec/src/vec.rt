@@ -1,0 +1,14 @@
+//! Vectors of bits.
+
+mod bit_vec;
+mod edit;
+mod ends;
+mod equal;
+mod front;
+mod grow;
+mod insert;
+mod make;
+mod text;
+
+pub use self::bit_vec::BitVec;
+pub use self::text::FromTextError;

@@ -1,0 +1,161 @@
+//! The examples in the documents of vectors.
+
+use bitvec::order::{Lsb0, Msb0};
+use bitvec::ptr::span::BitSpan;
+use bitvec_slice::slice::BitSlice;
+use bitvec_vec::vec::{BitVec, FromTextError};
+use std::test::Fail;
+
+#[test]
+fn a_vector(rt: HostRuntime) -> Result<(), Fail> {
+    let mut bits = BitVec::<u8, Msb0>::new(rt.alloc());
+    bits.push(false)?;
+    bits.push(true)?;
+    assert_eq!(rt; bits.len(), 2);
+    assert_eq!(rt; bits.get(1), Some(true));
+    assert_eq!(rt; bits.pop(), Some(true));
+    assert_eq!(rt; bits.pop(), Some(false));
+    assert_eq!(rt; bits.pop(), None);
+    Ok(())
+}
+
+#[test]
+fn a_bit_more(rt: HostRuntime) -> Result<(), Fail> {
+    let mut bits = BitVec::<u16, Lsb0>::new(rt.alloc());
+    bits.push(true)?;
+    assert_eq!(rt; bits.get(0), Some(true));
+    Ok(())
+}
+
+#[test]
+fn repeated_bits(rt: HostRuntime) -> Result<(), Fail> {
+    let zeros = BitVec::<u8, Msb0>::repeat(rt.alloc(), false, 50)?;
+    let ones = BitVec::<u16, Lsb0>::repeat(rt.alloc(), true, 50)?;
+    assert_eq!(rt; zeros.len(), 50);
+    assert_eq!(rt; zeros.as_bitslice().count_ones(), 0);
+    assert_eq!(rt; ones.as_bitslice().count_ones(), 50);
+    Ok(())
+}
+
+#[test]
+fn bits_of_a_slice(rt: HostRuntime) -> Result<(), Fail> {
+    let memory = [0x2Cu8];
+    let span: BitSpan<u8, Lsb0> = BitSpan::at(2, 4).unwrap();
+    let slice = BitSlice::new(span, &memory).ok_or("outside")?;
+    let bits = BitVec::<u32, Msb0>::from_bitslice(rt.alloc(), slice)?;
+    assert_eq!(rt; bits.len(), 4);
+    assert_eq!(rt; bits.get(0), Some(true));
+    assert_eq!(rt; bits.get(2), Some(false));
+    Ok(())
+}
+
+#[test]
+fn bits_of_words(rt: HostRuntime) -> Result<(), Fail> {
+    let words = vec![in rt.alloc(); 0x81u8, 0x0F]?;
+    assert!(rt; words.len() < 100);
+    let bits = BitVec::<u8, Msb0>::from_words(words);
+    assert_eq!(rt; bits.len(), 16);
+    assert_eq!(rt; bits.get(7), Some(true));
+    assert_eq!(rt; bits.get(8), Some(false));
+    Ok(())
+}
+
+#[test]
+fn another_length(rt: HostRuntime) -> Result<(), Fail> {
+    let mut bits = BitVec::<u8, Lsb0>::repeat(rt.alloc(), false, 2)?;
+    bits.resize(5, true)?;
+    let text = format!(in rt.alloc(); "{}", bits.as_bitslice())?;
+    assert_eq!(rt; text.as_str(), "00111");
+    bits.resize(1, true)?;
+    assert_eq!(rt; bits.len(), 1);
+    Ok(())
+}
+
+#[test]
+fn a_slice_behind(rt: HostRuntime) -> Result<(), Fail> {
+    let memory = [0b1011u8];
+    let span: BitSpan<u8, Lsb0> = BitSpan::at(0, 4).unwrap();
+    let slice = BitSlice::new(span, &memory).ok_or("outside")?;
+    let mut bits = BitVec::<u16, Msb0>::repeat(rt.alloc(), false, 2)?;
+    bits.extend_from_bitslice(slice)?;
+    let text = format!(in rt.alloc(); "{}", bits.as_bitslice())?;
+    assert_eq!(rt; text.as_str(), "001101");
+    Ok(())
+}
+
+#[test]
+fn bits_put_in(rt: HostRuntime) -> Result<(), Fail> {
+    let mut bits = BitVec::<usize, Lsb0>::repeat(rt.alloc(), false, 5)?;
+    assert_eq!(rt; bits.len(), 5);
+    bits.insert(4, true)?;
+    assert_eq!(rt; format!(in rt.alloc(); "{bits}")?.as_str(), "000010");
+    bits.insert(2, true)?;
+    assert_eq!(rt; format!(in rt.alloc(); "{bits}")?.as_str(), "0010010");
+    Ok(())
+}
+
+#[test]
+fn a_bit_taken_out(rt: HostRuntime) -> Result<(), Fail> {
+    let mut bits = BitVec::<u8, Lsb0>::repeat(rt.alloc(), false, 4)?;
+    assert_eq!(rt; bits.len(), 4);
+    bits.insert(2, true)?;
+    assert_eq!(rt; bits.len(), 5);
+    assert!(rt; bits.remove(2));
+    assert_eq!(rt; format!(in rt.alloc(); "{bits}")?.as_str(), "0000");
+    Ok(())
+}
+
+#[test]
+fn the_last_in_its_place(rt: HostRuntime) -> Result<(), Fail> {
+    let mut bits = BitVec::<u8, Msb0>::repeat(rt.alloc(), false, 4)?;
+    bits.push(true)?;
+    assert_eq!(rt; bits.len(), 5);
+    assert!(rt; !bits.swap_remove(1));
+    assert_eq!(rt; format!(in rt.alloc(); "{bits}")?.as_str(), "0100");
+    Ok(())
+}
+
+#[test]
+fn two_vectors(rt: HostRuntime) -> Result<(), Fail> {
+    let mut bits = BitVec::<u16, Msb0>::repeat(rt.alloc(), false, 10)?;
+    let mut more = BitVec::<u32, Lsb0>::repeat(rt.alloc(), true, 10)?;
+    bits.append(&mut more)?;
+    assert_eq!(rt; bits.len(), 20);
+    assert_eq!(rt; bits.as_bitslice().count_ones(), 10);
+    assert!(rt; more.is_empty());
+    Ok(())
+}
+
+#[test]
+fn the_rest_of_a_vector(rt: HostRuntime) -> Result<(), Fail> {
+    let mut bits = BitVec::<u8, Lsb0>::repeat(rt.alloc(), false, 2)?;
+    bits.push(true)?;
+    assert_eq!(rt; bits.len(), 3);
+    let rest = bits.split_off(1)?;
+    assert_eq!(rt; format!(in rt.alloc(); "{bits}")?.as_str(), "0");
+    assert_eq!(rt; format!(in rt.alloc(); "{rest}")?.as_str(), "01");
+    Ok(())
+}
+
+#[test]
+fn bits_for_writing(rt: HostRuntime) -> Result<(), Fail> {
+    let mut bits = BitVec::<u8, Lsb0>::repeat(rt.alloc(), false, 10)?;
+    let mut slice = bits.as_mut_bitslice();
+    slice.invert();
+    drop(slice);
+    assert_eq!(rt; bits.as_bitslice().count_ones(), 10);
+    Ok(())
+}
+
+#[test]
+fn bits_of_a_text(rt: HostRuntime) -> Result<(), Fail> {
+    let bits = BitVec::<u8, Msb0>::from_text(rt.alloc(), "001011")?;
+    assert_eq!(rt; bits.len(), 6);
+    assert_eq!(rt; bits.get(2), Some(true));
+    assert_eq!(rt; format!(in rt.alloc(); "{bits}")?.as_str(), "001011");
+    match BitVec::<u8, Msb0>::from_text(rt.alloc(), "01x1") {
+        Ok(_) => assert!(rt; false),
+        Err(error) => assert_eq!(rt; error, FromTextError::NotADigit(2)),
+    }
+    Ok(())
+}
