@@ -1,4 +1,5 @@
-/* Bits in words: copies, fills, single bits, numbers, counts, and runs of commands.
+/* Bits in words: copies, fills, single bits, numbers, counts, searches, moves, sets, and runs of
+ * commands.
  *
  * A memory is an array of words of 8, 16, 32 or 64 bits, and each call has the width in its name:
  * u8, u16, u32 or u64. A place counts the bits of a memory from 0 on: it is the bit of the index
@@ -11,10 +12,24 @@
  * changed and no answer is written. A call that changes bits changes those of its range alone,
  * also in words that the range shares.
  *
- * What nothing tests: a pointer is aligned and never null, also where the number after it is 0; as
- * many items as that number says stand behind it, and behind one to an answer a single item; each
- * has a value, also where the call writes it; what the call writes shares nothing with its other
- * arguments. No call allocates, and none keeps a pointer. */
+ * What a caller sees to, since nothing tests it:
+ *
+ * - A pointer is aligned for its type, and as many items as the number after it says can be read
+ *   there, or written where the call writes; each has a value, also where the call writes it.
+ * - A pointer whose number is 0 may be NULL, and is never followed. A pointer to an answer, which
+ *   has no number after it, is never NULL.
+ * - What a call writes shares nothing with its other arguments. Where the source and the target of
+ *   bitvec_c_copy_W, bitvec_c_copy_V_to_W, bitvec_c_and_W and its like lie in one array, the status
+ *   is BITVEC_OK all the same and the bits are wrong: bitvec_c_copy_within_W is the call for a copy
+ *   inside one array. What a call only reads may overlap.
+ * - Two calls may run at the same time, in two threads, where neither writes what the other reads
+ *   or writes. A word belongs to one thread at a time, also where the ranges in it are disjoint.
+ *
+ * No call allocates, keeps a pointer, calls back, or touches anything but its arguments. What each
+ * costs is said in words of the memory that its range meets; where nothing is said, it is constant.
+ *
+ * The archive libbitvec_c.a is for x86-64 of level 2 or later (`-march=x86-64-v2`: it has popcnt).
+ * It needs nothing but memcpy, memmove, memset and memcmp. */
 #ifndef BITVEC_H
 #define BITVEC_H
 
@@ -22,9 +37,38 @@
 #include <stddef.h>
 #include <stdint.h>
 
+#if SIZE_MAX != UINT64_MAX
+#error "the archive is for machines whose size_t has 64 bits"
+#endif
+
+/* The version of this header: 10000 times its first part, 100 times its second, and its third. The
+ * archive is of the same release where bitvec_c_version() returns it too. */
+#define BITVEC_VERSION 200
+
+/* Before a call whose status a caller may not ignore. */
+#if defined(__GNUC__)
+#define BITVEC_CHECKED __attribute__((warn_unused_result))
+#elif defined(__cplusplus) && __cplusplus >= 201703L
+#define BITVEC_CHECKED [[nodiscard]]
+#elif defined(__STDC_VERSION__) && __STDC_VERSION__ >= 202311L
+#define BITVEC_CHECKED [[nodiscard]]
+#else
+#define BITVEC_CHECKED
+#endif
+
+/* Behind a call whose argument of that number, from 1 on, is never NULL. */
+#if defined(__GNUC__)
+#define BITVEC_NONNULL(argument) __attribute__((nonnull(argument)))
+#else
+#define BITVEC_NONNULL(argument)
+#endif
+
 #ifdef __cplusplus
 extern "C" {
 #endif
+
+/* Returns the version of the archive, to be compared with BITVEC_VERSION. */
+uint32_t bitvec_c_version(void);
 
 /* Where the bit of an index lies in a word: an `order` of every call below. */
 enum bitvec_order {
@@ -39,7 +83,8 @@ enum bitvec_status {
     BITVEC_NO_ORDER = 1,       /* the order is neither of the two */
     BITVEC_TOO_MANY_SPANS = 2, /* a run has more than BITVEC_MAX_SPANS spans */
     BITVEC_TOO_LONG = 3,       /* a range has more than BITVEC_MAX_BITS bits */
-    BITVEC_OUTSIDE = 4,        /* a range ends past the last bit of its memory */
+    BITVEC_OUTSIDE = 4,        /* a range ends past the last bit of its memory, or a move goes past
+                                  its range */
     BITVEC_TOO_WIDE = 5,       /* a number is to have more than 64 bits */
     BITVEC_OVERLAP = 6,        /* two spans of a run have a bit in common */
     BITVEC_NO_ROOM = 7,        /* a run has not as many replies as requests */
@@ -99,77 +144,469 @@ struct bitvec_reply {
     uint8_t kind; /* an enum bitvec_reply_kind */
 };
 
-/* For each width W, with T for uintW_t:
- *
- * bitvec_c_copy_W copies `count` bits from `source_start` of one memory to `target_start` of
- * another. Both ranges are tested.
- *
- * bitvec_c_copy_within_W does so in one memory, whose ranges may overlap: the target gets the bits
- * as they were before.
- *
- * bitvec_c_fill_W makes `count` bits from `start` on the same as `bit`.
- *
- * bitvec_c_get_W writes the bit at a place to `bit`. BITVEC_OUTSIDE: there is no such bit.
- *
- * bitvec_c_set_W makes the bit at a place the same as `bit`. BITVEC_OUTSIDE: there is no such bit.
- *
- * bitvec_c_load_W writes the number whose digits the `count` bits from `start` on are to `number`;
- * its other digits are 0. The bits that one word has of the range are digits of the number as they
- * are digits of the word, in the same order; those of the range's first word are the lowest or,
- * where `big_endian`, the highest. BITVEC_TOO_WIDE: `count` is past 64.
- *
- * bitvec_c_store_W makes the bits the lowest `count` digits of a number, so that the load of the
- * same range gives them back. BITVEC_TOO_WIDE: `count` is past 64.
- *
- * bitvec_c_count_ones_W writes how many of the `count` bits from `start` on are one to `ones`.
- *
- * bitvec_c_first_one_W writes the index in the range of its first bit that is one to `index`, from
- * 0 on; `count` where there is none.
- *
- * bitvec_c_equal_W writes to `same` whether two ranges of `count` bits have the same bits, in
- * order. Both ranges are tested, and they may share words.
- *
- * bitvec_c_can_run_W tests the spans of a run, for a memory of so many words: BITVEC_NO_ORDER,
- * BITVEC_TOO_MANY_SPANS, BITVEC_TOO_LONG, BITVEC_OUTSIDE, BITVEC_OVERLAP.
- *
- * bitvec_c_run_W serves the requests in their order, each through the span that it names, and
- * writes the n-th reply to the n-th request. It tests what bitvec_c_can_run_W does, and
- * BITVEC_NO_ROOM and BITVEC_NO_COMMAND, before it serves the first. */
-#define BITVEC_CALLS(W, T)                                                                         \
-    uint8_t bitvec_c_copy_##W(uint8_t order, const T *source, size_t source_words,                 \
-                              size_t source_start, T *target, size_t target_words,                 \
-                              size_t target_start, size_t count);                                  \
-    uint8_t bitvec_c_copy_within_##W(uint8_t order, T *memory, size_t words, size_t source_start,  \
-                                     size_t target_start, size_t count);                           \
-    uint8_t bitvec_c_fill_##W(uint8_t order, T *memory, size_t words, size_t start, size_t count,  \
-                              bool bit);                                                           \
-    uint8_t bitvec_c_get_##W(uint8_t order, const T *memory, size_t words, size_t place,           \
-                             bool *bit);                                                           \
-    uint8_t bitvec_c_set_##W(uint8_t order, T *memory, size_t words, size_t place, bool bit);      \
-    uint8_t bitvec_c_load_##W(uint8_t order, bool big_endian, const T *memory, size_t words,       \
-                              size_t start, size_t count, uint64_t *number);                       \
-    uint8_t bitvec_c_store_##W(uint8_t order, bool big_endian, T *memory, size_t words,            \
-                               size_t start, size_t count, uint64_t number);                       \
-    uint8_t bitvec_c_count_ones_##W(uint8_t order, const T *memory, size_t words, size_t start,    \
-                                    size_t count, size_t *ones);                                   \
-    uint8_t bitvec_c_first_one_##W(uint8_t order, const T *memory, size_t words, size_t start,     \
-                                   size_t count, size_t *index);                                   \
-    uint8_t bitvec_c_equal_##W(uint8_t order, const T *memory, size_t words, size_t start,         \
-                               const T *other, size_t other_words, size_t other_start,             \
-                               size_t count, bool *same);                                          \
-    uint8_t bitvec_c_can_run_##W(uint8_t order, const struct bitvec_span *spans,                   \
-                                 size_t span_count, size_t words);                                 \
-    uint8_t bitvec_c_run_##W(uint8_t order, const struct bitvec_span *spans, size_t span_count,    \
-                             T *memory, size_t words, const struct bitvec_request *requests,       \
-                             size_t request_count, struct bitvec_reply *replies,                   \
-                             size_t reply_count);
+/* Copies `count` bits from `source_start` of one memory to `target_start` of another. The two
+ * arrays share no word. Both ranges are tested. Costs by words. */
+BITVEC_CHECKED uint8_t bitvec_c_copy_u8(
+    uint8_t order, const uint8_t *source, size_t source_words, size_t source_start, uint8_t *target,
+    size_t target_words, size_t target_start, size_t count);
+BITVEC_CHECKED uint8_t bitvec_c_copy_u16(
+    uint8_t order, const uint16_t *source, size_t source_words, size_t source_start,
+    uint16_t *target, size_t target_words, size_t target_start, size_t count);
+BITVEC_CHECKED uint8_t bitvec_c_copy_u32(
+    uint8_t order, const uint32_t *source, size_t source_words, size_t source_start,
+    uint32_t *target, size_t target_words, size_t target_start, size_t count);
+BITVEC_CHECKED uint8_t bitvec_c_copy_u64(
+    uint8_t order, const uint64_t *source, size_t source_words, size_t source_start,
+    uint64_t *target, size_t target_words, size_t target_start, size_t count);
 
-BITVEC_CALLS(u8, uint8_t)
-BITVEC_CALLS(u16, uint16_t)
-BITVEC_CALLS(u32, uint32_t)
-BITVEC_CALLS(u64, uint64_t)
+/* Copies `count` bits from one place to another of one memory. The two ranges may overlap: the
+ * target gets the bits as they were before. Both are tested. Costs by words. */
+BITVEC_CHECKED uint8_t bitvec_c_copy_within_u8(
+    uint8_t order, uint8_t *memory, size_t words, size_t source_start, size_t target_start,
+    size_t count);
+BITVEC_CHECKED uint8_t bitvec_c_copy_within_u16(
+    uint8_t order, uint16_t *memory, size_t words, size_t source_start, size_t target_start,
+    size_t count);
+BITVEC_CHECKED uint8_t bitvec_c_copy_within_u32(
+    uint8_t order, uint32_t *memory, size_t words, size_t source_start, size_t target_start,
+    size_t count);
+BITVEC_CHECKED uint8_t bitvec_c_copy_within_u64(
+    uint8_t order, uint64_t *memory, size_t words, size_t source_start, size_t target_start,
+    size_t count);
 
-#undef BITVEC_CALLS
+/* Makes `count` bits from `start` on the same as `bit`. Costs by words. */
+BITVEC_CHECKED uint8_t bitvec_c_fill_u8(
+    uint8_t order, uint8_t *memory, size_t words, size_t start, size_t count, bool bit);
+BITVEC_CHECKED uint8_t bitvec_c_fill_u16(
+    uint8_t order, uint16_t *memory, size_t words, size_t start, size_t count, bool bit);
+BITVEC_CHECKED uint8_t bitvec_c_fill_u32(
+    uint8_t order, uint32_t *memory, size_t words, size_t start, size_t count, bool bit);
+BITVEC_CHECKED uint8_t bitvec_c_fill_u64(
+    uint8_t order, uint64_t *memory, size_t words, size_t start, size_t count, bool bit);
+
+/* Writes the bit at a place to `bit`. BITVEC_OUTSIDE: there is no such bit. */
+BITVEC_CHECKED uint8_t bitvec_c_get_u8(
+    uint8_t order, const uint8_t *memory, size_t words, size_t place, bool *bit) BITVEC_NONNULL(5);
+BITVEC_CHECKED uint8_t bitvec_c_get_u16(
+    uint8_t order, const uint16_t *memory, size_t words, size_t place, bool *bit) BITVEC_NONNULL(5);
+BITVEC_CHECKED uint8_t bitvec_c_get_u32(
+    uint8_t order, const uint32_t *memory, size_t words, size_t place, bool *bit) BITVEC_NONNULL(5);
+BITVEC_CHECKED uint8_t bitvec_c_get_u64(
+    uint8_t order, const uint64_t *memory, size_t words, size_t place, bool *bit) BITVEC_NONNULL(5);
+
+/* Makes the bit at a place the same as `bit`. BITVEC_OUTSIDE: there is no such bit. */
+BITVEC_CHECKED uint8_t bitvec_c_set_u8(
+    uint8_t order, uint8_t *memory, size_t words, size_t place, bool bit);
+BITVEC_CHECKED uint8_t bitvec_c_set_u16(
+    uint8_t order, uint16_t *memory, size_t words, size_t place, bool bit);
+BITVEC_CHECKED uint8_t bitvec_c_set_u32(
+    uint8_t order, uint32_t *memory, size_t words, size_t place, bool bit);
+BITVEC_CHECKED uint8_t bitvec_c_set_u64(
+    uint8_t order, uint64_t *memory, size_t words, size_t place, bool bit);
+
+/* Writes to `number` the number whose digits the `count` bits from `start` on are; its other
+ * digits are 0. The bits that one word has of the range are digits of the number as they are
+ * digits of the word, in the same order; those of the range's first word are the lowest or, where
+ * `big_endian`, the highest. BITVEC_TOO_WIDE: `count` is past 64. */
+BITVEC_CHECKED uint8_t bitvec_c_load_u8(
+    uint8_t order, bool big_endian, const uint8_t *memory, size_t words, size_t start, size_t count,
+    uint64_t *number) BITVEC_NONNULL(7);
+BITVEC_CHECKED uint8_t bitvec_c_load_u16(
+    uint8_t order, bool big_endian, const uint16_t *memory, size_t words, size_t start,
+    size_t count, uint64_t *number) BITVEC_NONNULL(7);
+BITVEC_CHECKED uint8_t bitvec_c_load_u32(
+    uint8_t order, bool big_endian, const uint32_t *memory, size_t words, size_t start,
+    size_t count, uint64_t *number) BITVEC_NONNULL(7);
+BITVEC_CHECKED uint8_t bitvec_c_load_u64(
+    uint8_t order, bool big_endian, const uint64_t *memory, size_t words, size_t start,
+    size_t count, uint64_t *number) BITVEC_NONNULL(7);
+
+/* Makes `count` bits from `start` on the lowest digits of a number, so that the load of the same
+ * range gives them back. BITVEC_TOO_WIDE: `count` is past 64. */
+BITVEC_CHECKED uint8_t bitvec_c_store_u8(
+    uint8_t order, bool big_endian, uint8_t *memory, size_t words, size_t start, size_t count,
+    uint64_t number);
+BITVEC_CHECKED uint8_t bitvec_c_store_u16(
+    uint8_t order, bool big_endian, uint16_t *memory, size_t words, size_t start, size_t count,
+    uint64_t number);
+BITVEC_CHECKED uint8_t bitvec_c_store_u32(
+    uint8_t order, bool big_endian, uint32_t *memory, size_t words, size_t start, size_t count,
+    uint64_t number);
+BITVEC_CHECKED uint8_t bitvec_c_store_u64(
+    uint8_t order, bool big_endian, uint64_t *memory, size_t words, size_t start, size_t count,
+    uint64_t number);
+
+/* Writes to `ones` how many of the `count` bits from `start` on are one. Costs by words. */
+BITVEC_CHECKED uint8_t bitvec_c_count_ones_u8(
+    uint8_t order, const uint8_t *memory, size_t words, size_t start, size_t count,
+    size_t *ones) BITVEC_NONNULL(6);
+BITVEC_CHECKED uint8_t bitvec_c_count_ones_u16(
+    uint8_t order, const uint16_t *memory, size_t words, size_t start, size_t count,
+    size_t *ones) BITVEC_NONNULL(6);
+BITVEC_CHECKED uint8_t bitvec_c_count_ones_u32(
+    uint8_t order, const uint32_t *memory, size_t words, size_t start, size_t count,
+    size_t *ones) BITVEC_NONNULL(6);
+BITVEC_CHECKED uint8_t bitvec_c_count_ones_u64(
+    uint8_t order, const uint64_t *memory, size_t words, size_t start, size_t count,
+    size_t *ones) BITVEC_NONNULL(6);
+
+/* Writes to `index` the index, in the range of `count` bits from `start` on, of its first bit that
+ * is one, from 0 on, or `count` where there is none. Costs by words, up to that bit. */
+BITVEC_CHECKED uint8_t bitvec_c_first_one_u8(
+    uint8_t order, const uint8_t *memory, size_t words, size_t start, size_t count,
+    size_t *index) BITVEC_NONNULL(6);
+BITVEC_CHECKED uint8_t bitvec_c_first_one_u16(
+    uint8_t order, const uint16_t *memory, size_t words, size_t start, size_t count,
+    size_t *index) BITVEC_NONNULL(6);
+BITVEC_CHECKED uint8_t bitvec_c_first_one_u32(
+    uint8_t order, const uint32_t *memory, size_t words, size_t start, size_t count,
+    size_t *index) BITVEC_NONNULL(6);
+BITVEC_CHECKED uint8_t bitvec_c_first_one_u64(
+    uint8_t order, const uint64_t *memory, size_t words, size_t start, size_t count,
+    size_t *index) BITVEC_NONNULL(6);
+
+/* Writes to `same` whether two ranges of `count` bits have the same bits, in order. Both ranges
+ * are tested, and they may share words. Costs by words, up to the first difference. */
+BITVEC_CHECKED uint8_t bitvec_c_equal_u8(
+    uint8_t order, const uint8_t *memory, size_t words, size_t start, const uint8_t *other,
+    size_t other_words, size_t other_start, size_t count, bool *same) BITVEC_NONNULL(9);
+BITVEC_CHECKED uint8_t bitvec_c_equal_u16(
+    uint8_t order, const uint16_t *memory, size_t words, size_t start, const uint16_t *other,
+    size_t other_words, size_t other_start, size_t count, bool *same) BITVEC_NONNULL(9);
+BITVEC_CHECKED uint8_t bitvec_c_equal_u32(
+    uint8_t order, const uint32_t *memory, size_t words, size_t start, const uint32_t *other,
+    size_t other_words, size_t other_start, size_t count, bool *same) BITVEC_NONNULL(9);
+BITVEC_CHECKED uint8_t bitvec_c_equal_u64(
+    uint8_t order, const uint64_t *memory, size_t words, size_t start, const uint64_t *other,
+    size_t other_words, size_t other_start, size_t count, bool *same) BITVEC_NONNULL(9);
+
+/* Writes to `index` the index, in the range of `count` bits from `start` on, of its first bit that
+ * is the same as `bit`, from 0 on, or `count` where there is none. The next one behind a bit is
+ * the first of the range that starts there. Costs by words, up to that bit. */
+BITVEC_CHECKED uint8_t bitvec_c_first_u8(
+    uint8_t order, const uint8_t *memory, size_t words, size_t start, size_t count, bool bit,
+    size_t *index) BITVEC_NONNULL(7);
+BITVEC_CHECKED uint8_t bitvec_c_first_u16(
+    uint8_t order, const uint16_t *memory, size_t words, size_t start, size_t count, bool bit,
+    size_t *index) BITVEC_NONNULL(7);
+BITVEC_CHECKED uint8_t bitvec_c_first_u32(
+    uint8_t order, const uint32_t *memory, size_t words, size_t start, size_t count, bool bit,
+    size_t *index) BITVEC_NONNULL(7);
+BITVEC_CHECKED uint8_t bitvec_c_first_u64(
+    uint8_t order, const uint64_t *memory, size_t words, size_t start, size_t count, bool bit,
+    size_t *index) BITVEC_NONNULL(7);
+
+/* Writes to `index` the index of the last bit of the range that is the same as `bit`, or `count`
+ * where there is none. The one before a bit is the last of the range that ends there. Costs by
+ * words, down to that bit. */
+BITVEC_CHECKED uint8_t bitvec_c_last_u8(
+    uint8_t order, const uint8_t *memory, size_t words, size_t start, size_t count, bool bit,
+    size_t *index) BITVEC_NONNULL(7);
+BITVEC_CHECKED uint8_t bitvec_c_last_u16(
+    uint8_t order, const uint16_t *memory, size_t words, size_t start, size_t count, bool bit,
+    size_t *index) BITVEC_NONNULL(7);
+BITVEC_CHECKED uint8_t bitvec_c_last_u32(
+    uint8_t order, const uint32_t *memory, size_t words, size_t start, size_t count, bool bit,
+    size_t *index) BITVEC_NONNULL(7);
+BITVEC_CHECKED uint8_t bitvec_c_last_u64(
+    uint8_t order, const uint64_t *memory, size_t words, size_t start, size_t count, bool bit,
+    size_t *index) BITVEC_NONNULL(7);
+
+/* Writes to `index` the first index in the range from which on `zeros` bits are in it and zero, or
+ * `count` where there is none; for 0 zeros it is 0. Costs by words, where a run is no longer than
+ * a word, else by bits in words that are not zero. */
+BITVEC_CHECKED uint8_t bitvec_c_find_zeros_u8(
+    uint8_t order, const uint8_t *memory, size_t words, size_t start, size_t count, size_t zeros,
+    size_t *index) BITVEC_NONNULL(7);
+BITVEC_CHECKED uint8_t bitvec_c_find_zeros_u16(
+    uint8_t order, const uint16_t *memory, size_t words, size_t start, size_t count, size_t zeros,
+    size_t *index) BITVEC_NONNULL(7);
+BITVEC_CHECKED uint8_t bitvec_c_find_zeros_u32(
+    uint8_t order, const uint32_t *memory, size_t words, size_t start, size_t count, size_t zeros,
+    size_t *index) BITVEC_NONNULL(7);
+BITVEC_CHECKED uint8_t bitvec_c_find_zeros_u64(
+    uint8_t order, const uint64_t *memory, size_t words, size_t start, size_t count, size_t zeros,
+    size_t *index) BITVEC_NONNULL(7);
+
+/* Turns over each of the `count` bits from `start` on. Costs by words. */
+BITVEC_CHECKED uint8_t bitvec_c_invert_u8(
+    uint8_t order, uint8_t *memory, size_t words, size_t start, size_t count);
+BITVEC_CHECKED uint8_t bitvec_c_invert_u16(
+    uint8_t order, uint16_t *memory, size_t words, size_t start, size_t count);
+BITVEC_CHECKED uint8_t bitvec_c_invert_u32(
+    uint8_t order, uint32_t *memory, size_t words, size_t start, size_t count);
+BITVEC_CHECKED uint8_t bitvec_c_invert_u64(
+    uint8_t order, uint64_t *memory, size_t words, size_t start, size_t count);
+
+/* Puts the `count` bits from `start` on in the opposite order. Costs by words. */
+BITVEC_CHECKED uint8_t bitvec_c_reverse_u8(
+    uint8_t order, uint8_t *memory, size_t words, size_t start, size_t count);
+BITVEC_CHECKED uint8_t bitvec_c_reverse_u16(
+    uint8_t order, uint16_t *memory, size_t words, size_t start, size_t count);
+BITVEC_CHECKED uint8_t bitvec_c_reverse_u32(
+    uint8_t order, uint32_t *memory, size_t words, size_t start, size_t count);
+BITVEC_CHECKED uint8_t bitvec_c_reverse_u64(
+    uint8_t order, uint64_t *memory, size_t words, size_t start, size_t count);
+
+/* Moves each of the `count` bits from `start` on `by` places towards the first, so that the first
+ * `by` are lost, and makes the last `by` zero. BITVEC_OUTSIDE: also where `by` is past `count`.
+ * Costs by words. */
+BITVEC_CHECKED uint8_t bitvec_c_shift_left_u8(
+    uint8_t order, uint8_t *memory, size_t words, size_t start, size_t count, size_t by);
+BITVEC_CHECKED uint8_t bitvec_c_shift_left_u16(
+    uint8_t order, uint16_t *memory, size_t words, size_t start, size_t count, size_t by);
+BITVEC_CHECKED uint8_t bitvec_c_shift_left_u32(
+    uint8_t order, uint32_t *memory, size_t words, size_t start, size_t count, size_t by);
+BITVEC_CHECKED uint8_t bitvec_c_shift_left_u64(
+    uint8_t order, uint64_t *memory, size_t words, size_t start, size_t count, size_t by);
+
+/* Moves each of the `count` bits from `start` on `by` places towards the last, so that the last
+ * `by` are lost, and makes the first `by` zero. BITVEC_OUTSIDE: also where `by` is past `count`.
+ * Costs by words. */
+BITVEC_CHECKED uint8_t bitvec_c_shift_right_u8(
+    uint8_t order, uint8_t *memory, size_t words, size_t start, size_t count, size_t by);
+BITVEC_CHECKED uint8_t bitvec_c_shift_right_u16(
+    uint8_t order, uint16_t *memory, size_t words, size_t start, size_t count, size_t by);
+BITVEC_CHECKED uint8_t bitvec_c_shift_right_u32(
+    uint8_t order, uint32_t *memory, size_t words, size_t start, size_t count, size_t by);
+BITVEC_CHECKED uint8_t bitvec_c_shift_right_u64(
+    uint8_t order, uint64_t *memory, size_t words, size_t start, size_t count, size_t by);
+
+/* Puts the first `by` of the `count` bits from `start` on behind the others. BITVEC_OUTSIDE: also
+ * where `by` is past `count`. Costs by words. */
+BITVEC_CHECKED uint8_t bitvec_c_rotate_left_u8(
+    uint8_t order, uint8_t *memory, size_t words, size_t start, size_t count, size_t by);
+BITVEC_CHECKED uint8_t bitvec_c_rotate_left_u16(
+    uint8_t order, uint16_t *memory, size_t words, size_t start, size_t count, size_t by);
+BITVEC_CHECKED uint8_t bitvec_c_rotate_left_u32(
+    uint8_t order, uint32_t *memory, size_t words, size_t start, size_t count, size_t by);
+BITVEC_CHECKED uint8_t bitvec_c_rotate_left_u64(
+    uint8_t order, uint64_t *memory, size_t words, size_t start, size_t count, size_t by);
+
+/* Leaves one those of the `count` bits from `target_start` on whose bit in the source is one: an
+ * intersection. The two memories share no word, and each has an order of its own. Both ranges are
+ * tested, the source's first. Costs by words where the orders are the same, else by bits. */
+BITVEC_CHECKED uint8_t bitvec_c_and_u8(
+    uint8_t source_order, const uint8_t *source, size_t source_words, size_t source_start,
+    uint8_t order, uint8_t *target, size_t target_words, size_t target_start, size_t count);
+BITVEC_CHECKED uint8_t bitvec_c_and_u16(
+    uint8_t source_order, const uint16_t *source, size_t source_words, size_t source_start,
+    uint8_t order, uint16_t *target, size_t target_words, size_t target_start, size_t count);
+BITVEC_CHECKED uint8_t bitvec_c_and_u32(
+    uint8_t source_order, const uint32_t *source, size_t source_words, size_t source_start,
+    uint8_t order, uint32_t *target, size_t target_words, size_t target_start, size_t count);
+BITVEC_CHECKED uint8_t bitvec_c_and_u64(
+    uint8_t source_order, const uint64_t *source, size_t source_words, size_t source_start,
+    uint8_t order, uint64_t *target, size_t target_words, size_t target_start, size_t count);
+
+/* Makes one those bits whose bit in the source is one: a union. As bitvec_c_and_W. */
+BITVEC_CHECKED uint8_t bitvec_c_or_u8(
+    uint8_t source_order, const uint8_t *source, size_t source_words, size_t source_start,
+    uint8_t order, uint8_t *target, size_t target_words, size_t target_start, size_t count);
+BITVEC_CHECKED uint8_t bitvec_c_or_u16(
+    uint8_t source_order, const uint16_t *source, size_t source_words, size_t source_start,
+    uint8_t order, uint16_t *target, size_t target_words, size_t target_start, size_t count);
+BITVEC_CHECKED uint8_t bitvec_c_or_u32(
+    uint8_t source_order, const uint32_t *source, size_t source_words, size_t source_start,
+    uint8_t order, uint32_t *target, size_t target_words, size_t target_start, size_t count);
+BITVEC_CHECKED uint8_t bitvec_c_or_u64(
+    uint8_t source_order, const uint64_t *source, size_t source_words, size_t source_start,
+    uint8_t order, uint64_t *target, size_t target_words, size_t target_start, size_t count);
+
+/* Turns over those bits whose bit in the source is one: a symmetric difference. As
+ * bitvec_c_and_W. */
+BITVEC_CHECKED uint8_t bitvec_c_xor_u8(
+    uint8_t source_order, const uint8_t *source, size_t source_words, size_t source_start,
+    uint8_t order, uint8_t *target, size_t target_words, size_t target_start, size_t count);
+BITVEC_CHECKED uint8_t bitvec_c_xor_u16(
+    uint8_t source_order, const uint16_t *source, size_t source_words, size_t source_start,
+    uint8_t order, uint16_t *target, size_t target_words, size_t target_start, size_t count);
+BITVEC_CHECKED uint8_t bitvec_c_xor_u32(
+    uint8_t source_order, const uint32_t *source, size_t source_words, size_t source_start,
+    uint8_t order, uint32_t *target, size_t target_words, size_t target_start, size_t count);
+BITVEC_CHECKED uint8_t bitvec_c_xor_u64(
+    uint8_t source_order, const uint64_t *source, size_t source_words, size_t source_start,
+    uint8_t order, uint64_t *target, size_t target_words, size_t target_start, size_t count);
+
+/* Makes zero those bits whose bit in the source is one: a difference. As bitvec_c_and_W. */
+BITVEC_CHECKED uint8_t bitvec_c_and_not_u8(
+    uint8_t source_order, const uint8_t *source, size_t source_words, size_t source_start,
+    uint8_t order, uint8_t *target, size_t target_words, size_t target_start, size_t count);
+BITVEC_CHECKED uint8_t bitvec_c_and_not_u16(
+    uint8_t source_order, const uint16_t *source, size_t source_words, size_t source_start,
+    uint8_t order, uint16_t *target, size_t target_words, size_t target_start, size_t count);
+BITVEC_CHECKED uint8_t bitvec_c_and_not_u32(
+    uint8_t source_order, const uint32_t *source, size_t source_words, size_t source_start,
+    uint8_t order, uint32_t *target, size_t target_words, size_t target_start, size_t count);
+BITVEC_CHECKED uint8_t bitvec_c_and_not_u64(
+    uint8_t source_order, const uint64_t *source, size_t source_words, size_t source_start,
+    uint8_t order, uint64_t *target, size_t target_words, size_t target_start, size_t count);
+
+/* Writes to `ones` how many of the `count` bits from `start` on are one whose bit in the other
+ * range is one too. Each memory has an order of its own, and they may share words. Both ranges are
+ * tested. Costs by words where the orders are the same, else by bits. */
+BITVEC_CHECKED uint8_t bitvec_c_count_and_u8(
+    uint8_t order, const uint8_t *memory, size_t words, size_t start, uint8_t other_order,
+    const uint8_t *other, size_t other_words, size_t other_start, size_t count,
+    size_t *ones) BITVEC_NONNULL(10);
+BITVEC_CHECKED uint8_t bitvec_c_count_and_u16(
+    uint8_t order, const uint16_t *memory, size_t words, size_t start, uint8_t other_order,
+    const uint16_t *other, size_t other_words, size_t other_start, size_t count,
+    size_t *ones) BITVEC_NONNULL(10);
+BITVEC_CHECKED uint8_t bitvec_c_count_and_u32(
+    uint8_t order, const uint32_t *memory, size_t words, size_t start, uint8_t other_order,
+    const uint32_t *other, size_t other_words, size_t other_start, size_t count,
+    size_t *ones) BITVEC_NONNULL(10);
+BITVEC_CHECKED uint8_t bitvec_c_count_and_u64(
+    uint8_t order, const uint64_t *memory, size_t words, size_t start, uint8_t other_order,
+    const uint64_t *other, size_t other_words, size_t other_start, size_t count,
+    size_t *ones) BITVEC_NONNULL(10);
+
+/* Writes to `index` the index, in the range, of its first bit that is one and whose bit in the
+ * other range is one too, or `count` where there is none: whether two sets meet. As
+ * bitvec_c_count_and_W, up to that bit. */
+BITVEC_CHECKED uint8_t bitvec_c_first_and_u8(
+    uint8_t order, const uint8_t *memory, size_t words, size_t start, uint8_t other_order,
+    const uint8_t *other, size_t other_words, size_t other_start, size_t count,
+    size_t *index) BITVEC_NONNULL(10);
+BITVEC_CHECKED uint8_t bitvec_c_first_and_u16(
+    uint8_t order, const uint16_t *memory, size_t words, size_t start, uint8_t other_order,
+    const uint16_t *other, size_t other_words, size_t other_start, size_t count,
+    size_t *index) BITVEC_NONNULL(10);
+BITVEC_CHECKED uint8_t bitvec_c_first_and_u32(
+    uint8_t order, const uint32_t *memory, size_t words, size_t start, uint8_t other_order,
+    const uint32_t *other, size_t other_words, size_t other_start, size_t count,
+    size_t *index) BITVEC_NONNULL(10);
+BITVEC_CHECKED uint8_t bitvec_c_first_and_u64(
+    uint8_t order, const uint64_t *memory, size_t words, size_t start, uint8_t other_order,
+    const uint64_t *other, size_t other_words, size_t other_start, size_t count,
+    size_t *index) BITVEC_NONNULL(10);
+
+/* The same of the first bit that is one and whose bit in the other range is zero: whether one set
+ * is part of another. */
+BITVEC_CHECKED uint8_t bitvec_c_first_and_not_u8(
+    uint8_t order, const uint8_t *memory, size_t words, size_t start, uint8_t other_order,
+    const uint8_t *other, size_t other_words, size_t other_start, size_t count,
+    size_t *index) BITVEC_NONNULL(10);
+BITVEC_CHECKED uint8_t bitvec_c_first_and_not_u16(
+    uint8_t order, const uint16_t *memory, size_t words, size_t start, uint8_t other_order,
+    const uint16_t *other, size_t other_words, size_t other_start, size_t count,
+    size_t *index) BITVEC_NONNULL(10);
+BITVEC_CHECKED uint8_t bitvec_c_first_and_not_u32(
+    uint8_t order, const uint32_t *memory, size_t words, size_t start, uint8_t other_order,
+    const uint32_t *other, size_t other_words, size_t other_start, size_t count,
+    size_t *index) BITVEC_NONNULL(10);
+BITVEC_CHECKED uint8_t bitvec_c_first_and_not_u64(
+    uint8_t order, const uint64_t *memory, size_t words, size_t start, uint8_t other_order,
+    const uint64_t *other, size_t other_words, size_t other_start, size_t count,
+    size_t *index) BITVEC_NONNULL(10);
+
+/* The same of the first bit that is not the same in the other range: whether, and how, two ranges
+ * differ. */
+BITVEC_CHECKED uint8_t bitvec_c_first_difference_u8(
+    uint8_t order, const uint8_t *memory, size_t words, size_t start, uint8_t other_order,
+    const uint8_t *other, size_t other_words, size_t other_start, size_t count,
+    size_t *index) BITVEC_NONNULL(10);
+BITVEC_CHECKED uint8_t bitvec_c_first_difference_u16(
+    uint8_t order, const uint16_t *memory, size_t words, size_t start, uint8_t other_order,
+    const uint16_t *other, size_t other_words, size_t other_start, size_t count,
+    size_t *index) BITVEC_NONNULL(10);
+BITVEC_CHECKED uint8_t bitvec_c_first_difference_u32(
+    uint8_t order, const uint32_t *memory, size_t words, size_t start, uint8_t other_order,
+    const uint32_t *other, size_t other_words, size_t other_start, size_t count,
+    size_t *index) BITVEC_NONNULL(10);
+BITVEC_CHECKED uint8_t bitvec_c_first_difference_u64(
+    uint8_t order, const uint64_t *memory, size_t words, size_t start, uint8_t other_order,
+    const uint64_t *other, size_t other_words, size_t other_start, size_t count,
+    size_t *index) BITVEC_NONNULL(10);
+
+/* For any two widths V and W: bitvec_c_copy_V_to_W copies `count` bits from `source_start` of a
+ * memory of words of one width to `target_start` of one of words of another, each under an order
+ * of its own. The two memories share no word. Both ranges are tested, the source's first. Costs by
+ * words where the orders are the same, else by bits. */
+BITVEC_CHECKED uint8_t bitvec_c_copy_u8_to_u8(
+    uint8_t source_order, const uint8_t *source, size_t source_words, size_t source_start,
+    uint8_t order, uint8_t *target, size_t target_words, size_t target_start, size_t count);
+BITVEC_CHECKED uint8_t bitvec_c_copy_u8_to_u16(
+    uint8_t source_order, const uint8_t *source, size_t source_words, size_t source_start,
+    uint8_t order, uint16_t *target, size_t target_words, size_t target_start, size_t count);
+BITVEC_CHECKED uint8_t bitvec_c_copy_u8_to_u32(
+    uint8_t source_order, const uint8_t *source, size_t source_words, size_t source_start,
+    uint8_t order, uint32_t *target, size_t target_words, size_t target_start, size_t count);
+BITVEC_CHECKED uint8_t bitvec_c_copy_u8_to_u64(
+    uint8_t source_order, const uint8_t *source, size_t source_words, size_t source_start,
+    uint8_t order, uint64_t *target, size_t target_words, size_t target_start, size_t count);
+BITVEC_CHECKED uint8_t bitvec_c_copy_u16_to_u8(
+    uint8_t source_order, const uint16_t *source, size_t source_words, size_t source_start,
+    uint8_t order, uint8_t *target, size_t target_words, size_t target_start, size_t count);
+BITVEC_CHECKED uint8_t bitvec_c_copy_u16_to_u16(
+    uint8_t source_order, const uint16_t *source, size_t source_words, size_t source_start,
+    uint8_t order, uint16_t *target, size_t target_words, size_t target_start, size_t count);
+BITVEC_CHECKED uint8_t bitvec_c_copy_u16_to_u32(
+    uint8_t source_order, const uint16_t *source, size_t source_words, size_t source_start,
+    uint8_t order, uint32_t *target, size_t target_words, size_t target_start, size_t count);
+BITVEC_CHECKED uint8_t bitvec_c_copy_u16_to_u64(
+    uint8_t source_order, const uint16_t *source, size_t source_words, size_t source_start,
+    uint8_t order, uint64_t *target, size_t target_words, size_t target_start, size_t count);
+BITVEC_CHECKED uint8_t bitvec_c_copy_u32_to_u8(
+    uint8_t source_order, const uint32_t *source, size_t source_words, size_t source_start,
+    uint8_t order, uint8_t *target, size_t target_words, size_t target_start, size_t count);
+BITVEC_CHECKED uint8_t bitvec_c_copy_u32_to_u16(
+    uint8_t source_order, const uint32_t *source, size_t source_words, size_t source_start,
+    uint8_t order, uint16_t *target, size_t target_words, size_t target_start, size_t count);
+BITVEC_CHECKED uint8_t bitvec_c_copy_u32_to_u32(
+    uint8_t source_order, const uint32_t *source, size_t source_words, size_t source_start,
+    uint8_t order, uint32_t *target, size_t target_words, size_t target_start, size_t count);
+BITVEC_CHECKED uint8_t bitvec_c_copy_u32_to_u64(
+    uint8_t source_order, const uint32_t *source, size_t source_words, size_t source_start,
+    uint8_t order, uint64_t *target, size_t target_words, size_t target_start, size_t count);
+BITVEC_CHECKED uint8_t bitvec_c_copy_u64_to_u8(
+    uint8_t source_order, const uint64_t *source, size_t source_words, size_t source_start,
+    uint8_t order, uint8_t *target, size_t target_words, size_t target_start, size_t count);
+BITVEC_CHECKED uint8_t bitvec_c_copy_u64_to_u16(
+    uint8_t source_order, const uint64_t *source, size_t source_words, size_t source_start,
+    uint8_t order, uint16_t *target, size_t target_words, size_t target_start, size_t count);
+BITVEC_CHECKED uint8_t bitvec_c_copy_u64_to_u32(
+    uint8_t source_order, const uint64_t *source, size_t source_words, size_t source_start,
+    uint8_t order, uint32_t *target, size_t target_words, size_t target_start, size_t count);
+BITVEC_CHECKED uint8_t bitvec_c_copy_u64_to_u64(
+    uint8_t source_order, const uint64_t *source, size_t source_words, size_t source_start,
+    uint8_t order, uint64_t *target, size_t target_words, size_t target_start, size_t count);
+
+/* Tests the spans of a run for a memory of so many words: BITVEC_NO_ORDER, BITVEC_TOO_MANY_SPANS,
+ * BITVEC_TOO_LONG, BITVEC_OUTSIDE, BITVEC_OVERLAP. It tests each with each, so costs at most 2016
+ * such tests. */
+BITVEC_CHECKED uint8_t bitvec_c_can_run_u8(
+    uint8_t order, const struct bitvec_span *spans, size_t span_count, size_t words);
+BITVEC_CHECKED uint8_t bitvec_c_can_run_u16(
+    uint8_t order, const struct bitvec_span *spans, size_t span_count, size_t words);
+BITVEC_CHECKED uint8_t bitvec_c_can_run_u32(
+    uint8_t order, const struct bitvec_span *spans, size_t span_count, size_t words);
+BITVEC_CHECKED uint8_t bitvec_c_can_run_u64(
+    uint8_t order, const struct bitvec_span *spans, size_t span_count, size_t words);
+
+/* Serves the requests in their order, each through the span that it names, and writes the n-th
+ * reply to the n-th request. It tests what bitvec_c_can_run_W does, and BITVEC_NO_ROOM and
+ * BITVEC_NO_COMMAND, before it serves the first. */
+BITVEC_CHECKED uint8_t bitvec_c_run_u8(
+    uint8_t order, const struct bitvec_span *spans, size_t span_count, uint8_t *memory,
+    size_t words, const struct bitvec_request *requests, size_t request_count,
+    struct bitvec_reply *replies, size_t reply_count);
+BITVEC_CHECKED uint8_t bitvec_c_run_u16(
+    uint8_t order, const struct bitvec_span *spans, size_t span_count, uint16_t *memory,
+    size_t words, const struct bitvec_request *requests, size_t request_count,
+    struct bitvec_reply *replies, size_t reply_count);
+BITVEC_CHECKED uint8_t bitvec_c_run_u32(
+    uint8_t order, const struct bitvec_span *spans, size_t span_count, uint32_t *memory,
+    size_t words, const struct bitvec_request *requests, size_t request_count,
+    struct bitvec_reply *replies, size_t reply_count);
+BITVEC_CHECKED uint8_t bitvec_c_run_u64(
+    uint8_t order, const struct bitvec_span *spans, size_t span_count, uint64_t *memory,
+    size_t words, const struct bitvec_request *requests, size_t request_count,
+    struct bitvec_reply *replies, size_t reply_count);
+
+#undef BITVEC_NONNULL
+#undef BITVEC_CHECKED
 
 #ifdef __cplusplus
 }

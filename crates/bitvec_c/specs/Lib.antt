@@ -1,6 +1,10 @@
+pub mod Call
+pub mod Edit
 pub mod Number
 pub mod Order
 pub mod Plain
 pub mod Range
 pub mod RunStatus
+pub mod Seek
 pub mod Status
+pub mod Version

@@ -52,3 +52,13 @@ ranges_status bits order words start other_words other_start count =
 abbrev pub number_status : ℕ → ℕ → ℕ → ℕ → ℕ → ℕ
 number_status bits order words start count =
     let first = range_status bits order words start count in if first == ok then (if nat_lt 64 count then too_wide else ok) else first
+
+-- the same of a range whose bits are moved by a number of places, which is at most their count
+abbrev pub moved_status : ℕ → ℕ → ℕ → ℕ → ℕ → ℕ → ℕ
+moved_status bits order words start count by =
+    let first = range_status bits order words start count in if first == ok then (if nat_lt count by then outside else ok) else first
+
+-- the same of two ranges of as many bits, each in a memory of its own words and under an order of its own
+abbrev pub pair_status : ℕ → ℕ → ℕ → ℕ → ℕ → ℕ → ℕ → ℕ → ℕ → ℕ
+pair_status bits order words start other_bits other_order other_words other_start count =
+    let first = range_status bits order words start count in if first == ok then range_status other_bits other_order other_words other_start count else first

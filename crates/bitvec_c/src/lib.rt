@@ -6,11 +6,17 @@
 #![tactic(auto)]
 
 mod bit;
+mod combine;
+mod convert;
 mod copy;
+mod edit;
 mod fill;
 mod find;
 mod number;
 mod plain;
+mod question;
 mod range;
 mod run;
+mod seek;
 mod status;
+mod version;

@@ -3,6 +3,7 @@
 ghost use Rattle.std.specs.Prelude.{◌≡◌, ◌+◌, ◌*◌, ◌≤◌, ◌↔◌, IsTrue};
 ghost use Rattle.bitvec.specs.Place.{region_max_bits};
 ghost use Rattle.bitvec_c.specs.Status.{ok, range_status, ranges_status, number_status};
+ghost use Rattle.bitvec_c.specs.Status.{moved_status, pair_status};
 
 use bitvec::mem::BitRegister;
 
@@ -115,6 +116,55 @@ pub(crate) fn test_number<R: BitRegister>(order: u8, words: usize, start: usize,
     let status = test_range::<R>(order, words, start, count);
     if status == OK && count > MAX_DIGITS {
         TOO_WIDE
+    } else {
+        status
+    }
+}
+
+/// The status of an order and of a range whose bits are moved by a number of places.
+pub(crate) fn test_moved<R: BitRegister>(
+    order: u8,
+    words: usize,
+    start: usize,
+    count: usize,
+    by: usize,
+) -> u8
+    ensures status { result ≡ moved_status R.BITS order words start count by }
+    ensures order { result ≡ ok → order ≤ 1 }
+    ensures short { result ≡ ok → count ≤ region_max_bits }
+    ensures inside { result ≡ ok → start + count ≤ words * R.BITS }
+    ensures by { result ≡ ok → by ≤ count }
+{
+    let status = test_range::<R>(order, words, start, count);
+    if status == OK && by > count {
+        OUTSIDE
+    } else {
+        status
+    }
+}
+
+/// The status of two ranges of as many bits, each in a memory of its own words, under an order of
+/// its own.
+pub(crate) fn test_pair<R: BitRegister, R2: BitRegister>(
+    order: u8,
+    words: usize,
+    start: usize,
+    other_order: u8,
+    other_words: usize,
+    other_start: usize,
+    count: usize,
+) -> u8
+    ensures status { result
+        ≡ pair_status R.BITS order words start R2.BITS other_order other_words other_start count }
+    ensures order { result ≡ ok → order ≤ 1 }
+    ensures other_order { result ≡ ok → other_order ≤ 1 }
+    ensures short { result ≡ ok → count ≤ region_max_bits }
+    ensures inside { result ≡ ok → start + count ≤ words * R.BITS }
+    ensures other_inside { result ≡ ok → other_start + count ≤ other_words * R2.BITS }
+{
+    let status = test_range::<R>(order, words, start, count);
+    if status == OK {
+        test_range::<R2>(other_order, other_words, other_start, count)
     } else {
         status
     }

@@ -5,7 +5,7 @@
 
 use std::hint::black_box;
 use std::time::{Duration, Instant};
-use worghulen::{copy_bits, BitSlice, BitSliceMut, Lsb0, Msb0};
+use worghulen::{BitSlice, BitSliceMut, Lsb0, Msb0, copy_bits};
 
 const WORDS: usize = 65536;
 /// All bits of the words but those of four.
@@ -103,11 +103,7 @@ mod by_hand {
         let (k, shift) = (from / 64, from % 64);
         let second = if shift + count > 64 { source[k + 1] } else { 0 };
         let word = merged::<RISING>(source[k], second, shift);
-        if RISING {
-            word << bit
-        } else {
-            word >> bit
-        }
+        if RISING { word << bit } else { word >> bit }
     }
 
     /// A plain loop over the target's words, each shifted, merged and masked.
@@ -213,6 +209,41 @@ mod by_hand {
         (tail != 0).then(|| place(body.len() + 1, tail))
     }
 
+    /// How many of the bits that are one have an even index.
+    #[inline(never)]
+    pub fn even_ones(words: &[u64]) -> usize {
+        let mut count = 0;
+        for (k, word) in words.iter().enumerate() {
+            for digit in 0..64 {
+                let bit = word >> digit & 1 == 1;
+                count += usize::from(bit && (k * 64 + digit) % 2 == 0);
+            }
+        }
+        count
+    }
+
+    /// The sum of the indices of the bits that are one.
+    #[inline(never)]
+    pub fn sum_of_ones(words: &[u64]) -> usize {
+        let mut sum = 0;
+        for (k, word) in words.iter().enumerate() {
+            let mut left = *word;
+            while left != 0 {
+                sum += k * 64 + left.trailing_zeros() as usize;
+                left &= left - 1;
+            }
+        }
+        sum
+    }
+
+    /// Makes those bits one that are one in others.
+    #[inline(never)]
+    pub fn or(words: &mut [u64], others: &[u64]) {
+        for (word, other) in words.iter_mut().zip(others) {
+            *word |= other;
+        }
+    }
+
     /// Whether those bits of two memories are the same.
     #[inline(never)]
     pub fn equal(words: &[u64], others: &[u64]) -> bool {
@@ -302,7 +333,7 @@ fn compare_bits(source: &[u64]) {
     let (mut target, mut other) = (words(), words());
     let ours = BitSlice::<_, Lsb0>::new(source, ..).unwrap();
     compare(
-        "get",
+        "bit-get",
         READS,
         || {
             let bits = black_box(ours);
@@ -317,7 +348,7 @@ fn compare_bits(source: &[u64]) {
     );
     let mut bits = BitSliceMut::<_, Lsb0>::new(&mut target, ..).unwrap();
     compare(
-        "set",
+        "bit-set",
         READS,
         || {
             let bits = black_box(&mut bits);
@@ -330,9 +361,9 @@ fn compare_bits(source: &[u64]) {
         },
     );
     assert_eq!(target, other);
-    let load = |place| BitSlice::<_, Lsb0>::new(source, place..place + 13)?.load_le();
+    let load = |place| BitSlice::<_, Lsb0>::new(source, place..place + 13)?.load_le::<u64>();
     compare(
-        "load-13-bits",
+        "field-13",
         READS,
         || {
             black_box(
@@ -398,8 +429,63 @@ fn compare_passes(source: &[u64]) {
     );
 }
 
+fn compare_iterators(source: &[u64]) {
+    let bits = |words| BitSlice::<u64, Lsb0>::new(words, ..).unwrap();
+    compare(
+        "iter-bits",
+        WORDS,
+        || {
+            let indexed = bits(black_box(source)).iter().enumerate();
+            black_box(indexed.filter(|(i, bit)| *bit && i % 2 == 0).count());
+        },
+        || {
+            black_box(by_hand::even_ones(black_box(source)));
+        },
+    );
+    compare(
+        "iter-ones",
+        WORDS,
+        || {
+            black_box(bits(black_box(source)).iter_ones().sum::<usize>());
+        },
+        || {
+            black_box(by_hand::sum_of_ones(black_box(source)));
+        },
+    );
+    let sparse: Vec<_> = source
+        .iter()
+        .map(|word| u64::from(word % 64 == 0))
+        .collect();
+    compare(
+        "iter-ones-sparse",
+        WORDS,
+        || {
+            black_box(bits(black_box(&sparse)).iter_ones().sum::<usize>());
+        },
+        || {
+            black_box(by_hand::sum_of_ones(black_box(&sparse)));
+        },
+    );
+}
+
+fn compare_sets(source: &[u64]) {
+    let (mut target, mut other) = (vec![0; WORDS], vec![0; WORDS]);
+    compare(
+        "or",
+        WORDS,
+        || {
+            let mut bits = BitSliceMut::<_, Lsb0>::new(black_box(&mut target), ..).unwrap();
+            bits |= BitSlice::<_, Lsb0>::new(black_box(source), ..).unwrap();
+        },
+        || by_hand::or(black_box(&mut other), black_box(source)),
+    );
+    assert_eq!(target, other);
+}
+
 fn main() {
     let source = words();
+    compare_iterators(&source);
+    compare_sets(&source);
     compare_copies(&source);
     compare_bits(&source);
     compare_passes(&source);

@@ -1,32 +1,23 @@
-//! Bits in slices of words: copies, single bits, numbers, counts, and runs of commands.
-//!
-//! A memory is a slice of `u8`, `u16`, `u32` or `u64`. A place counts its bits from 0 on: it is the
-//! bit of the index `place % width` in the word `place / width`, and the order, [`Lsb0`] or
-//! [`Msb0`], says at which digit of the word that index lies. A call that writes changes the bits
-//! of its range alone, also in words that the range shares with others.
-//!
-//! Each call here is a safe function over an export of the static library `bitvec_c`, which is
-//! proved to do what the docs say. Not proved are the declarations of these exports, in one module
-//! that is private, and the few lines over them; tests compare each call with a plain model. No
-//! input makes a call panic: what does not lie in a memory is a [`Refusal`], or `None`, and then
-//! nothing is changed.
-//!
-//! # Examples
-//!
-//! ```
-//! use worghulen::{copy_bits, Msb0};
-//!
-//! let source = [0x0f_u8, 0xf0];
-//! let mut target = [0_u8; 3];
-//! copy_bits::<_, Msb0>(&source, 4..12, &mut target, 10)?;
-//! assert_eq!(target, [0x00, 0x3f, 0xc0]);
-//! # Ok::<(), worghulen::Refusal>(())
-//! ```
-
+#![doc = include_str!("../README.md")]
+#![no_std]
 #![deny(missing_docs, unsafe_code)]
 
+#[cfg(not(all(target_arch = "x86_64", target_pointer_width = "64")))]
+compile_error!("the static library is compiled for x86-64 alone");
+
+#[cfg(test)]
+extern crate std;
+
+mod combine;
+mod compare;
+mod edit;
+mod find;
+mod index;
+mod iter;
+mod number;
 mod order;
 mod range;
+mod readers;
 mod refusal;
 mod register;
 mod run;
@@ -34,10 +25,40 @@ mod slice;
 mod slice_mut;
 #[allow(unsafe_code)]
 mod sys;
+mod text;
+mod view;
+mod words;
 
+pub use index::BitIndex;
+pub use iter::{Chunks, Iter, Ones, Zeros};
+pub use number::Number;
 pub use order::{Lsb0, Msb0, Order};
 pub use refusal::Refusal;
 pub use register::Register;
 pub use run::{Command, Reply, Request, Spans};
-pub use slice::{BitSlice, Ones};
-pub use slice_mut::{copy_bits, BitSliceMut};
+pub use slice::BitSlice;
+pub use slice_mut::{BitSliceMut, copy_bits};
+pub use view::BitView;
+
+/// The number of the version of the static library that this crate is written for: 10000 times its
+/// first part, 100 times its second, and its third.
+///
+/// # Examples
+///
+/// ```
+/// assert_eq!(worghulen::archive_version(), worghulen::VERSION);
+/// ```
+pub const VERSION: u32 = 200;
+
+/// The number of the version of the static library that is linked, to be compared with [`VERSION`].
+/// Constant time.
+///
+/// # Examples
+///
+/// ```
+/// assert_eq!(worghulen::archive_version(), 200);
+/// ```
+#[must_use]
+pub fn archive_version() -> u32 {
+    sys::bitvec_c_version()
+}

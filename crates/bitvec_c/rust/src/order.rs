@@ -8,13 +8,11 @@ pub trait Order: code::Code + Copy + 'static {}
 /// # Examples
 ///
 /// ```
-/// use worghulen::{BitSlice, Lsb0};
+/// use worghulen::{BitView, Lsb0};
 ///
-/// let words = [0b0000_0001_u8];
-/// assert_eq!(BitSlice::<_, Lsb0>::new(&words, ..)?.get(0), Some(true));
-/// # Ok::<(), worghulen::Refusal>(())
+/// assert_eq!([0b0000_0001_u8].view_bits::<Lsb0>().get(0), Some(true));
 /// ```
-#[derive(Clone, Copy, PartialEq, Eq, Hash, Debug)]
+#[derive(Clone, Copy, PartialEq, Eq, Hash, Debug, Default)]
 pub struct Lsb0;
 
 /// The bit of index `i` of a word is its digit `width - 1 - i`: index 0 is greatest.
@@ -22,13 +20,11 @@ pub struct Lsb0;
 /// # Examples
 ///
 /// ```
-/// use worghulen::{BitSlice, Msb0};
+/// use worghulen::{BitView, Msb0};
 ///
-/// let words = [0b1000_0000_u8];
-/// assert_eq!(BitSlice::<_, Msb0>::new(&words, ..)?.get(0), Some(true));
-/// # Ok::<(), worghulen::Refusal>(())
+/// assert_eq!([0b1000_0000_u8].view_bits::<Msb0>().get(0), Some(true));
 /// ```
-#[derive(Clone, Copy, PartialEq, Eq, Hash, Debug)]
+#[derive(Clone, Copy, PartialEq, Eq, Hash, Debug, Default)]
 pub struct Msb0;
 
 impl Order for Lsb0 {}
@@ -36,15 +32,38 @@ impl Order for Msb0 {}
 
 impl code::Code for Lsb0 {
     const CODE: u8 = 0;
+    const BIG: bool = false;
+
+    #[inline]
+    fn turned(bits: u64, _: usize) -> u64 {
+        bits
+    }
 }
 
 impl code::Code for Msb0 {
     const CODE: u8 = 1;
+    const BIG: bool = true;
+
+    #[inline]
+    fn turned(bits: u64, count: usize) -> u64 {
+        if count == 0 {
+            return 0;
+        }
+        bits.reverse_bits() >> (64 - count)
+    }
 }
 
-mod code {
+pub(crate) mod code {
     /// The number by which the library knows an order. Nothing outside this crate can name it.
     pub trait Code {
+        /// The number.
         const CODE: u8;
+
+        /// Whether a number has the bits in this order, or in the opposite one, where the part of
+        /// its first word is highest.
+        const BIG: bool;
+
+        /// The lowest `count` digits, at most 64, in the opposite order where `BIG`.
+        fn turned(bits: u64, count: usize) -> u64;
     }
 }

@@ -1,17 +1,19 @@
 //! Ranges of bits.
 
 use crate::refusal::Refusal;
-use std::ops::{Bound, RangeBounds};
+use core::ops::{Bound, Range, RangeBounds};
 
 /// How many bits a range has at most.
 const MAX_BITS: usize = usize::MAX >> 3;
 
 /// How many bits a number of words have, or the greatest number where that is none.
+#[inline]
 pub(crate) fn bits_of(words: usize, width: usize) -> usize {
     words.saturating_mul(width)
 }
 
 /// Where a range starts, and how many bits it has; refused where these are not among `bits`.
+#[inline]
 pub(crate) fn within(
     range: impl RangeBounds<usize>,
     bits: usize,
@@ -35,10 +37,18 @@ pub(crate) fn within(
 }
 
 /// How many bits lie from a place on to before another.
+#[inline]
 pub(crate) fn length(start: usize, end: usize) -> Result<usize, Refusal> {
     let len = end.checked_sub(start).ok_or(Refusal::Reversed)?;
     if len > MAX_BITS {
         return Err(Refusal::TooLong);
     }
     Ok(len)
+}
+
+/// The range of a number of places from one on.
+#[inline]
+pub(crate) fn run_of(start: usize, count: usize) -> Result<Range<usize>, Refusal> {
+    let end = start.checked_add(count).ok_or(Refusal::Outside)?;
+    Ok(start..end)
 }

@@ -1,7 +1,7 @@
 //! Why a call is refused.
 
-use std::error::Error;
-use std::fmt::{self, Display, Formatter};
+use core::error::Error;
+use core::fmt::{self, Display, Formatter};
 
 /// Why a call is refused. It has then changed nothing.
 ///
@@ -15,6 +15,7 @@ use std::fmt::{self, Display, Formatter};
 /// assert_eq!(refused.to_string(), "a range does not lie in its memory");
 /// ```
 #[derive(Clone, Copy, PartialEq, Eq, Hash, Debug)]
+#[non_exhaustive]
 pub enum Refusal {
     /// The order is none of the two. The types of this crate rule it out.
     NoOrder,
@@ -24,27 +25,39 @@ pub enum Refusal {
     TooLong,
     /// A range ends past the last bit of its memory or slice, or there is no bit at an index.
     Outside,
-    /// A number is to have more than 64 bits.
+    /// A number is to have more bits than its type, or more than 64.
     TooWide,
     /// Two spans of a run have a bit in common.
     Overlap,
-    /// A run has not as many replies as requests. This crate makes as many.
+    /// A run has not as many replies as requests.
     NoRoom,
     /// The command of a request is none. The types of this crate rule it out.
     NoCommand,
     /// A range starts past its end.
     Reversed,
-    /// Bits are to be copied from a slice into one of another length.
+    /// Two slices that are to have the same length have not.
     Lengths,
+    /// A cut does not lie between two words, so that both parts would have bits of one word.
+    SharedWord,
     /// The library answered with a number that this crate does not know: it is of another version.
     Unknown(u8),
 }
 
 impl Refusal {
     /// What a status of the library says.
+    #[inline]
     pub(crate) fn check(status: u8) -> Result<(), Self> {
-        Err(match status {
-            0 => return Ok(()),
+        if status == 0 {
+            Ok(())
+        } else {
+            Err(Self::of(status))
+        }
+    }
+
+    /// What a status other than 0 says.
+    #[cold]
+    fn of(status: u8) -> Self {
+        match status {
             1 => Self::NoOrder,
             2 => Self::TooManySpans,
             3 => Self::TooLong,
@@ -54,7 +67,7 @@ impl Refusal {
             7 => Self::NoRoom,
             8 => Self::NoCommand,
             unknown => Self::Unknown(unknown),
-        })
+        }
     }
 }
 
@@ -65,12 +78,13 @@ impl Display for Refusal {
             Self::TooManySpans => "a run has more than 64 spans",
             Self::TooLong => "a range has more than 2305843009213693951 bits",
             Self::Outside => "a range does not lie in its memory",
-            Self::TooWide => "a number is to have more than 64 bits",
+            Self::TooWide => "a number is to have more bits than its type",
             Self::Overlap => "two spans of a run have a bit in common",
             Self::NoRoom => "a run has not as many replies as requests",
             Self::NoCommand => "the command of a request is none",
             Self::Reversed => "a range starts past its end",
             Self::Lengths => "the slices have different lengths",
+            Self::SharedWord => "a cut does not lie between two words",
             Self::Unknown(number) => return write!(f, "the library answered {number}"),
         })
     }

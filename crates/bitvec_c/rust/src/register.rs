@@ -2,7 +2,7 @@
 
 use crate::sys::Exports;
 
-/// A word of a memory: `u8`, `u16`, `u32` or `u64`, and no other.
+/// A word of a memory: `u8`, `u16`, `u32`, `u64` or `usize`, and no other.
 pub trait Register: Exports + Copy + 'static {
     /// How many bits a word has.
     ///
@@ -12,6 +12,7 @@ pub trait Register: Exports + Copy + 'static {
     /// use worghulen::Register;
     ///
     /// assert_eq!(<u16 as Register>::BITS, 16);
+    /// assert_eq!(<usize as Register>::BITS, 64);
     /// ```
     const BITS: usize;
 }
@@ -24,4 +25,4 @@ macro_rules! registers {
     };
 }
 
-registers!(u8 u16 u32 u64);
+registers!(u8 u16 u32 u64 usize);

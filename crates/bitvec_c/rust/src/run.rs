@@ -5,11 +5,15 @@ use crate::range::length;
 use crate::refusal::Refusal;
 use crate::register::Register;
 use crate::sys;
-use std::marker::PhantomData;
-use std::ops::Range;
+use core::fmt::{self, Debug, Formatter};
+use core::marker::PhantomData;
+use core::ops::Range;
 
 /// How many spans a run has at most.
 const MAX_SPANS: usize = 64;
+
+/// How many requests are served by one call.
+const AT_ONCE: usize = 64;
 
 /// A command to one span.
 ///
@@ -24,7 +28,8 @@ const MAX_SPANS: usize = 64;
 ///
 /// let mut words = [0x9b_u8];
 /// let requests = [Request { span: 0, command: Command::Store(0, 0x24) }];
-/// let replies = Spans::<Lsb0>::new(&[1..7])?.run(&mut words, &requests)?;
+/// let mut replies = [Reply::Done];
+/// Spans::<Lsb0>::new(&[1..7])?.run(&mut words, &requests, &mut replies)?;
 /// assert_eq!(replies, [Reply::Word(0x1a)]);
 /// assert_eq!(words, [0xa5]);
 /// # Ok::<(), worghulen::Refusal>(())
@@ -77,8 +82,8 @@ pub enum Command {
 /// use worghulen::{Command, Lsb0, Request, Spans};
 ///
 /// let mut words = [0xfa_u8];
-/// let requests = [Request { span: 1, command: Command::Clear(0) }];
-/// Spans::<Lsb0>::new(&[0..3, 3..8])?.run(&mut words, &requests)?;
+/// let request = Request { span: 1, command: Command::Clear(0) };
+/// Spans::<Lsb0>::new(&[0..3, 3..8])?.serve(&mut words, &request)?;
 /// assert_eq!(words, [0x02]);
 /// # Ok::<(), worghulen::Refusal>(())
 /// ```
@@ -100,7 +105,8 @@ pub struct Request {
 /// let mut words = [0x12_u8, 0x34];
 /// let command = Command::Load(1);
 /// let requests = [Request { span: 0, command }, Request { span: 1, command }];
-/// let replies = Spans::<Lsb0>::new(&[4..12])?.run(&mut words, &requests)?;
+/// let mut replies = [Reply::Done; 2];
+/// Spans::<Lsb0>::new(&[4..12])?.run(&mut words, &requests, &mut replies)?;
 /// assert_eq!(replies, [Reply::Word(0x04), Reply::NoSpan]);
 /// # Ok::<(), worghulen::Refusal>(())
 /// ```
@@ -134,19 +140,31 @@ pub enum Reply {
 ///     Request { span: 0, command: Command::Replace(1, true) },
 ///     Request { span: 1, command: Command::Read(4) },
 /// ];
-/// let replies = Spans::<Lsb0>::new(&[0..3, 3..8])?.run(&mut words, &requests)?;
+/// let mut replies = [Reply::Done; 3];
+/// Spans::<Lsb0>::new(&[0..3, 3..8])?.run(&mut words, &requests, &mut replies)?;
 /// assert_eq!(replies, [Reply::Word(0), Reply::Bit(false), Reply::Bit(true)]);
 /// assert_eq!(words, [0b1111_1010]);
 /// # Ok::<(), worghulen::Refusal>(())
 /// ```
-#[derive(Clone, PartialEq, Eq, Hash, Debug)]
+#[derive(Clone, PartialEq, Eq, Hash)]
 pub struct Spans<O> {
-    spans: Vec<sys::Span>,
+    /// The spans, and behind them empty ones.
+    list: [sys::Span; MAX_SPANS],
+    count: usize,
     order: PhantomData<O>,
 }
 
+impl<O> Debug for Spans<O> {
+    /// The ranges, as a list.
+    fn fmt(&self, f: &mut Formatter<'_>) -> fmt::Result {
+        let spans = self.list[..self.count].iter();
+        let ranges = spans.map(|span| span.start..span.start + span.count);
+        f.debug_list().entries(ranges).finish()
+    }
+}
+
 impl<O: Order> Spans<O> {
-    /// The spans of these ranges, whose numbers are their indices here.
+    /// The spans of these ranges, whose numbers are their indices here. Costs by ranges.
     ///
     /// # Errors
     ///
@@ -163,18 +181,26 @@ impl<O: Order> Spans<O> {
     /// assert_eq!(Spans::<Lsb0>::new(&vec![0..0; 65]), Err(Refusal::TooManySpans));
     /// ```
     pub fn new(ranges: &[Range<usize>]) -> Result<Self, Refusal> {
-        if ranges.len() > MAX_SPANS {
-            return Err(Refusal::TooManySpans);
+        let mut list = [sys::Span::default(); MAX_SPANS];
+        let count = ranges.len();
+        let own = list.get_mut(..count).ok_or(Refusal::TooManySpans)?;
+        for (own, range) in own.iter_mut().zip(ranges) {
+            *own = span(range)?;
         }
-        let spans = ranges.iter().map(span).collect::<Result<_, _>>()?;
         Ok(Self {
-            spans,
+            list,
+            count,
             order: PhantomData,
         })
     }
 
+    /// The spans, as the library has them.
+    fn own(&self) -> &[sys::Span] {
+        &self.list[..self.count]
+    }
+
     /// Tests that each span lies within the words, and that no two have a bit in common: what
-    /// [`run`](Self::run) wants of them.
+    /// [`run`](Self::run) wants of them. It tests each with each, so costs at most 2016 such tests.
     ///
     /// # Errors
     ///
@@ -192,14 +218,64 @@ impl<O: Order> Spans<O> {
     /// # Ok::<(), Refusal>(())
     /// ```
     pub fn can_run<T: Register>(&self, words: &[T]) -> Result<(), Refusal> {
-        T::can_run(O::CODE, &self.spans, words.len())
+        T::can_run(O::CODE, self.own(), words.len())
     }
 
-    /// Gives the spans the commands of the requests, in their order; reply n is to request n.
+    /// Gives the spans the commands of the requests, in their order, and writes reply n to request
+    /// n. It allocates nothing, however many there are.
     ///
     /// Each span's replies are those that its own list of bits gives under its own commands alone.
     /// In the end each span has the list that its commands leave, and every other bit of the words
-    /// is as before.
+    /// is as before. Costs what the commands cost, and a test of the spans for each 64 requests.
+    ///
+    /// # Errors
+    ///
+    /// [`Refusal::NoRoom`] where there are not as many replies as requests, otherwise as
+    /// [`can_run`](Self::can_run). Nothing is changed then, and no reply is written.
+    ///
+    /// # Examples
+    ///
+    /// ```
+    /// use worghulen::{Command, Lsb0, Refusal, Reply, Request, Spans};
+    ///
+    /// let mut words = [0x5a_u8];
+    /// let command = Command::Invert(0);
+    /// let requests = [Request { span: 0, command }, Request { span: 1, command }];
+    /// let mut replies = [Reply::Done; 2];
+    /// let spans = Spans::<Lsb0>::new(&[0..3, 3..8])?;
+    /// spans.run(&mut words, &requests, &mut replies)?;
+    /// assert_eq!(replies, [Reply::Word(0x02), Reply::Word(0x58)]);
+    /// assert_eq!(words, [0xa5]);
+    /// assert_eq!(spans.run(&mut words, &requests, &mut []), Err(Refusal::NoRoom));
+    /// # Ok::<(), Refusal>(())
+    /// ```
+    pub fn run<T: Register>(
+        &self,
+        words: &mut [T],
+        requests: &[Request],
+        replies: &mut [Reply],
+    ) -> Result<(), Refusal> {
+        if requests.len() != replies.len() {
+            return Err(Refusal::NoRoom);
+        }
+        // (also where there are no requests)
+        self.can_run(words)?;
+        let mut asked = [sys::Request::default(); AT_ONCE];
+        let mut answers = [sys::Reply::default(); AT_ONCE];
+        for (requests, replies) in requests.chunks(AT_ONCE).zip(replies.chunks_mut(AT_ONCE)) {
+            for (own, request) in asked.iter_mut().zip(requests) {
+                *own = own_request(request);
+            }
+            let (asked, answers) = (&asked[..requests.len()], &mut answers[..requests.len()]);
+            T::run(O::CODE, self.own(), words, asked, answers)?;
+            for (reply, answer) in replies.iter_mut().zip(answers) {
+                *reply = answered(*answer)?;
+            }
+        }
+        Ok(())
+    }
+
+    /// Serves one request, as [`run`](Self::run) does.
     ///
     /// # Errors
     ///
@@ -208,25 +284,25 @@ impl<O: Order> Spans<O> {
     /// # Examples
     ///
     /// ```
-    /// use worghulen::{Command, Lsb0, Reply, Request, Spans};
+    /// use worghulen::{Command, Msb0, Reply, Request, Spans};
     ///
-    /// let mut words = [0x5a_u8];
-    /// let command = Command::Invert(0);
-    /// let requests = [Request { span: 0, command }, Request { span: 1, command }];
-    /// let replies = Spans::<Lsb0>::new(&[0..3, 3..8])?.run(&mut words, &requests)?;
-    /// assert_eq!(replies, [Reply::Word(0x02), Reply::Word(0x58)]);
-    /// assert_eq!(words, [0xa5]);
+    /// let mut words = [0b1001_0000_u8];
+    /// let spans = Spans::<Msb0>::new(&[0..4])?;
+    /// let request = Request { span: 0, command: Command::Swap(2, 3) };
+    /// assert_eq!(spans.serve(&mut words, &request)?, Reply::Done);
+    /// assert_eq!(words, [0b1010_0000]);
     /// # Ok::<(), worghulen::Refusal>(())
     /// ```
-    pub fn run<T: Register>(
-        &self,
-        words: &mut [T],
-        requests: &[Request],
-    ) -> Result<Vec<Reply>, Refusal> {
-        let requests: Vec<_> = requests.iter().map(asked).collect();
-        let mut replies = vec![sys::Reply::default(); requests.len()];
-        T::run(O::CODE, &self.spans, words, &requests, &mut replies)?;
-        replies.iter().map(answered).collect()
+    pub fn serve<T: Register>(&self, words: &mut [T], request: &Request) -> Result<Reply, Refusal> {
+        let mut answer = [sys::Reply::default()];
+        T::run(
+            O::CODE,
+            self.own(),
+            words,
+            &[own_request(request)],
+            &mut answer,
+        )?;
+        answered(answer[0])
     }
 }
 
@@ -240,7 +316,7 @@ fn span(range: &Range<usize>) -> Result<sys::Span, Refusal> {
 }
 
 /// A request as the library has it.
-fn asked(request: &Request) -> sys::Request {
+fn own_request(request: &Request) -> sys::Request {
     let (command, [a, b, count], number) = match request.command {
         Command::Load(k) => (0, [k, 0, 0], 0),
         Command::Store(k, number) => (1, [k, 0, 0], number),
@@ -264,7 +340,7 @@ fn asked(request: &Request) -> sys::Request {
 }
 
 /// A reply of the library.
-fn answered(reply: &sys::Reply) -> Result<Reply, Refusal> {
+fn answered(reply: sys::Reply) -> Result<Reply, Refusal> {
     Ok(match reply.kind {
         0 => Reply::Word(reply.number),
         1 => Reply::Bit(reply.number != 0),

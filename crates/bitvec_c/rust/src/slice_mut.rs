@@ -1,18 +1,16 @@
 //! Bits that are written.
 
 use crate::order::Order;
-use crate::range::{bits_of, within};
+use crate::range::{bits_of, run_of, within};
 use crate::refusal::Refusal;
 use crate::register::Register;
-use crate::slice::{granted, BitSlice};
-use std::fmt::{self, Debug, Formatter};
-use std::marker::PhantomData;
-use std::ops::RangeBounds;
+use crate::slice::BitSlice;
+use core::marker::PhantomData;
+use core::ops::RangeBounds;
 
-/// A range of bits of a slice of words, to be written.
+/// A range of bits of a slice of words, to be read and written.
 ///
-/// Indices count its bits from 0 on. No call changes a bit of the words outside the range. What is
-/// read of it, [`as_bitslice`](Self::as_bitslice) reads.
+/// Indices count its bits from 0 on. No call changes a bit of the words outside the range.
 ///
 /// # Examples
 ///
@@ -34,7 +32,7 @@ pub struct BitSliceMut<'a, T, O> {
 }
 
 impl<'a, T: Register, O: Order> BitSliceMut<'a, T, O> {
-    /// The bits of a range of places.
+    /// The bits of a range of places. Constant time.
     ///
     /// # Errors
     ///
@@ -51,17 +49,30 @@ impl<'a, T: Register, O: Order> BitSliceMut<'a, T, O> {
     /// assert!(BitSliceMut::<_, Msb0>::new(&mut words, 3..257).is_err());
     /// # Ok::<(), Refusal>(())
     /// ```
+    #[inline]
     pub fn new(words: &'a mut [T], range: impl RangeBounds<usize>) -> Result<Self, Refusal> {
         let (start, len) = within(range, bits_of(words.len(), T::BITS))?;
-        Ok(Self {
+        Ok(Self::of(words, start, len))
+    }
+
+    /// A number of bits from a place on, which lie in the words.
+    #[inline]
+    fn of(words: &'a mut [T], start: usize, len: usize) -> Self {
+        Self {
             words,
             start,
             len,
             order: PhantomData,
-        })
+        }
     }
 
-    /// The same bits, to be read.
+    /// The words, and the place of the first bit in them.
+    #[inline]
+    pub(crate) fn place_mut(&mut self) -> (&mut [T], usize) {
+        (self.words, self.start)
+    }
+
+    /// The same bits, to be read. Constant time.
     ///
     /// # Examples
     ///
@@ -74,213 +85,158 @@ impl<'a, T: Register, O: Order> BitSliceMut<'a, T, O> {
     /// assert_eq!(bits.as_bitslice().count_ones(), 8);
     /// # Ok::<(), worghulen::Refusal>(())
     /// ```
+    #[inline]
     #[must_use]
     pub fn as_bitslice(&self) -> BitSlice<'_, T, O> {
         BitSlice::of(self.words, self.start, self.len)
     }
 
-    /// How many bits there are.
+    /// The bits of a range of indices, to be written, and `None` where these are not among the
+    /// bits. Constant time.
     ///
     /// # Examples
     ///
     /// ```
-    /// use worghulen::{BitSliceMut, Lsb0};
+    /// use worghulen::{BitView, Lsb0};
     ///
-    /// assert_eq!(BitSliceMut::<_, Lsb0>::new(&mut [0_u8; 2], 3..12)?.len(), 9);
-    /// # Ok::<(), worghulen::Refusal>(())
-    /// ```
-    #[must_use]
-    pub fn len(&self) -> usize {
-        self.len
-    }
-
-    /// Whether there are none.
-    ///
-    /// # Examples
-    ///
-    /// ```
-    /// use worghulen::{BitSliceMut, Lsb0};
-    ///
-    /// assert!(BitSliceMut::<_, Lsb0>::new(&mut [0_u8; 2], 3..3)?.is_empty());
-    /// # Ok::<(), worghulen::Refusal>(())
-    /// ```
-    #[must_use]
-    pub fn is_empty(&self) -> bool {
-        self.len == 0
-    }
-
-    /// The bit at an index, and `None` where there is none.
-    ///
-    /// # Examples
-    ///
-    /// ```
-    /// use worghulen::{BitSliceMut, Lsb0};
-    ///
-    /// let mut words = [0b0000_1000_u8];
-    /// let bits = BitSliceMut::<_, Lsb0>::new(&mut words, 2..6)?;
-    /// assert_eq!((bits.get(1), bits.get(4)), (Some(true), None));
-    /// # Ok::<(), worghulen::Refusal>(())
+    /// let mut words = [0_u8; 2];
+    /// let mut bits = words.view_bits_mut::<Lsb0>();
+    /// bits.get_mut(2..12).unwrap().get_mut(3..).unwrap().fill(true);
+    /// assert!(bits.get_mut(12..17).is_none());
+    /// assert_eq!(words, [0b1110_0000, 0b0000_1111]);
     /// ```
     #[inline]
     #[must_use]
-    pub fn get(&self, index: usize) -> Option<bool> {
-        self.as_bitslice().get(index)
+    pub fn get_mut(&mut self, range: impl RangeBounds<usize>) -> Option<BitSliceMut<'_, T, O>> {
+        self.part_mut(range).ok()
     }
 
-    /// Makes the bit at an index the same as `bit`.
+    /// The bits of a range of indices, to be written, or why it is refused. Constant time.
     ///
     /// # Errors
     ///
-    /// [`Refusal::Outside`] where there is no such bit.
+    /// As [`BitSlice::part`].
     ///
     /// # Examples
     ///
     /// ```
-    /// use worghulen::{BitSliceMut, Lsb0, Refusal};
+    /// use worghulen::{BitView, Msb0};
     ///
-    /// let mut words = [0_u8];
-    /// let mut bits = BitSliceMut::<_, Lsb0>::new(&mut words, 2..6)?;
-    /// bits.set(1, true)?;
-    /// assert_eq!(bits.set(4, true), Err(Refusal::Outside));
-    /// assert_eq!(words, [0b0000_1000]);
+    /// let mut word = 0_u16;
+    /// let mut bits = word.view_bits_mut::<Msb0>();
+    /// bits.part_mut(..4)?.store_be(0x7)?;
+    /// bits.part_mut(12..)?.store_be(0x9)?;
+    /// assert_eq!(word, 0x7009);
+    /// # Ok::<(), worghulen::Refusal>(())
+    /// ```
+    #[inline]
+    pub fn part_mut(
+        &mut self,
+        range: impl RangeBounds<usize>,
+    ) -> Result<BitSliceMut<'_, T, O>, Refusal> {
+        let (from, len) = within(range, self.len)?;
+        Ok(BitSliceMut::of(self.words, self.start + from, len))
+    }
+
+    /// The bits of a range of indices, for as long as the words are lent. Constant time.
+    ///
+    /// # Errors
+    ///
+    /// As [`BitSlice::part`].
+    ///
+    /// # Examples
+    ///
+    /// ```
+    /// use worghulen::{BitSliceMut, BitView, Lsb0, Refusal};
+    ///
+    /// fn low(words: &mut [u64]) -> Result<BitSliceMut<'_, u64, Lsb0>, Refusal> {
+    ///     words.view_bits_mut().into_part(..8)
+    /// }
+    ///
+    /// let mut words = [0; 2];
+    /// low(&mut words)?.fill(true);
+    /// assert_eq!(words, [0xff, 0]);
     /// # Ok::<(), Refusal>(())
     /// ```
     #[inline]
-    pub fn set(&mut self, index: usize, bit: bool) -> Result<(), Refusal> {
-        if index >= self.len {
+    pub fn into_part(self, range: impl RangeBounds<usize>) -> Result<Self, Refusal> {
+        let (from, len) = within(range, self.len)?;
+        Ok(Self::of(self.words, self.start + from, len))
+    }
+
+    /// The bits before an index, and those from it on, both to be written, where the cut lies
+    /// between two words, or one of the parts has no bits. Constant time.
+    ///
+    /// Where both parts have bits of one word, two `&mut` would share that word:
+    /// [`Spans`](crate::Spans) edits such parts in one call, and [`get_mut`](Self::get_mut) lends
+    /// one after the other.
+    ///
+    /// # Errors
+    ///
+    /// [`Refusal::Outside`] where the index is past the length, otherwise [`Refusal::SharedWord`]
+    /// where the cut lies in a word.
+    ///
+    /// # Examples
+    ///
+    /// ```
+    /// use worghulen::{BitSliceMut, Command, Lsb0, Refusal, Reply, Request, Spans};
+    ///
+    /// let mut words = [0_u8; 3];
+    /// let mut bits = BitSliceMut::<_, Lsb0>::new(&mut words, 4..20)?;
+    /// let (mut low, mut high) = bits.split_at_mut(12)?;
+    /// low.fill(true);
+    /// high.set(1, true)?;
+    /// assert_eq!(bits.split_at_mut(11).err(), Some(Refusal::SharedWord));
+    /// assert_eq!(words, [0xf0, 0xff, 0x02]);
+    ///
+    /// let low = Request { span: 0, command: Command::Set(0) };
+    /// let high = Request { span: 1, command: Command::Clear(0) };
+    /// let mut replies = [Reply::Done; 2];
+    /// Spans::<Lsb0>::new(&[0..3, 3..8])?.run(&mut words, &[low, high], &mut replies)?;
+    /// assert_eq!(words, [0x07, 0xff, 0x02]);
+    /// # Ok::<(), Refusal>(())
+    /// ```
+    #[allow(clippy::type_complexity)]
+    pub fn split_at_mut(
+        &mut self,
+        mid: usize,
+    ) -> Result<(BitSliceMut<'_, T, O>, BitSliceMut<'_, T, O>), Refusal> {
+        let (start, len) = (self.start, self.len);
+        if mid > len {
             return Err(Refusal::Outside);
         }
-        T::set(O::CODE, self.words, self.start + index, bit)
-    }
-
-    /// Makes every bit the same as `bit`.
-    ///
-    /// # Examples
-    ///
-    /// ```
-    /// use worghulen::{BitSliceMut, Lsb0};
-    ///
-    /// let mut words = [0_u16; 2];
-    /// BitSliceMut::<_, Lsb0>::new(&mut words, 12..20)?.fill(true);
-    /// assert_eq!(words, [0xf000, 0x000f]);
-    /// # Ok::<(), worghulen::Refusal>(())
-    /// ```
-    pub fn fill(&mut self, bit: bool) {
-        granted(T::fill(O::CODE, self.words, self.start, self.len, bit));
-    }
-
-    /// Makes the bits the lowest digits of a number, as many as there are bits, so that
-    /// [`load_le`](BitSlice::load_le) gives these back.
-    ///
-    /// # Errors
-    ///
-    /// [`Refusal::TooWide`] where there are more than 64 bits.
-    ///
-    /// # Examples
-    ///
-    /// ```
-    /// use worghulen::{BitSliceMut, Lsb0};
-    ///
-    /// let mut words = [0_u8; 2];
-    /// BitSliceMut::<_, Lsb0>::new(&mut words, 4..12)?.store_le(0x123)?;
-    /// assert_eq!(words, [0x30, 0x02]);
-    /// # Ok::<(), worghulen::Refusal>(())
-    /// ```
-    pub fn store_le(&mut self, number: u64) -> Result<(), Refusal> {
-        T::store(O::CODE, false, self.words, self.start, self.len, number)
-    }
-
-    /// Makes the bits the lowest digits of a number, as many as there are bits, so that
-    /// [`load_be`](BitSlice::load_be) gives these back.
-    ///
-    /// # Errors
-    ///
-    /// [`Refusal::TooWide`] where there are more than 64 bits.
-    ///
-    /// # Examples
-    ///
-    /// ```
-    /// use worghulen::{BitSliceMut, Msb0};
-    ///
-    /// let mut words = [0_u8; 2];
-    /// BitSliceMut::<_, Msb0>::new(&mut words, 4..12)?.store_be(0x123)?;
-    /// assert_eq!(words, [0x02, 0x30]);
-    /// # Ok::<(), worghulen::Refusal>(())
-    /// ```
-    pub fn store_be(&mut self, number: u64) -> Result<(), Refusal> {
-        T::store(O::CODE, true, self.words, self.start, self.len, number)
-    }
-
-    /// Makes the bits the same as those of another slice.
-    ///
-    /// # Errors
-    ///
-    /// [`Refusal::Lengths`] where that has not as many bits.
-    ///
-    /// # Examples
-    ///
-    /// ```
-    /// use worghulen::{BitSlice, BitSliceMut, Msb0};
-    ///
-    /// let source = BitSlice::<_, Msb0>::new(&[0x0f_u8, 0xf0], 4..12)?;
-    /// let mut words = [0_u8; 2];
-    /// BitSliceMut::new(&mut words, 1..9)?.copy_from(&source)?;
-    /// assert_eq!(words, [0x7f, 0x80]);
-    /// # Ok::<(), worghulen::Refusal>(())
-    /// ```
-    pub fn copy_from(&mut self, source: &BitSlice<'_, T, O>) -> Result<(), Refusal> {
-        if source.len() != self.len {
-            return Err(Refusal::Lengths);
+        if mid == 0 {
+            return Ok((
+                BitSliceMut::default(),
+                BitSliceMut::of(self.words, start, len),
+            ));
         }
-        let target = (&mut *self.words, self.start);
-        T::copy(O::CODE, source.place(), target, self.len)
-    }
-
-    /// Copies the bits of a range of indices to those from an index on, which may overlap them:
-    /// each gets what stood there before.
-    ///
-    /// # Errors
-    ///
-    /// [`Refusal::Reversed`] where the range starts past its end, [`Refusal::TooLong`] where it has
-    /// too many bits, and [`Refusal::Outside`] where it, or what it is copied to, ends past the
-    /// last bit.
-    ///
-    /// # Examples
-    ///
-    /// ```
-    /// use worghulen::{BitSliceMut, Msb0};
-    ///
-    /// let mut words = [0b1011_0000_u8];
-    /// BitSliceMut::<_, Msb0>::new(&mut words, ..)?.copy_within(..4, 2)?;
-    /// assert_eq!(words, [0b1010_1100]);
-    /// # Ok::<(), worghulen::Refusal>(())
-    /// ```
-    pub fn copy_within(
-        &mut self,
-        range: impl RangeBounds<usize>,
-        start: usize,
-    ) -> Result<(), Refusal> {
-        let (from, count) = within(range, self.len)?;
-        let (to, count) = within(run_of(start, count)?, self.len)?;
-        let (from, to) = (self.start + from, self.start + to);
-        T::copy_within(O::CODE, self.words, from, to, count)
+        if mid == len {
+            return Ok((
+                BitSliceMut::of(self.words, start, len),
+                BitSliceMut::default(),
+            ));
+        }
+        let cut = start + mid;
+        if cut % T::BITS != 0 {
+            return Err(Refusal::SharedWord);
+        }
+        let (low, high) = self.words.split_at_mut(cut / T::BITS);
+        Ok((
+            BitSliceMut::of(low, start, mid),
+            BitSliceMut::of(high, 0, len - mid),
+        ))
     }
 }
 
-impl<T: Register, O: Order> Debug for BitSliceMut<'_, T, O> {
-    /// The bits in order, each as 0 or 1.
-    fn fmt(&self, f: &mut Formatter<'_>) -> fmt::Result {
-        self.as_bitslice().fmt(f)
+impl<T: Register, O: Order> Default for BitSliceMut<'_, T, O> {
+    /// No bits.
+    fn default() -> Self {
+        Self::of(&mut [], 0, 0)
     }
 }
 
-/// The range of a number of places from one on.
-fn run_of(start: usize, count: usize) -> Result<std::ops::Range<usize>, Refusal> {
-    let end = start.checked_add(count).ok_or(Refusal::Outside)?;
-    Ok(start..end)
-}
-
-/// Copies the bits of a range of places to those of another slice from a place on.
+/// Copies the bits of a range of places to those of another slice from a place on. Costs by words.
 ///
 /// # Errors
 ///
@@ -291,7 +247,12 @@ fn run_of(start: usize, count: usize) -> Result<std::ops::Range<usize>, Refusal>
 /// # Examples
 ///
 /// ```
-/// use worghulen::{copy_bits, Lsb0, Refusal};
+/// use worghulen::{Lsb0, Msb0, Refusal, copy_bits};
+///
+/// let source = [0x0f_u8, 0xf0];
+/// let mut target = [0_u8; 3];
+/// copy_bits::<_, Msb0>(&source, 4..12, &mut target, 10)?;
+/// assert_eq!(target, [0x00, 0x3f, 0xc0]);
 ///
 /// let mut target = [0_u16; 2];
 /// copy_bits::<_, Lsb0>(&[0xabcd, 0x0ef0], 4..28, &mut target, 8)?;
@@ -307,5 +268,5 @@ pub fn copy_bits<T: Register, O: Order>(
     start: usize,
 ) -> Result<(), Refusal> {
     let source = BitSlice::<T, O>::new(source, range)?;
-    BitSliceMut::new(target, run_of(start, source.len())?)?.copy_from(&source)
+    BitSliceMut::<T, O>::new(target, run_of(start, source.len())?)?.copy_from(&source)
 }

@@ -10,13 +10,20 @@
 //! variable of the call's own. No export keeps a pointer, or calls back.
 
 use crate::refusal::Refusal;
+use crate::words::Words;
 
 #[cfg(test)]
 mod tests;
 
+// SAFETY: it takes nothing, and answers a number.
+unsafe extern "C" {
+    /// The number of the archive's version.
+    pub safe fn bitvec_c_version() -> u32;
+}
+
 /// A range of bits: the place of the first, and how many there are.
 #[repr(C)]
-#[derive(Clone, Copy, PartialEq, Eq, Hash, Debug)]
+#[derive(Clone, Copy, Default, PartialEq, Eq, Hash, Debug)]
 pub struct Span {
     pub start: usize,
     pub count: usize,
@@ -24,7 +31,7 @@ pub struct Span {
 
 /// A command, by its number, to the span of a number.
 #[repr(C)]
-#[derive(Clone, Copy)]
+#[derive(Clone, Copy, Default)]
 pub struct Request {
     pub span: usize,
     pub a: usize,
@@ -44,6 +51,12 @@ pub struct Reply {
 
 /// The exports for words of one width. Each is refused as the library's export is.
 pub trait Exports: Copy {
+    /// The words by their width.
+    fn seen(words: &[Self]) -> Words<'_>;
+
+    /// The words where their width is this one's.
+    fn same<'a>(words: &Words<'a>) -> Option<&'a [Self]>;
+
     /// Copies `count` bits from a place of one memory to a place of another.
     fn copy(
         order: u8,
@@ -97,7 +110,7 @@ pub trait Exports: Copy {
 
     /// Counts the ones among `count` bits from a place on.
     fn count_ones(order: u8, memory: &[Self], start: usize, count: usize)
-        -> Result<usize, Refusal>;
+    -> Result<usize, Refusal>;
 
     /// Finds the first one among `count` bits from a place on, and answers `count` where there is
     /// none.
@@ -110,6 +123,155 @@ pub trait Exports: Copy {
         other: (&[Self], usize),
         count: usize,
     ) -> Result<bool, Refusal>;
+
+    /// Finds the first bit that is `bit` among `count` bits from a place on, and answers `count`
+    /// where
+    /// there is none.
+    fn first(
+        order: u8,
+        memory: &[Self],
+        start: usize,
+        count: usize,
+        bit: bool,
+    ) -> Result<usize, Refusal>;
+
+    /// Finds the last bit that is `bit`, and answers `count` where there is none.
+    fn last(
+        order: u8,
+        memory: &[Self],
+        start: usize,
+        count: usize,
+        bit: bool,
+    ) -> Result<usize, Refusal>;
+
+    /// Finds the first run of so many zeros, and answers `count` where there is none.
+    fn find_zeros(
+        order: u8,
+        memory: &[Self],
+        start: usize,
+        count: usize,
+        zeros: usize,
+    ) -> Result<usize, Refusal>;
+
+    /// Turns over `count` bits from a place on.
+    fn invert(order: u8, memory: &mut [Self], start: usize, count: usize) -> Result<(), Refusal>;
+
+    /// Puts `count` bits from a place on in the opposite order.
+    fn reverse(order: u8, memory: &mut [Self], start: usize, count: usize) -> Result<(), Refusal>;
+
+    /// Moves `count` bits from a place on towards the first, and zeros in.
+    fn shift_left(
+        order: u8,
+        memory: &mut [Self],
+        start: usize,
+        count: usize,
+        by: usize,
+    ) -> Result<(), Refusal>;
+
+    /// Moves `count` bits from a place on towards the last, and zeros in.
+    fn shift_right(
+        order: u8,
+        memory: &mut [Self],
+        start: usize,
+        count: usize,
+        by: usize,
+    ) -> Result<(), Refusal>;
+
+    /// Puts the first of `count` bits from a place on behind the others.
+    fn rotate_left(
+        order: u8,
+        memory: &mut [Self],
+        start: usize,
+        count: usize,
+        by: usize,
+    ) -> Result<(), Refusal>;
+
+    /// Leaves one those of `count` bits whose bit in the source is one.
+    fn and(
+        source_order: u8,
+        source: (&[Self], usize),
+        order: u8,
+        target: (&mut [Self], usize),
+        count: usize,
+    ) -> Result<(), Refusal>;
+
+    /// Makes one those of `count` bits whose bit in the source is one.
+    fn or(
+        source_order: u8,
+        source: (&[Self], usize),
+        order: u8,
+        target: (&mut [Self], usize),
+        count: usize,
+    ) -> Result<(), Refusal>;
+
+    /// Turns over those of `count` bits whose bit in the source is one.
+    fn xor(
+        source_order: u8,
+        source: (&[Self], usize),
+        order: u8,
+        target: (&mut [Self], usize),
+        count: usize,
+    ) -> Result<(), Refusal>;
+
+    /// Makes zero those of `count` bits whose bit in the source is one.
+    fn and_not(
+        source_order: u8,
+        source: (&[Self], usize),
+        order: u8,
+        target: (&mut [Self], usize),
+        count: usize,
+    ) -> Result<(), Refusal>;
+
+    /// Counts the bits that are one in two ranges.
+    fn count_and(
+        order: u8,
+        one: (&[Self], usize),
+        other_order: u8,
+        other: (&[Self], usize),
+        count: usize,
+    ) -> Result<usize, Refusal>;
+
+    /// Finds the first bit that is one in two ranges, and answers `count` where there is none.
+    fn first_and(
+        order: u8,
+        one: (&[Self], usize),
+        other_order: u8,
+        other: (&[Self], usize),
+        count: usize,
+    ) -> Result<usize, Refusal>;
+
+    /// Finds the first bit that is one in one range and zero in the other, and answers `count`
+    /// where
+    /// there is none.
+    fn first_and_not(
+        order: u8,
+        one: (&[Self], usize),
+        other_order: u8,
+        other: (&[Self], usize),
+        count: usize,
+    ) -> Result<usize, Refusal>;
+
+    /// Finds the first bit that is not the same in two ranges, and answers `count` where there is
+    /// none.
+    fn first_difference(
+        order: u8,
+        one: (&[Self], usize),
+        other_order: u8,
+        other: (&[Self], usize),
+        count: usize,
+    ) -> Result<usize, Refusal>;
+
+    /// Copies `count` bits from a place of one memory, of words of any width, to a place of
+    /// another,
+    /// each under an order of its own.
+    fn convert(
+        source_order: u8,
+        source: &Words<'_>,
+        from: usize,
+        order: u8,
+        target: (&mut [Self], usize),
+        count: usize,
+    ) -> Result<(), Refusal>;
 
     /// Tests the spans of a run over a number of words.
     fn can_run(order: u8, spans: &[Span], words: usize) -> Result<(), Refusal>;
@@ -124,37 +286,51 @@ pub trait Exports: Copy {
     ) -> Result<(), Refusal>;
 }
 
-/// Implements [`Exports`] for a word `$t` by the exports whose names end in `_$t`.
+/// Implements [`Exports`] for a word `$t` by the exports whose names end in `_$w`, which is laid
+/// out
+/// as `$t` is.
 macro_rules! exports {
-    ($($t:ident)*) => { $(
+    ($($t:ident as $w:ident by $seen:ident, $same:ident;)*) => { $(
         impl Exports for $t {
+            #[inline]
+            fn seen(words: &[Self]) -> Words<'_> {
+                Words::$seen(words)
+            }
+
+            #[inline]
+            fn same<'a>(words: &Words<'a>) -> Option<&'a [Self]> {
+                words.$same()
+            }
+
+            #[inline]
             fn copy(
                 order: u8,
                 (source, from): (&[Self], usize),
                 (target, to): (&mut [Self], usize),
                 count: usize,
             ) -> Result<(), Refusal> {
-                extern "C" {
-                    #[link_name = concat!("bitvec_c_copy_", stringify!($t))]
+                unsafe extern "C" {
+                    #[link_name = concat!("bitvec_c_copy_", stringify!($w))]
                     fn copy(
                         order: u8,
-                        source: *const $t,
+                        source: *const $w,
                         source_words: usize,
                         source_start: usize,
-                        target: *mut $t,
+                        target: *mut $w,
                         target_words: usize,
                         target_start: usize,
                         count: usize,
                     ) -> u8;
                 }
-                let (read, read_words) = (source.as_ptr(), source.len());
-                let (written, written_words) = (target.as_mut_ptr(), target.len());
+                let (read, read_words) = (source.as_ptr().cast(), source.len());
+                let (written, written_words) = (target.as_mut_ptr().cast(), target.len());
                 // SAFETY: two slices, the second borrowed mutably, so they share no word.
                 Refusal::check(unsafe {
                     copy(order, read, read_words, from, written, written_words, to, count)
                 })
             }
 
+            #[inline]
             fn copy_within(
                 order: u8,
                 memory: &mut [Self],
@@ -162,22 +338,23 @@ macro_rules! exports {
                 to: usize,
                 count: usize,
             ) -> Result<(), Refusal> {
-                extern "C" {
-                    #[link_name = concat!("bitvec_c_copy_within_", stringify!($t))]
+                unsafe extern "C" {
+                    #[link_name = concat!("bitvec_c_copy_within_", stringify!($w))]
                     fn copy_within(
                         order: u8,
-                        memory: *mut $t,
+                        memory: *mut $w,
                         words: usize,
                         source_start: usize,
                         target_start: usize,
                         count: usize,
                     ) -> u8;
                 }
-                let (words, len) = (memory.as_mut_ptr(), memory.len());
+                let (words, len) = (memory.as_mut_ptr().cast(), memory.len());
                 // SAFETY: one slice, borrowed mutably.
                 Refusal::check(unsafe { copy_within(order, words, len, from, to, count) })
             }
 
+            #[inline]
             fn fill(
                 order: u8,
                 memory: &mut [Self],
@@ -185,53 +362,54 @@ macro_rules! exports {
                 count: usize,
                 bit: bool,
             ) -> Result<(), Refusal> {
-                extern "C" {
-                    #[link_name = concat!("bitvec_c_fill_", stringify!($t))]
+                unsafe extern "C" {
+                    #[link_name = concat!("bitvec_c_fill_", stringify!($w))]
                     fn fill(
                         order: u8,
-                        memory: *mut $t,
+                        memory: *mut $w,
                         words: usize,
                         start: usize,
                         count: usize,
                         bit: bool,
                     ) -> u8;
                 }
-                let (words, len) = (memory.as_mut_ptr(), memory.len());
+                let (words, len) = (memory.as_mut_ptr().cast(), memory.len());
                 // SAFETY: one slice, borrowed mutably.
                 Refusal::check(unsafe { fill(order, words, len, start, count, bit) })
             }
 
             #[inline]
             fn get(order: u8, memory: &[Self], place: usize) -> Result<bool, Refusal> {
-                extern "C" {
-                    #[link_name = concat!("bitvec_c_get_", stringify!($t))]
+                unsafe extern "C" {
+                    #[link_name = concat!("bitvec_c_get_", stringify!($w))]
                     fn get(
                         order: u8,
-                        memory: *const $t,
+                        memory: *const $w,
                         words: usize,
                         place: usize,
                         bit: *mut bool,
                     ) -> u8;
                 }
-                let (words, len) = (memory.as_ptr(), memory.len());
+                let (words, len) = (memory.as_ptr().cast(), memory.len());
                 let mut bit = false;
                 // SAFETY: one slice, and a variable of this call for the answer.
-                let status = unsafe { get(order, words, len, place, &mut bit) };
+                let status = unsafe { get(order, words, len, place, &raw mut bit) };
                 Refusal::check(status).map(|()| bit)
             }
 
             #[inline]
             fn set(order: u8, memory: &mut [Self], place: usize, bit: bool) -> Result<(), Refusal> {
-                extern "C" {
-                    #[link_name = concat!("bitvec_c_set_", stringify!($t))]
-                    fn set(order: u8, memory: *mut $t, words: usize, place: usize, bit: bool)
+                unsafe extern "C" {
+                    #[link_name = concat!("bitvec_c_set_", stringify!($w))]
+                    fn set(order: u8, memory: *mut $w, words: usize, place: usize, bit: bool)
                         -> u8;
                 }
-                let (words, len) = (memory.as_mut_ptr(), memory.len());
+                let (words, len) = (memory.as_mut_ptr().cast(), memory.len());
                 // SAFETY: one slice, borrowed mutably.
                 Refusal::check(unsafe { set(order, words, len, place, bit) })
             }
 
+            #[inline]
             fn load(
                 order: u8,
                 big_endian: bool,
@@ -239,26 +417,27 @@ macro_rules! exports {
                 start: usize,
                 count: usize,
             ) -> Result<u64, Refusal> {
-                extern "C" {
-                    #[link_name = concat!("bitvec_c_load_", stringify!($t))]
+                unsafe extern "C" {
+                    #[link_name = concat!("bitvec_c_load_", stringify!($w))]
                     fn load(
                         order: u8,
                         big_endian: bool,
-                        memory: *const $t,
+                        memory: *const $w,
                         words: usize,
                         start: usize,
                         count: usize,
                         number: *mut u64,
                     ) -> u8;
                 }
-                let (words, len) = (memory.as_ptr(), memory.len());
+                let (words, len) = (memory.as_ptr().cast(), memory.len());
                 let mut number = 0;
                 // SAFETY: one slice, and a variable of this call for the answer.
                 let status =
-                    unsafe { load(order, big_endian, words, len, start, count, &mut number) };
+                    unsafe { load(order, big_endian, words, len, start, count, &raw mut number) };
                 Refusal::check(status).map(|()| number)
             }
 
+            #[inline]
             fn store(
                 order: u8,
                 big_endian: bool,
@@ -267,110 +446,679 @@ macro_rules! exports {
                 count: usize,
                 number: u64,
             ) -> Result<(), Refusal> {
-                extern "C" {
-                    #[link_name = concat!("bitvec_c_store_", stringify!($t))]
+                unsafe extern "C" {
+                    #[link_name = concat!("bitvec_c_store_", stringify!($w))]
                     fn store(
                         order: u8,
                         big_endian: bool,
-                        memory: *mut $t,
+                        memory: *mut $w,
                         words: usize,
                         start: usize,
                         count: usize,
                         number: u64,
                     ) -> u8;
                 }
-                let (words, len) = (memory.as_mut_ptr(), memory.len());
+                let (words, len) = (memory.as_mut_ptr().cast(), memory.len());
                 // SAFETY: one slice, borrowed mutably.
                 Refusal::check(unsafe {
                     store(order, big_endian, words, len, start, count, number)
                 })
             }
 
+            #[inline]
             fn count_ones(
                 order: u8,
                 memory: &[Self],
                 start: usize,
                 count: usize,
             ) -> Result<usize, Refusal> {
-                extern "C" {
-                    #[link_name = concat!("bitvec_c_count_ones_", stringify!($t))]
+                unsafe extern "C" {
+                    #[link_name = concat!("bitvec_c_count_ones_", stringify!($w))]
                     fn count_ones(
                         order: u8,
-                        memory: *const $t,
+                        memory: *const $w,
                         words: usize,
                         start: usize,
                         count: usize,
                         ones: *mut usize,
                     ) -> u8;
                 }
-                let (words, len) = (memory.as_ptr(), memory.len());
+                let (words, len) = (memory.as_ptr().cast(), memory.len());
                 let mut ones = 0;
                 // SAFETY: one slice, and a variable of this call for the answer.
-                let status = unsafe { count_ones(order, words, len, start, count, &mut ones) };
+                let status = unsafe { count_ones(order, words, len, start, count, &raw mut ones) };
                 Refusal::check(status).map(|()| ones)
             }
 
+            #[inline]
             fn first_one(
                 order: u8,
                 memory: &[Self],
                 start: usize,
                 count: usize,
             ) -> Result<usize, Refusal> {
-                extern "C" {
-                    #[link_name = concat!("bitvec_c_first_one_", stringify!($t))]
+                unsafe extern "C" {
+                    #[link_name = concat!("bitvec_c_first_one_", stringify!($w))]
                     fn first_one(
                         order: u8,
-                        memory: *const $t,
+                        memory: *const $w,
                         words: usize,
                         start: usize,
                         count: usize,
                         index: *mut usize,
                     ) -> u8;
                 }
-                let (words, len) = (memory.as_ptr(), memory.len());
+                let (words, len) = (memory.as_ptr().cast(), memory.len());
                 let mut index = 0;
                 // SAFETY: one slice, and a variable of this call for the answer.
-                let status = unsafe { first_one(order, words, len, start, count, &mut index) };
+                let status = unsafe { first_one(order, words, len, start, count, &raw mut index) };
                 Refusal::check(status).map(|()| index)
             }
 
+            #[inline]
             fn equal(
                 order: u8,
                 (one, one_start): (&[Self], usize),
                 (other, other_start): (&[Self], usize),
                 count: usize,
             ) -> Result<bool, Refusal> {
-                extern "C" {
-                    #[link_name = concat!("bitvec_c_equal_", stringify!($t))]
+                unsafe extern "C" {
+                    #[link_name = concat!("bitvec_c_equal_", stringify!($w))]
                     fn equal(
                         order: u8,
-                        memory: *const $t,
+                        memory: *const $w,
                         words: usize,
                         start: usize,
-                        other: *const $t,
+                        other: *const $w,
                         other_words: usize,
                         other_start: usize,
                         count: usize,
                         same: *mut bool,
                     ) -> u8;
                 }
-                let (words, len) = (one.as_ptr(), one.len());
-                let (others, other_len) = (other.as_ptr(), other.len());
+                let (words, len) = (one.as_ptr().cast(), one.len());
+                let (others, other_len) = (other.as_ptr().cast(), other.len());
                 let mut same = false;
                 // SAFETY: two slices, of which none is written, and a variable of this call for
                 // the answer.
                 let status = unsafe {
                     equal(
                         order, words, len, one_start, others, other_len, other_start, count,
-                        &mut same,
+                        &raw mut same,
                     )
                 };
                 Refusal::check(status).map(|()| same)
             }
 
+            #[inline]
+            fn first(
+                order: u8,
+                memory: &[Self],
+                start: usize,
+                count: usize,
+                bit: bool,
+            ) -> Result<usize, Refusal> {
+                unsafe extern "C" {
+                    #[link_name = concat!("bitvec_c_first_", stringify!($w))]
+                    fn first(
+                        order: u8,
+                        memory: *const $w,
+                        words: usize,
+                        start: usize,
+                        count: usize,
+                        bit: bool,
+                        index: *mut usize,
+                    ) -> u8;
+                }
+                let (words, len) = (memory.as_ptr().cast(), memory.len());
+                let mut index = 0;
+                // SAFETY: one slice, and a variable of this call for the answer.
+                let status = unsafe { first(order, words, len, start, count, bit, &raw mut index) };
+                Refusal::check(status).map(|()| index)
+            }
+
+            #[inline]
+            fn last(
+                order: u8,
+                memory: &[Self],
+                start: usize,
+                count: usize,
+                bit: bool,
+            ) -> Result<usize, Refusal> {
+                unsafe extern "C" {
+                    #[link_name = concat!("bitvec_c_last_", stringify!($w))]
+                    fn last(
+                        order: u8,
+                        memory: *const $w,
+                        words: usize,
+                        start: usize,
+                        count: usize,
+                        bit: bool,
+                        index: *mut usize,
+                    ) -> u8;
+                }
+                let (words, len) = (memory.as_ptr().cast(), memory.len());
+                let mut index = 0;
+                // SAFETY: one slice, and a variable of this call for the answer.
+                let status = unsafe { last(order, words, len, start, count, bit, &raw mut index) };
+                Refusal::check(status).map(|()| index)
+            }
+
+            #[inline]
+            fn find_zeros(
+                order: u8,
+                memory: &[Self],
+                start: usize,
+                count: usize,
+                zeros: usize,
+            ) -> Result<usize, Refusal> {
+                unsafe extern "C" {
+                    #[link_name = concat!("bitvec_c_find_zeros_", stringify!($w))]
+                    fn find_zeros(
+                        order: u8,
+                        memory: *const $w,
+                        words: usize,
+                        start: usize,
+                        count: usize,
+                        zeros: usize,
+                        index: *mut usize,
+                    ) -> u8;
+                }
+                let (words, len) = (memory.as_ptr().cast(), memory.len());
+                let mut index = 0;
+                // SAFETY: one slice, and a variable of this call for the answer.
+                let status =
+                    unsafe { find_zeros(order, words, len, start, count, zeros, &raw mut index) };
+                Refusal::check(status).map(|()| index)
+            }
+
+            #[inline]
+            fn invert(
+                order: u8,
+                memory: &mut [Self],
+                start: usize,
+                count: usize,
+            ) -> Result<(), Refusal> {
+                unsafe extern "C" {
+                    #[link_name = concat!("bitvec_c_invert_", stringify!($w))]
+                    fn invert(
+                        order: u8,
+                        memory: *mut $w,
+                        words: usize,
+                        start: usize,
+                        count: usize,
+                    ) -> u8;
+                }
+                let (words, len) = (memory.as_mut_ptr().cast(), memory.len());
+                // SAFETY: one slice, borrowed mutably.
+                Refusal::check(unsafe { invert(order, words, len, start, count) })
+            }
+
+            #[inline]
+            fn reverse(
+                order: u8,
+                memory: &mut [Self],
+                start: usize,
+                count: usize,
+            ) -> Result<(), Refusal> {
+                unsafe extern "C" {
+                    #[link_name = concat!("bitvec_c_reverse_", stringify!($w))]
+                    fn reverse(
+                        order: u8,
+                        memory: *mut $w,
+                        words: usize,
+                        start: usize,
+                        count: usize,
+                    ) -> u8;
+                }
+                let (words, len) = (memory.as_mut_ptr().cast(), memory.len());
+                // SAFETY: one slice, borrowed mutably.
+                Refusal::check(unsafe { reverse(order, words, len, start, count) })
+            }
+
+            #[inline]
+            fn shift_left(
+                order: u8,
+                memory: &mut [Self],
+                start: usize,
+                count: usize,
+                by: usize,
+            ) -> Result<(), Refusal> {
+                unsafe extern "C" {
+                    #[link_name = concat!("bitvec_c_shift_left_", stringify!($w))]
+                    fn shift_left(
+                        order: u8,
+                        memory: *mut $w,
+                        words: usize,
+                        start: usize,
+                        count: usize,
+                        by: usize,
+                    ) -> u8;
+                }
+                let (words, len) = (memory.as_mut_ptr().cast(), memory.len());
+                // SAFETY: one slice, borrowed mutably.
+                Refusal::check(unsafe { shift_left(order, words, len, start, count, by) })
+            }
+
+            #[inline]
+            fn shift_right(
+                order: u8,
+                memory: &mut [Self],
+                start: usize,
+                count: usize,
+                by: usize,
+            ) -> Result<(), Refusal> {
+                unsafe extern "C" {
+                    #[link_name = concat!("bitvec_c_shift_right_", stringify!($w))]
+                    fn shift_right(
+                        order: u8,
+                        memory: *mut $w,
+                        words: usize,
+                        start: usize,
+                        count: usize,
+                        by: usize,
+                    ) -> u8;
+                }
+                let (words, len) = (memory.as_mut_ptr().cast(), memory.len());
+                // SAFETY: one slice, borrowed mutably.
+                Refusal::check(unsafe { shift_right(order, words, len, start, count, by) })
+            }
+
+            #[inline]
+            fn rotate_left(
+                order: u8,
+                memory: &mut [Self],
+                start: usize,
+                count: usize,
+                by: usize,
+            ) -> Result<(), Refusal> {
+                unsafe extern "C" {
+                    #[link_name = concat!("bitvec_c_rotate_left_", stringify!($w))]
+                    fn rotate_left(
+                        order: u8,
+                        memory: *mut $w,
+                        words: usize,
+                        start: usize,
+                        count: usize,
+                        by: usize,
+                    ) -> u8;
+                }
+                let (words, len) = (memory.as_mut_ptr().cast(), memory.len());
+                // SAFETY: one slice, borrowed mutably.
+                Refusal::check(unsafe { rotate_left(order, words, len, start, count, by) })
+            }
+
+            #[inline]
+            fn and(
+                source_order: u8,
+                (source, from): (&[Self], usize),
+                order: u8,
+                (target, to): (&mut [Self], usize),
+                count: usize,
+            ) -> Result<(), Refusal> {
+                unsafe extern "C" {
+                    #[link_name = concat!("bitvec_c_and_", stringify!($w))]
+                    fn and(
+                        source_order: u8,
+                        source: *const $w,
+                        source_words: usize,
+                        source_start: usize,
+                        order: u8,
+                        target: *mut $w,
+                        target_words: usize,
+                        target_start: usize,
+                        count: usize,
+                    ) -> u8;
+                }
+                let (read, read_words) = (source.as_ptr().cast(), source.len());
+                let (written, written_words) = (target.as_mut_ptr().cast(), target.len());
+                // SAFETY: two slices, the second borrowed mutably, so they share no word.
+                Refusal::check(unsafe {
+                    and(
+                        source_order, read, read_words, from, order, written, written_words, to,
+                        count,
+                    )
+                })
+            }
+
+            #[inline]
+            fn or(
+                source_order: u8,
+                (source, from): (&[Self], usize),
+                order: u8,
+                (target, to): (&mut [Self], usize),
+                count: usize,
+            ) -> Result<(), Refusal> {
+                unsafe extern "C" {
+                    #[link_name = concat!("bitvec_c_or_", stringify!($w))]
+                    fn or(
+                        source_order: u8,
+                        source: *const $w,
+                        source_words: usize,
+                        source_start: usize,
+                        order: u8,
+                        target: *mut $w,
+                        target_words: usize,
+                        target_start: usize,
+                        count: usize,
+                    ) -> u8;
+                }
+                let (read, read_words) = (source.as_ptr().cast(), source.len());
+                let (written, written_words) = (target.as_mut_ptr().cast(), target.len());
+                // SAFETY: two slices, the second borrowed mutably, so they share no word.
+                Refusal::check(unsafe {
+                    or(
+                        source_order, read, read_words, from, order, written, written_words, to,
+                        count,
+                    )
+                })
+            }
+
+            #[inline]
+            fn xor(
+                source_order: u8,
+                (source, from): (&[Self], usize),
+                order: u8,
+                (target, to): (&mut [Self], usize),
+                count: usize,
+            ) -> Result<(), Refusal> {
+                unsafe extern "C" {
+                    #[link_name = concat!("bitvec_c_xor_", stringify!($w))]
+                    fn xor(
+                        source_order: u8,
+                        source: *const $w,
+                        source_words: usize,
+                        source_start: usize,
+                        order: u8,
+                        target: *mut $w,
+                        target_words: usize,
+                        target_start: usize,
+                        count: usize,
+                    ) -> u8;
+                }
+                let (read, read_words) = (source.as_ptr().cast(), source.len());
+                let (written, written_words) = (target.as_mut_ptr().cast(), target.len());
+                // SAFETY: two slices, the second borrowed mutably, so they share no word.
+                Refusal::check(unsafe {
+                    xor(
+                        source_order, read, read_words, from, order, written, written_words, to,
+                        count,
+                    )
+                })
+            }
+
+            #[inline]
+            fn and_not(
+                source_order: u8,
+                (source, from): (&[Self], usize),
+                order: u8,
+                (target, to): (&mut [Self], usize),
+                count: usize,
+            ) -> Result<(), Refusal> {
+                unsafe extern "C" {
+                    #[link_name = concat!("bitvec_c_and_not_", stringify!($w))]
+                    fn and_not(
+                        source_order: u8,
+                        source: *const $w,
+                        source_words: usize,
+                        source_start: usize,
+                        order: u8,
+                        target: *mut $w,
+                        target_words: usize,
+                        target_start: usize,
+                        count: usize,
+                    ) -> u8;
+                }
+                let (read, read_words) = (source.as_ptr().cast(), source.len());
+                let (written, written_words) = (target.as_mut_ptr().cast(), target.len());
+                // SAFETY: two slices, the second borrowed mutably, so they share no word.
+                Refusal::check(unsafe {
+                    and_not(
+                        source_order, read, read_words, from, order, written, written_words, to,
+                        count,
+                    )
+                })
+            }
+
+            #[inline]
+            fn count_and(
+                order: u8,
+                (one, start): (&[Self], usize),
+                other_order: u8,
+                (other, other_start): (&[Self], usize),
+                count: usize,
+            ) -> Result<usize, Refusal> {
+                unsafe extern "C" {
+                    #[link_name = concat!("bitvec_c_count_and_", stringify!($w))]
+                    fn count_and(
+                        order: u8,
+                        memory: *const $w,
+                        words: usize,
+                        start: usize,
+                        other_order: u8,
+                        other: *const $w,
+                        other_words: usize,
+                        other_start: usize,
+                        count: usize,
+                        ones: *mut usize,
+                    ) -> u8;
+                }
+                let (words, len) = (one.as_ptr().cast(), one.len());
+                let (others, other_len) = (other.as_ptr().cast(), other.len());
+                let mut ones = 0;
+                // SAFETY: two slices, of which none is written, and a variable of this call for
+                // the answer.
+                let status = unsafe {
+                    count_and(
+                        order, words, len, start, other_order, others, other_len, other_start,
+                        count, &raw mut ones,
+                    )
+                };
+                Refusal::check(status).map(|()| ones)
+            }
+
+            #[inline]
+            fn first_and(
+                order: u8,
+                (one, start): (&[Self], usize),
+                other_order: u8,
+                (other, other_start): (&[Self], usize),
+                count: usize,
+            ) -> Result<usize, Refusal> {
+                unsafe extern "C" {
+                    #[link_name = concat!("bitvec_c_first_and_", stringify!($w))]
+                    fn first_and(
+                        order: u8,
+                        memory: *const $w,
+                        words: usize,
+                        start: usize,
+                        other_order: u8,
+                        other: *const $w,
+                        other_words: usize,
+                        other_start: usize,
+                        count: usize,
+                        index: *mut usize,
+                    ) -> u8;
+                }
+                let (words, len) = (one.as_ptr().cast(), one.len());
+                let (others, other_len) = (other.as_ptr().cast(), other.len());
+                let mut index = 0;
+                // SAFETY: two slices, of which none is written, and a variable of this call for
+                // the answer.
+                let status = unsafe {
+                    first_and(
+                        order, words, len, start, other_order, others, other_len, other_start,
+                        count, &raw mut index,
+                    )
+                };
+                Refusal::check(status).map(|()| index)
+            }
+
+            #[inline]
+            fn first_and_not(
+                order: u8,
+                (one, start): (&[Self], usize),
+                other_order: u8,
+                (other, other_start): (&[Self], usize),
+                count: usize,
+            ) -> Result<usize, Refusal> {
+                unsafe extern "C" {
+                    #[link_name = concat!("bitvec_c_first_and_not_", stringify!($w))]
+                    fn first_and_not(
+                        order: u8,
+                        memory: *const $w,
+                        words: usize,
+                        start: usize,
+                        other_order: u8,
+                        other: *const $w,
+                        other_words: usize,
+                        other_start: usize,
+                        count: usize,
+                        index: *mut usize,
+                    ) -> u8;
+                }
+                let (words, len) = (one.as_ptr().cast(), one.len());
+                let (others, other_len) = (other.as_ptr().cast(), other.len());
+                let mut index = 0;
+                // SAFETY: two slices, of which none is written, and a variable of this call for
+                // the answer.
+                let status = unsafe {
+                    first_and_not(
+                        order, words, len, start, other_order, others, other_len, other_start,
+                        count, &raw mut index,
+                    )
+                };
+                Refusal::check(status).map(|()| index)
+            }
+
+            #[inline]
+            fn first_difference(
+                order: u8,
+                (one, start): (&[Self], usize),
+                other_order: u8,
+                (other, other_start): (&[Self], usize),
+                count: usize,
+            ) -> Result<usize, Refusal> {
+                unsafe extern "C" {
+                    #[link_name = concat!("bitvec_c_first_difference_", stringify!($w))]
+                    fn first_difference(
+                        order: u8,
+                        memory: *const $w,
+                        words: usize,
+                        start: usize,
+                        other_order: u8,
+                        other: *const $w,
+                        other_words: usize,
+                        other_start: usize,
+                        count: usize,
+                        index: *mut usize,
+                    ) -> u8;
+                }
+                let (words, len) = (one.as_ptr().cast(), one.len());
+                let (others, other_len) = (other.as_ptr().cast(), other.len());
+                let mut index = 0;
+                // SAFETY: two slices, of which none is written, and a variable of this call for
+                // the answer.
+                let status = unsafe {
+                    first_difference(
+                        order, words, len, start, other_order, others, other_len, other_start,
+                        count, &raw mut index,
+                    )
+                };
+                Refusal::check(status).map(|()| index)
+            }
+
+            #[inline]
+            fn convert(
+                source_order: u8,
+                source: &Words<'_>,
+                from: usize,
+                order: u8,
+                (target, to): (&mut [Self], usize),
+                count: usize,
+            ) -> Result<(), Refusal> {
+                unsafe extern "C" {
+                    #[link_name = concat!("bitvec_c_copy_u8_to_", stringify!($w))]
+                    fn copy_u8(
+                        source_order: u8,
+                        source: *const u8,
+                        source_words: usize,
+                        source_start: usize,
+                        order: u8,
+                        target: *mut $w,
+                        target_words: usize,
+                        target_start: usize,
+                        count: usize,
+                    ) -> u8;
+                    #[link_name = concat!("bitvec_c_copy_u16_to_", stringify!($w))]
+                    fn copy_u16(
+                        source_order: u8,
+                        source: *const u16,
+                        source_words: usize,
+                        source_start: usize,
+                        order: u8,
+                        target: *mut $w,
+                        target_words: usize,
+                        target_start: usize,
+                        count: usize,
+                    ) -> u8;
+                    #[link_name = concat!("bitvec_c_copy_u32_to_", stringify!($w))]
+                    fn copy_u32(
+                        source_order: u8,
+                        source: *const u32,
+                        source_words: usize,
+                        source_start: usize,
+                        order: u8,
+                        target: *mut $w,
+                        target_words: usize,
+                        target_start: usize,
+                        count: usize,
+                    ) -> u8;
+                    #[link_name = concat!("bitvec_c_copy_u64_to_", stringify!($w))]
+                    fn copy_u64(
+                        source_order: u8,
+                        source: *const u64,
+                        source_words: usize,
+                        source_start: usize,
+                        order: u8,
+                        target: *mut $w,
+                        target_words: usize,
+                        target_start: usize,
+                        count: usize,
+                    ) -> u8;
+                }
+                let (written, words) = (target.as_mut_ptr().cast(), target.len());
+                // SAFETY: two slices, the second borrowed mutably, so they share no word.
+                Refusal::check(unsafe {
+                    match source {
+                        Words::U8(source) => copy_u8(
+                            source_order, source.as_ptr(), source.len(), from, order, written,
+                            words, to, count,
+                        ),
+                        Words::U16(source) => copy_u16(
+                            source_order, source.as_ptr(), source.len(), from, order, written,
+                            words, to, count,
+                        ),
+                        Words::U32(source) => copy_u32(
+                            source_order, source.as_ptr(), source.len(), from, order, written,
+                            words, to, count,
+                        ),
+                        Words::U64(source) => copy_u64(
+                            source_order, source.as_ptr(), source.len(), from, order, written,
+                            words, to, count,
+                        ),
+                        Words::Usize(source) => copy_u64(
+                            source_order, source.as_ptr().cast(), source.len(), from, order,
+                            written, words, to, count,
+                        ),
+                    }
+                })
+            }
+
+            #[inline]
             fn can_run(order: u8, spans: &[Span], words: usize) -> Result<(), Refusal> {
-                extern "C" {
-                    #[link_name = concat!("bitvec_c_can_run_", stringify!($t))]
+                unsafe extern "C" {
+                    #[link_name = concat!("bitvec_c_can_run_", stringify!($w))]
                     fn can_run(order: u8, spans: *const Span, span_count: usize, words: usize)
                         -> u8;
                 }
@@ -378,6 +1126,7 @@ macro_rules! exports {
                 Refusal::check(unsafe { can_run(order, spans.as_ptr(), spans.len(), words) })
             }
 
+            #[inline]
             fn run(
                 order: u8,
                 spans: &[Span],
@@ -385,13 +1134,13 @@ macro_rules! exports {
                 requests: &[Request],
                 replies: &mut [Reply],
             ) -> Result<(), Refusal> {
-                extern "C" {
-                    #[link_name = concat!("bitvec_c_run_", stringify!($t))]
+                unsafe extern "C" {
+                    #[link_name = concat!("bitvec_c_run_", stringify!($w))]
                     fn run(
                         order: u8,
                         spans: *const Span,
                         span_count: usize,
-                        memory: *mut $t,
+                        memory: *mut $w,
                         words: usize,
                         requests: *const Request,
                         request_count: usize,
@@ -400,7 +1149,7 @@ macro_rules! exports {
                     ) -> u8;
                 }
                 let (first_span, span_count) = (spans.as_ptr(), spans.len());
-                let (words, len) = (memory.as_mut_ptr(), memory.len());
+                let (words, len) = (memory.as_mut_ptr().cast(), memory.len());
                 let (asked, asked_count) = (requests.as_ptr(), requests.len());
                 let (answers, answer_count) = (replies.as_mut_ptr(), replies.len());
                 // SAFETY: four slices, of which those that are written are borrowed mutably, and
@@ -416,4 +1165,10 @@ macro_rules! exports {
     )* };
 }
 
-exports!(u8 u16 u32 u64);
+exports! {
+    u8 as u8 by U8, u8s;
+    u16 as u16 by U16, u16s;
+    u32 as u32 by U32, u32s;
+    u64 as u64 by U64, u64s;
+    usize as u64 by Usize, usizes;
+}

@@ -3,14 +3,14 @@
 
 mod common;
 
-use common::{for_all_memories, Random, CASES};
-use worghulen::{Lsb0, Msb0, Refusal, Spans};
+use common::{CASES, Random, for_all_memories};
+use worghulen::{Command, Lsb0, Msb0, Refusal, Reply, Request, Spans};
 
 for_all_memories!(a_run_serves_each_request, 16);
 for_all_memories!(can_run_tests_the_spans, 17);
 
 mod cases {
-    use crate::common::{bits_of, checked, word_and_digit, Layout, Random, Word, MAX_BITS};
+    use crate::common::{Layout, MAX_BITS, Random, Word, bits_of, checked, word_and_digit};
     use std::ops::Range;
     use worghulen::{Command, Refusal, Reply, Request, Spans};
 
@@ -169,14 +169,18 @@ mod cases {
             let command = command::<T>(random, len);
             Request { span, command }
         };
-        let requests: Vec<_> = (0..random.below(12)).map(|_| request(random)).collect();
+        let most = if random.one_in(64) { 200 } else { 12 };
+        let requests: Vec<_> = (0..random.below(most)).map(|_| request(random)).collect();
         let serve = |Request { span, command }: &Request| match ranges.get(*span) {
             Some(range) => serve::<T, O>(&mut model[range.clone()], range.start, *command),
             None => Reply::NoSpan,
         };
         let expected = refusal(&ranges, words.len() * T::BITS)
             .map(|()| requests.iter().map(serve).collect::<Vec<_>>());
-        let answer = Spans::<O>::new(&ranges).and_then(|spans| spans.run(&mut words, &requests));
+        let mut replies = vec![Reply::Done; requests.len()];
+        let answer = Spans::<O>::new(&ranges)
+            .and_then(|spans| spans.run(&mut words, &requests, &mut replies))
+            .map(|()| replies);
         assert_eq!(answer, expected, "{ranges:?} {requests:?}");
         assert_eq!(bits_of::<T, O>(&words), model, "{ranges:?} {requests:?}");
     }
@@ -194,6 +198,37 @@ mod cases {
 fn a_run_has_at_most_64_spans() {
     let ranges: Vec<_> = (0..65).map(|i| i..i + 1).collect();
     let spans = Spans::<Lsb0>::new(&ranges[..64]).unwrap();
-    assert_eq!(spans.run(&mut [0_u64], &[]), Ok(vec![]));
+    assert_eq!(spans.run(&mut [0_u64], &[], &mut []), Ok(()));
     assert_eq!(Spans::<Lsb0>::new(&ranges), Err(Refusal::TooManySpans));
+}
+
+#[test]
+fn a_run_has_any_number_of_requests() {
+    let spans = Spans::<Lsb0>::new(&[0..3, 3..8]).unwrap();
+    let command = Command::Invert(0);
+    let requests: Vec<_> = (0..1_000_001)
+        .map(|i| Request {
+            span: i % 3,
+            command,
+        })
+        .collect();
+    let mut replies = vec![Reply::Done; requests.len()];
+    let mut words = [0_u8];
+    spans.run(&mut words, &requests, &mut replies).unwrap();
+    // (333,334 times the first, as often the second)
+    assert_eq!(words, [0]);
+    assert_eq!(
+        replies[999_996..],
+        [
+            Reply::Word(0),
+            Reply::Word(0),
+            Reply::NoSpan,
+            Reply::Word(7),
+            Reply::Word(0xf8)
+        ]
+    );
+    assert_eq!(
+        spans.run(&mut words, &requests, &mut replies[1..]),
+        Err(Refusal::NoRoom)
+    );
 }

@@ -3,7 +3,7 @@
 
 mod common;
 
-use common::{for_all_memories, Random, CASES};
+use common::{CASES, Random, for_all_memories};
 use std::ops::Bound;
 use worghulen::{BitSlice, BitSliceMut, Lsb0, Msb0, Refusal};
 
@@ -24,10 +24,10 @@ for_all_memories!(copy_within_moves_bits, 14);
 for_all_memories!(copy_bits_copies_a_range, 15);
 
 mod cases {
-    use crate::common::{bits_of, checked, moved, word_and_digit, Layout, Random, Word};
+    use crate::common::{Layout, Random, Word, bits_of, checked, moved, word_and_digit};
     use std::cmp::Reverse;
     use std::ops::Range;
-    use worghulen::{copy_bits, BitSlice, BitSliceMut, Refusal};
+    use worghulen::{BitSlice, BitSliceMut, Refusal, copy_bits};
 
     pub fn a_slice_has_the_bits_of_its_range<T: Word, O: Layout>(random: &mut Random) {
         let mut words = random.words::<T>();
@@ -107,13 +107,8 @@ mod cases {
         let words = random.words::<T>();
         let model = bits_of::<T, O>(&words);
         let range = random.short_range(model.len());
-        let answer = BitSlice::<T, O>::new(&words, range.clone()).and_then(|bits| {
-            if big {
-                bits.load_be()
-            } else {
-                bits.load_le()
-            }
-        });
+        let answer = BitSlice::<T, O>::new(&words, range.clone())
+            .and_then(|bits| if big { bits.load_be() } else { bits.load_le() });
         let expected = checked_number(&range, model.len()).map(|range| {
             let places = by_digit::<T, O>(range, big).into_iter().rev();
             places.fold(0, |number, place| number << 1 | u64::from(model[place]))

@@ -4,6 +4,7 @@
 use super::{Exports, Reply, Request, Span};
 use crate::refusal::Refusal;
 use std::fmt::Debug;
+use std::vec;
 
 /// Of words of equal bits, so that the numbers of all widths are alike.
 trait Word: Exports + Eq + Debug {

@@ -1,13 +1,14 @@
 //! What the tests share: a plain model of a memory as a list of bits, and random cases.
 
-#![allow(dead_code)]
+#![allow(dead_code, unused_imports, unused_macros)]
 
+use std::env;
 use std::fmt::Debug;
 use std::ops::Range;
 use worghulen::{Lsb0, Msb0, Order, Refusal, Register};
 
-/// How many random cases each test asks of each width and order: over the eight, 100,000.
-pub const CASES: usize = 12_500;
+/// How many random cases each test asks of each word and order: over the ten, 100,000.
+pub const CASES: usize = 10_000;
 
 /// How many bits a range has at most.
 pub const MAX_BITS: usize = 2_305_843_009_213_693_951;
@@ -28,13 +29,13 @@ macro_rules! words {
             }
 
             fn number(self) -> u64 {
-                self.into()
+                self as u64
             }
         })*
     };
 }
 
-words!(u8 u16 u32 u64);
+words!(u8 u16 u32 u64 usize);
 
 /// An order whose digits the model knows.
 pub trait Layout: Order + Eq + Debug {
@@ -91,9 +92,14 @@ pub fn moved(range: &Range<usize>, start: usize, len: usize) -> Result<Range<usi
 pub struct Random(u64);
 
 impl Random {
-    /// Those of a seed that is not 0.
-    pub fn new(seed: u64) -> Self {
-        Self(seed)
+    /// Those of a test's number, and of the seed that `BITVEC_C_SEED` names, or else 1.
+    pub fn new(test: u64) -> Self {
+        let seed = env::var("BITVEC_C_SEED").map_or(1, |seed| seed.parse().unwrap());
+        let mut random = Self(test << 40 ^ seed.max(1));
+        for _ in 0..8 {
+            random.number();
+        }
+        random
     }
 
     /// The next number.
@@ -197,9 +203,25 @@ macro_rules! for_all_memories {
                 cases::$test::<u32, Msb0>(&mut random);
                 cases::$test::<u64, Lsb0>(&mut random);
                 cases::$test::<u64, Msb0>(&mut random);
+                cases::$test::<usize, Lsb0>(&mut random);
+                cases::$test::<usize, Msb0>(&mut random);
             }
         }
     };
 }
 
-pub(crate) use for_all_memories;
+/// Calls a function that is generic over two words and two orders, of which the second two are any of
+/// five pairs: the first two themselves, which have calls of their own, and others.
+macro_rules! with_any_other {
+    ($random:ident, $call:ident::<$t:ident, $o:ident>) => {
+        match $random.below(5) {
+            0 => $call::<$t, $o, u8, Msb0>($random),
+            1 => $call::<$t, $o, u16, Lsb0>($random),
+            2 => $call::<$t, $o, u32, Msb0>($random),
+            3 => $call::<$t, $o, u64, Lsb0>($random),
+            _ => $call::<$t, $o, $t, $o>($random),
+        }
+    };
+}
+
+pub(crate) use {for_all_memories, with_any_other};

@@ -1,0 +1,858 @@
+/* Calls each export with random and with hostile arguments, and compares what it answers, and every
+ * bit that it leaves, with a plain model that goes bit by bit.
+ *
+ *     fuzz SEED CALLS
+ *
+ * Each buffer lies between two pages that may not be touched, at the first or right before the
+ * second of them, and what a call only reads may not be written: a stray access ends the program.
+ * The last line is how many calls there were of each export; the status is 1 where one is wrong. */
+#define _DEFAULT_SOURCE
+#include "bitvec.h"
+
+#include <inttypes.h>
+#include <stdio.h>
+#include <stdlib.h>
+#include <string.h>
+#include <sys/mman.h>
+
+#define PAGE 4096
+#define ROOM (2 * PAGE)
+
+static uint64_t state;
+
+static uint64_t any(void) {
+    state ^= state << 13;
+    state ^= state >> 7;
+    state ^= state << 17;
+    return state * UINT64_C(0x2545f4914f6cdd1d);
+}
+
+static size_t below(size_t bound) { return (size_t)(any() >> 16) % bound; }
+
+static bool one_in(size_t n) { return below(n) == 0; }
+
+/* A number at which sums or products pass the greatest. */
+static size_t far_out(void) { return (SIZE_MAX >> below(8)) + below(3) - 1; }
+
+/* A number that mostly is at most `most`. */
+static size_t mostly(size_t most) {
+    switch (below(16)) {
+    case 0:
+        return far_out();
+    case 1:
+        return most + below(9);
+    case 2:
+        return most;
+    default:
+        return most == SIZE_MAX ? most : below(most + 1);
+    }
+}
+
+static uint8_t any_order(void) { return (uint8_t)(one_in(32) ? any() : below(2)); }
+
+/* Two pages between two that may not be touched. */
+struct guarded {
+    uint8_t *first;
+};
+
+/* A buffer of `size` bytes at the end, or at the start, of what is guarded. */
+struct buffer {
+    uint8_t *at;
+    size_t size;
+    const struct guarded *in;
+};
+
+enum { MEMORY, OTHER, SPANS, REQUESTS, REPLIES, ANSWER, PLACES };
+
+static struct guarded rooms[PLACES];
+
+static void map_rooms(void) {
+    for (int i = 0; i < PLACES; i++) {
+        uint8_t *all = mmap(NULL, ROOM + 2 * PAGE, PROT_READ | PROT_WRITE,
+                            MAP_PRIVATE | MAP_ANONYMOUS, -1, 0);
+        if (all == MAP_FAILED || mprotect(all, PAGE, PROT_NONE) != 0 ||
+            mprotect(all + PAGE + ROOM, PAGE, PROT_NONE) != 0) {
+            perror("fuzz");
+            exit(2);
+        }
+        rooms[i].first = all + PAGE;
+    }
+}
+
+static struct buffer take(int room, size_t size) {
+    struct buffer buffer = {rooms[room].first, size, &rooms[room]};
+    if (size == 0 && one_in(2))
+        buffer.at = NULL;
+    else if (one_in(2))
+        buffer.at += ROOM - size;
+    return buffer;
+}
+
+/* Whether what is guarded may be written. */
+static void protect(struct buffer buffer, int way) {
+    if (mprotect(buffer.in->first, ROOM, way) != 0) {
+        perror("fuzz");
+        exit(2);
+    }
+}
+
+/* Mostly zeros, ones, few ones, or anything. */
+static void fill_any(struct buffer buffer) {
+    size_t kind = below(4);
+    for (size_t i = 0; i < buffer.size; i++)
+        buffer.at[i] = kind == 0   ? 0
+                       : kind == 1 ? 0xff
+                       : kind == 2 ? (uint8_t)(one_in(16) ? 1u << below(8) : 0)
+                                   : (uint8_t)any();
+}
+
+/* The model: the word and its digit of a place, in a memory of words of so many bits. */
+static bool bit_at(const uint8_t *memory, unsigned width, uint8_t order, size_t place) {
+    size_t word = place / width, index = place % width;
+    size_t digit = order == BITVEC_LSB0 ? index : width - 1 - index;
+    return memory[word * (width / 8) + digit / 8] >> (digit % 8) & 1;
+}
+
+static void put_bit(uint8_t *memory, unsigned width, uint8_t order, size_t place, bool bit) {
+    size_t word = place / width, index = place % width;
+    size_t digit = order == BITVEC_LSB0 ? index : width - 1 - index;
+    uint8_t *byte = &memory[word * (width / 8) + digit / 8];
+    *byte = (uint8_t)((*byte & ~(1u << (digit % 8))) | (unsigned)bit << (digit % 8));
+}
+
+static uint8_t range_status(unsigned width, uint8_t order, size_t words, size_t start,
+                            size_t count) {
+    size_t bits = words * width;
+    if (order > 1)
+        return BITVEC_NO_ORDER;
+    if (count > BITVEC_MAX_BITS)
+        return BITVEC_TOO_LONG;
+    if (start > bits || count > bits - start)
+        return BITVEC_OUTSIDE;
+    return BITVEC_OK;
+}
+
+static uint8_t number_status(unsigned width, uint8_t order, size_t words, size_t start,
+                             size_t count) {
+    uint8_t status = range_status(width, order, words, start, count);
+    return status == BITVEC_OK && count > 64 ? BITVEC_TOO_WIDE : status;
+}
+
+/* The place of the digit of that number of a number in a range. */
+static size_t digit_place(unsigned width, uint8_t order, bool big, size_t start, size_t count,
+                          size_t digit) {
+    size_t end = start + count, first = start / width, last = (end - 1) / width;
+    for (size_t i = 0; i <= last - first; i++) {
+        size_t word = big ? last - i : first + i;
+        size_t from = word == first ? start % width : 0;
+        size_t to = word == last ? (end - 1) % width + 1 : width;
+        if (digit < to - from) {
+            size_t index = order == BITVEC_LSB0 ? from + digit : to - 1 - digit;
+            return word * width + index;
+        }
+        digit -= to - from;
+    }
+    abort();
+}
+
+static const char *name;
+static uint64_t number_of_call;
+
+static void wrong(const char *what) {
+    printf("call %" PRIu64 ", %s: %s\n", number_of_call, name, what);
+    exit(1);
+}
+
+static void same_status(uint8_t status, uint8_t expected) {
+    if (status != expected) {
+        printf("status %d in place of %d\n", status, expected);
+        wrong("the status");
+    }
+}
+
+static void same_bytes(struct buffer buffer, const uint8_t *model) {
+    if (buffer.size != 0 && memcmp(buffer.at, model, buffer.size) != 0)
+        wrong("what it leaves");
+}
+
+/* A range of `words` words, mostly inside. */
+struct range {
+    size_t start, count;
+};
+
+static struct range any_range(size_t bits) {
+    struct range range = {mostly(bits), 0};
+    range.count = mostly(range.start < bits ? bits - range.start : 0);
+    return range;
+}
+
+static struct range narrow_range(size_t bits) {
+    struct range range = any_range(bits);
+    if (range.count > 64 && !one_in(16))
+        range.count = below(65);
+    return range;
+}
+
+/* A memory of any bits, and the same in the model; mostly short. */
+static struct buffer any_memory(int room, unsigned width, uint8_t *model) {
+    size_t most = one_in(8) ? 512 : 40;
+    struct buffer buffer = take(room, below(most / (width / 8)) * (width / 8));
+    fill_any(buffer);
+    if (buffer.size != 0)
+        memcpy(model, buffer.at, buffer.size);
+    return buffer;
+}
+
+static uint8_t model[ROOM], other_model[ROOM], old_model[ROOM];
+
+/* Copies a stretch of the model, as it was before. */
+static void model_copy(unsigned width, uint8_t order, const uint8_t *source, size_t from,
+                       uint8_t *target, size_t to, size_t count) {
+    for (size_t i = 0; i < count; i++)
+        put_bit(target, width, order, to + i, bit_at(source, width, order, from + i));
+}
+
+/* The words that a span meets. */
+static size_t span_words(unsigned width, struct bitvec_span span) {
+    return span.count == 0 ? 0 : (span.start % width + span.count - 1) / width + 1;
+}
+
+/* Serves a command by the model: to the span's bits in its word k. */
+static struct bitvec_reply model_word(unsigned width, uint8_t order, struct bitvec_span span,
+                                      const struct bitvec_request *request) {
+    struct bitvec_reply reply = {0, BITVEC_PAST_END};
+    size_t k = request->a;
+    if (k >= span_words(width, span))
+        return reply;
+    reply.kind = BITVEC_WORD;
+    for (size_t index = 0; index < width; index++) {
+        size_t place = (span.start / width + k) * width + index;
+        if (place < span.start || place - span.start >= span.count)
+            continue;
+        size_t digit = order == BITVEC_LSB0 ? index : width - 1 - index;
+        bool bit = bit_at(model, width, order, place);
+        reply.number |= (uint64_t)bit << digit;
+        switch (request->command) {
+        case BITVEC_STORE:
+            put_bit(model, width, order, place, request->number >> digit & 1);
+            break;
+        case BITVEC_SET:
+        case BITVEC_CLEAR:
+            put_bit(model, width, order, place, request->command == BITVEC_SET);
+            break;
+        case BITVEC_INVERT:
+            put_bit(model, width, order, place, !bit);
+            break;
+        }
+    }
+    return reply;
+}
+
+/* The same of a command that names bits. */
+static struct bitvec_reply model_bits(unsigned width, uint8_t order, struct bitvec_span span,
+                                      const struct bitvec_request *request) {
+    struct bitvec_reply reply = {0, BITVEC_PAST_END};
+    size_t a = request->a, b = request->b, n = request->count, first = span.start;
+    bool value = request->number & 1;
+    switch (request->command) {
+    case BITVEC_READ:
+    case BITVEC_REPLACE:
+        if (a >= span.count)
+            return reply;
+        reply.kind = BITVEC_BIT;
+        reply.number = bit_at(model, width, order, first + a);
+        if (request->command == BITVEC_REPLACE)
+            put_bit(model, width, order, first + a, value);
+        return reply;
+    case BITVEC_SWAP:
+        if (a >= span.count || b >= span.count)
+            return reply;
+        value = bit_at(model, width, order, first + a);
+        put_bit(model, width, order, first + a, bit_at(model, width, order, first + b));
+        put_bit(model, width, order, first + b, value);
+        break;
+    case BITVEC_COPY:
+        if (a > span.count || n > span.count - a || b > span.count || n > span.count - b)
+            return reply;
+        memcpy(old_model, model, ROOM);
+        model_copy(width, order, old_model, first + a, model, first + b, n);
+        break;
+    case BITVEC_FILL:
+        if (a > b || b > span.count)
+            return reply;
+        for (size_t i = a; i < b; i++)
+            put_bit(model, width, order, first + i, value);
+        break;
+    }
+    reply.kind = BITVEC_DONE;
+    return reply;
+}
+
+#define MOST_SPANS 70
+
+static bool meet(struct bitvec_span a, struct bitvec_span b) {
+    return a.count != 0 && b.count != 0 && a.start < b.start + b.count &&
+           b.start < a.start + a.count;
+}
+
+static uint8_t spans_status(unsigned width, uint8_t order, const struct bitvec_span *spans,
+                            size_t count, size_t words) {
+    if (order > 1)
+        return BITVEC_NO_ORDER;
+    if (count > BITVEC_MAX_SPANS)
+        return BITVEC_TOO_MANY_SPANS;
+    for (size_t i = 0; i < count; i++)
+        if (spans[i].count > BITVEC_MAX_BITS)
+            return BITVEC_TOO_LONG;
+    for (size_t i = 0; i < count; i++)
+        if (range_status(width, order, words, spans[i].start, spans[i].count) != BITVEC_OK)
+            return BITVEC_OUTSIDE;
+    for (size_t i = 0; i < count; i++)
+        for (size_t j = 0; j < i; j++)
+            if (meet(spans[i], spans[j]))
+                return BITVEC_OVERLAP;
+    return BITVEC_OK;
+}
+
+/* Spans that mostly lie in a memory and have no bit in common. */
+static struct buffer any_spans(size_t bits) {
+    size_t count = one_in(32) ? 60 + below(MOST_SPANS - 60) : below(9), place = 0;
+    struct buffer buffer = take(SPANS, count * sizeof(struct bitvec_span));
+    struct bitvec_span *spans = (struct bitvec_span *)(void *)buffer.at;
+    for (size_t i = 0; i < count; i++) {
+        size_t left = place < bits ? bits - place : 0;
+        struct bitvec_span span = {place + below(left / 8 + 1), 0};
+        span.count = below(left / 4 + 1);
+        if (one_in(40))
+            span = (struct bitvec_span){mostly(bits), mostly(bits)};
+        else
+            place = span.start + span.count;
+        spans[i] = span;
+    }
+    for (size_t i = count; i > 1; i--) {
+        size_t j = below(i);
+        struct bitvec_span span = spans[i - 1];
+        spans[i - 1] = spans[j];
+        spans[j] = span;
+    }
+    return buffer;
+}
+
+/* For each width: a call of each export, of which the arguments are any. */
+#define CALLS(W, T)                                                                                \
+    static void copy_##W(uint8_t order, unsigned width) {                                          \
+        struct buffer source = any_memory(OTHER, width, other_model);                              \
+        struct buffer target = any_memory(MEMORY, width, model);                                   \
+        size_t words = source.size / sizeof(T), target_words = target.size / sizeof(T);            \
+        struct range from = any_range(words * width);                                              \
+        size_t to = one_in(4) ? mostly(target_words * width)                                       \
+                    : from.count < target_words * width                                            \
+                        ? below(target_words * width - from.count + 1)                             \
+                        : 0;                                                                       \
+        uint8_t expected = range_status(width, order, words, from.start, from.count);              \
+        if (expected == BITVEC_OK)                                                                 \
+            expected = range_status(width, order, target_words, to, from.count);                   \
+        protect(source, PROT_READ);                                                                \
+        uint8_t status = bitvec_c_copy_##W(order, (const T *)(void *)source.at, words,             \
+                                           from.start, (T *)(void *)target.at, target_words, to,   \
+                                           from.count);                                            \
+        protect(source, PROT_READ | PROT_WRITE);                                                   \
+        same_status(status, expected);                                                             \
+        if (status == BITVEC_OK)                                                                   \
+            model_copy(width, order, other_model, from.start, model, to, from.count);              \
+        same_bytes(target, model);                                                                 \
+    }                                                                                              \
+    static void copy_within_##W(uint8_t order, unsigned width) {                                   \
+        struct buffer memory = any_memory(MEMORY, width, model);                                   \
+        size_t words = memory.size / sizeof(T), bits = words * width;                              \
+        struct range from = any_range(bits);                                                       \
+        size_t to = one_in(4) || from.count > bits ? mostly(bits) : below(bits - from.count + 1);  \
+        uint8_t expected = range_status(width, order, words, from.start, from.count);              \
+        if (expected == BITVEC_OK)                                                                 \
+            expected = range_status(width, order, words, to, from.count);                          \
+        uint8_t status = bitvec_c_copy_within_##W(order, (T *)(void *)memory.at, words,            \
+                                                  from.start, to, from.count);                     \
+        same_status(status, expected);                                                             \
+        memcpy(old_model, model, ROOM);                                                            \
+        if (status == BITVEC_OK)                                                                   \
+            model_copy(width, order, old_model, from.start, model, to, from.count);                \
+        same_bytes(memory, model);                                                                 \
+    }                                                                                              \
+    static void fill_##W(uint8_t order, unsigned width) {                                          \
+        struct buffer memory = any_memory(MEMORY, width, model);                                   \
+        size_t words = memory.size / sizeof(T);                                                    \
+        struct range range = any_range(words * width);                                             \
+        bool bit = one_in(2);                                                                      \
+        uint8_t status = bitvec_c_fill_##W(order, (T *)(void *)memory.at, words, range.start,      \
+                                           range.count, bit);                                      \
+        same_status(status, range_status(width, order, words, range.start, range.count));          \
+        for (size_t i = 0; status == BITVEC_OK && i < range.count; i++)                            \
+            put_bit(model, width, order, range.start + i, bit);                                    \
+        same_bytes(memory, model);                                                                 \
+    }                                                                                              \
+    static void get_##W(uint8_t order, unsigned width) {                                           \
+        struct buffer memory = any_memory(MEMORY, width, model), answer = take(ANSWER, 1);         \
+        size_t words = memory.size / sizeof(T), place = mostly(words * width);                     \
+        bool before = one_in(2);                                                                   \
+        *(bool *)answer.at = before;                                                               \
+        protect(memory, PROT_READ);                                                                \
+        uint8_t status = bitvec_c_get_##W(order, (const T *)(void *)memory.at, words, place,       \
+                                          (bool *)answer.at);                                      \
+        protect(memory, PROT_READ | PROT_WRITE);                                                   \
+        same_status(status, range_status(width, order, words, place, 1));                          \
+        bool expected = status == BITVEC_OK ? bit_at(model, width, order, place) : before;         \
+        if (*answer.at != (uint8_t)expected)                                                       \
+            wrong("the bit");                                                                      \
+        same_bytes(memory, model);                                                                 \
+    }                                                                                              \
+    static void set_##W(uint8_t order, unsigned width) {                                           \
+        struct buffer memory = any_memory(MEMORY, width, model);                                   \
+        size_t words = memory.size / sizeof(T), place = mostly(words * width);                     \
+        bool bit = one_in(2);                                                                      \
+        uint8_t status = bitvec_c_set_##W(order, (T *)(void *)memory.at, words, place, bit);       \
+        same_status(status, range_status(width, order, words, place, 1));                          \
+        if (status == BITVEC_OK)                                                                   \
+            put_bit(model, width, order, place, bit);                                              \
+        same_bytes(memory, model);                                                                 \
+    }                                                                                              \
+    static void load_##W(uint8_t order, unsigned width) {                                          \
+        struct buffer memory = any_memory(MEMORY, width, model), answer = take(ANSWER, 8);         \
+        size_t words = memory.size / sizeof(T);                                                    \
+        struct range range = narrow_range(words * width);                                          \
+        bool big = one_in(2);                                                                      \
+        uint64_t before = any(), expected = 0, number;                                             \
+        memcpy(answer.at, &before, 8);                                                             \
+        protect(memory, PROT_READ);                                                                \
+        uint8_t status =                                                                           \
+            bitvec_c_load_##W(order, big, (const T *)(void *)memory.at, words, range.start,        \
+                              range.count, (uint64_t *)(void *)answer.at);                         \
+        protect(memory, PROT_READ | PROT_WRITE);                                                   \
+        same_status(status, number_status(width, order, words, range.start, range.count));         \
+        for (size_t i = 0; status == BITVEC_OK && i < range.count; i++) {                          \
+            size_t place = digit_place(width, order, big, range.start, range.count, i);            \
+            expected |= (uint64_t)bit_at(model, width, order, place) << i;                         \
+        }                                                                                          \
+        memcpy(&number, answer.at, 8);                                                             \
+        if (number != (status == BITVEC_OK ? expected : before))                                   \
+            wrong("the number");                                                                   \
+        same_bytes(memory, model);                                                                 \
+    }                                                                                              \
+    static void store_##W(uint8_t order, unsigned width) {                                         \
+        struct buffer memory = any_memory(MEMORY, width, model);                                   \
+        size_t words = memory.size / sizeof(T);                                                    \
+        struct range range = narrow_range(words * width);                                          \
+        bool big = one_in(2);                                                                      \
+        uint64_t number = any();                                                                   \
+        uint8_t status = bitvec_c_store_##W(order, big, (T *)(void *)memory.at, words,             \
+                                            range.start, range.count, number);                     \
+        same_status(status, number_status(width, order, words, range.start, range.count));         \
+        for (size_t i = 0; status == BITVEC_OK && i < range.count; i++)                            \
+            put_bit(model, width, order,                                                           \
+                    digit_place(width, order, big, range.start, range.count, i),                   \
+                    number >> i & 1);                                                              \
+        same_bytes(memory, model);                                                                 \
+    }                                                                                              \
+    static void count_ones_##W(uint8_t order, unsigned width) {                                    \
+        struct buffer memory = any_memory(MEMORY, width, model), answer = take(ANSWER, 8);         \
+        size_t words = memory.size / sizeof(T), before = any(), expected = 0, ones;                \
+        struct range range = any_range(words * width);                                             \
+        memcpy(answer.at, &before, 8);                                                             \
+        protect(memory, PROT_READ);                                                                \
+        uint8_t status =                                                                           \
+            bitvec_c_count_ones_##W(order, (const T *)(void *)memory.at, words, range.start,       \
+                                    range.count, (size_t *)(void *)answer.at);                     \
+        protect(memory, PROT_READ | PROT_WRITE);                                                   \
+        same_status(status, range_status(width, order, words, range.start, range.count));          \
+        for (size_t i = 0; status == BITVEC_OK && i < range.count; i++)                            \
+            expected += bit_at(model, width, order, range.start + i);                              \
+        memcpy(&ones, answer.at, 8);                                                               \
+        if (ones != (status == BITVEC_OK ? expected : before))                                     \
+            wrong("the count");                                                                    \
+        same_bytes(memory, model);                                                                 \
+    }                                                                                              \
+    static void first_one_##W(uint8_t order, unsigned width) {                                     \
+        struct buffer memory = any_memory(MEMORY, width, model), answer = take(ANSWER, 8);         \
+        size_t words = memory.size / sizeof(T), before = any(), expected = 0, index;               \
+        struct range range = any_range(words * width);                                             \
+        memcpy(answer.at, &before, 8);                                                             \
+        protect(memory, PROT_READ);                                                                \
+        uint8_t status =                                                                           \
+            bitvec_c_first_one_##W(order, (const T *)(void *)memory.at, words, range.start,        \
+                                   range.count, (size_t *)(void *)answer.at);                      \
+        protect(memory, PROT_READ | PROT_WRITE);                                                   \
+        same_status(status, range_status(width, order, words, range.start, range.count));          \
+        while (status == BITVEC_OK && expected < range.count &&                                    \
+               !bit_at(model, width, order, range.start + expected))                               \
+            expected++;                                                                            \
+        memcpy(&index, answer.at, 8);                                                              \
+        if (index != (status == BITVEC_OK ? expected : before))                                    \
+            wrong("the index");                                                                    \
+        same_bytes(memory, model);                                                                 \
+    }                                                                                              \
+    static void equal_##W(uint8_t order, unsigned width) {                                         \
+        struct buffer memory = any_memory(MEMORY, width, model), answer = take(ANSWER, 1);         \
+        struct buffer other = any_memory(OTHER, width, other_model);                               \
+        size_t words = memory.size / sizeof(T), other_words = other.size / sizeof(T);              \
+        struct range range = any_range(words * width);                                             \
+        size_t there = mostly(other_words * width);                                                \
+        bool before = one_in(2), alike = one_in(2), expected = true;                               \
+        if (alike) { /* mostly the same bits, but for one */                                       \
+            other = memory;                                                                        \
+            other_words = words;                                                                   \
+            memcpy(other_model, model, ROOM);                                                      \
+            there = one_in(8) ? there : range.start;                                               \
+        }                                                                                          \
+        *(bool *)answer.at = before;                                                               \
+        protect(memory, PROT_READ);                                                                \
+        uint8_t status = bitvec_c_equal_##W(order, (const T *)(void *)memory.at, words,            \
+                                            range.start, (const T *)(void *)other.at, other_words, \
+                                            there, range.count, (bool *)answer.at);                \
+        protect(memory, PROT_READ | PROT_WRITE);                                                   \
+        uint8_t wanted = range_status(width, order, words, range.start, range.count);              \
+        if (wanted == BITVEC_OK)                                                                   \
+            wanted = range_status(width, order, other_words, there, range.count);                  \
+        same_status(status, wanted);                                                               \
+        for (size_t i = 0; status == BITVEC_OK && i < range.count; i++)                            \
+            expected = expected && bit_at(model, width, order, range.start + i) ==                 \
+                                       bit_at(other_model, width, order, there + i);               \
+        if (*answer.at != (uint8_t)(status == BITVEC_OK ? expected : before))                      \
+            wrong("the answer");                                                                   \
+        same_bytes(memory, model);                                                                 \
+    }                                                                                              \
+    static void can_run_##W(uint8_t order, unsigned width) {                                       \
+        size_t words = below(20);                                                                  \
+        struct buffer buffer = any_spans(words * width);                                           \
+        const struct bitvec_span *spans = (const struct bitvec_span *)(void *)buffer.at;           \
+        size_t count = buffer.size / sizeof(struct bitvec_span);                                   \
+        protect(buffer, PROT_READ);                                                                \
+        uint8_t status = bitvec_c_can_run_##W(order, spans, count, words);                         \
+        protect(buffer, PROT_READ | PROT_WRITE);                                                   \
+        same_status(status, spans_status(width, order, spans, count, words));                      \
+    }                                                                                              \
+    static void run_##W(uint8_t order, unsigned width) {                                           \
+        struct buffer memory = any_memory(MEMORY, width, model);                                   \
+        size_t words = memory.size / sizeof(T), bits = words * width;                              \
+        struct buffer span_buffer = any_spans(bits);                                               \
+        const struct bitvec_span *spans = (const struct bitvec_span *)(void *)span_buffer.at;      \
+        size_t span_count = span_buffer.size / sizeof(struct bitvec_span), asked = below(12);      \
+        struct buffer request_buffer = take(REQUESTS, asked * sizeof(struct bitvec_request));      \
+        struct bitvec_request *requests =                                                          \
+            (struct bitvec_request *)(void *)request_buffer.at;                                    \
+        bool lawful = true;                                                                        \
+        for (size_t i = 0; i < asked; i++) {                                                       \
+            size_t span = below(span_count + 1);                                                   \
+            size_t len = span < span_count ? spans[span].count : 9;                                \
+            len = len > bits ? bits : len;                                                         \
+            size_t most = one_in(2) ? len / width + 1 : len;                                       \
+            uint8_t command = (uint8_t)(one_in(64) ? any() : below(10));                           \
+            memset(&requests[i], 0x5a, sizeof(requests[i]));                                       \
+            requests[i] = (struct bitvec_request){span,         mostly(most), mostly(len),         \
+                                                  mostly(most), any(),        command};            \
+            lawful = lawful && command <= BITVEC_FILL;                                             \
+        }                                                                                          \
+        size_t room = one_in(32) ? below(12) : asked;                                              \
+        struct buffer reply_buffer = take(REPLIES, room * sizeof(struct bitvec_reply));            \
+        struct bitvec_reply *replies = (struct bitvec_reply *)(void *)reply_buffer.at;             \
+        for (size_t i = 0; i < room; i++)                                                          \
+            replies[i] = (struct bitvec_reply){77, 77};                                            \
+        protect(span_buffer, PROT_READ);                                                           \
+        protect(request_buffer, PROT_READ);                                                        \
+        uint8_t status =                                                                           \
+            bitvec_c_run_##W(order, spans, span_count, (T *)(void *)memory.at, words, requests,    \
+                             asked, replies, room);                                                \
+        protect(request_buffer, PROT_READ | PROT_WRITE);                                           \
+        protect(span_buffer, PROT_READ | PROT_WRITE);                                              \
+        uint8_t expected = spans_status(width, order, spans, span_count, words);                   \
+        if (expected == BITVEC_OK && room != asked)                                                \
+            expected = BITVEC_NO_ROOM;                                                             \
+        if (expected == BITVEC_OK && !lawful)                                                      \
+            expected = BITVEC_NO_COMMAND;                                                          \
+        same_status(status, expected);                                                             \
+        for (size_t i = 0; i < room; i++) {                                                        \
+            struct bitvec_reply reply = {77, 77};                                                  \
+            if (status == BITVEC_OK) {                                                             \
+                const struct bitvec_request *request = &requests[i];                               \
+                reply = (struct bitvec_reply){0, BITVEC_NO_SPAN};                                  \
+                if (request->span < span_count)                                                    \
+                    reply = request->command <= BITVEC_INVERT                                      \
+                                ? model_word(width, order, spans[request->span], request)          \
+                                : model_bits(width, order, spans[request->span], request);         \
+            }                                                                                      \
+            if (replies[i].number != reply.number || replies[i].kind != reply.kind)                \
+                wrong("a reply");                                                                  \
+        }                                                                                          \
+        same_bytes(memory, model);                                                                 \
+    }
+
+CALLS(u8, uint8_t)
+CALLS(u16, uint16_t)
+CALLS(u32, uint32_t)
+CALLS(u64, uint64_t)
+
+/* The first, or the last, bit of a range that is `bit`, and the first run of so many zeros; `count`
+ * where there is none. */
+static size_t model_first(unsigned width, uint8_t order, struct range range, size_t bit) {
+    size_t i = 0;
+    while (i < range.count && bit_at(model, width, order, range.start + i) != (bit != 0))
+        i++;
+    return i;
+}
+
+static size_t model_last(unsigned width, uint8_t order, struct range range, size_t bit) {
+    for (size_t i = range.count; i > 0; i--)
+        if (bit_at(model, width, order, range.start + i - 1) == (bit != 0))
+            return i - 1;
+    return range.count;
+}
+
+static size_t model_find_zeros(unsigned width, uint8_t order, struct range range, size_t zeros) {
+    size_t run = 0;
+    if (zeros == 0)
+        return 0;
+    for (size_t i = 0; i < range.count; i++) {
+        run = bit_at(model, width, order, range.start + i) ? 0 : run + 1;
+        if (run == zeros)
+            return i + 1 - zeros;
+    }
+    return range.count;
+}
+
+/* What an edit makes of the bits of a range: bit i of which old bit, or none for a zero. */
+enum edit { INVERT, REVERSE, SHIFT_LEFT, SHIFT_RIGHT, ROTATE_LEFT };
+
+static void model_edit(unsigned width, uint8_t order, struct range range, size_t by,
+                       enum edit edit) {
+    memcpy(old_model, model, ROOM);
+    for (size_t i = 0; i < range.count; i++) {
+        size_t from = i, n = range.count;
+        bool there = true;
+        switch (edit) {
+        case INVERT:
+            break;
+        case REVERSE:
+            from = n - 1 - i;
+            break;
+        case SHIFT_LEFT:
+            there = i < n - by;
+            from = there ? i + by : 0;
+            break;
+        case SHIFT_RIGHT:
+            there = i >= by;
+            from = there ? i - by : 0;
+            break;
+        case ROTATE_LEFT:
+            from = i < n - by ? i + by : i - (n - by);
+            break;
+        }
+        bool bit = there && bit_at(old_model, width, order, range.start + from);
+        put_bit(model, width, order, range.start + i, edit == INVERT ? !bit : bit);
+    }
+}
+
+/* What an operator makes of two bits. */
+enum operator { AND, OR, XOR, AND_NOT, SOURCE };
+
+static bool model_operator(enum operator operator, bool target, bool source) {
+    switch (operator) {
+    case AND:
+        return target && source;
+    case OR:
+        return target || source;
+    case XOR:
+        return target != source;
+    case AND_NOT:
+        return target && !source;
+    default:
+        return source;
+    }
+}
+
+/* The status of two ranges, of which each has words and an order of its own. */
+static uint8_t pair_status(unsigned width, uint8_t order, size_t words, size_t start,
+                           unsigned other_width, uint8_t other_order, size_t other_words,
+                           size_t other_start, size_t count) {
+    uint8_t status = range_status(width, order, words, start, count);
+    return status != BITVEC_OK ? status
+                               : range_status(other_width, other_order, other_words, other_start,
+                                              count);
+}
+
+/* A place from which on so many bits mostly lie among `bits`. */
+static size_t any_start(size_t bits, size_t count) {
+    return one_in(4) ? mostly(bits) : count < bits ? below(bits - count + 1) : 0;
+}
+
+/* An export that answers an index of a range, of which an argument is `argument`. */
+#define SEEK(C, W, T, argument)                                                                    \
+    static void C##_##W(uint8_t order, unsigned width) {                                           \
+        struct buffer memory = any_memory(MEMORY, width, model), answer = take(ANSWER, 8);         \
+        size_t words = memory.size / sizeof(T), before = any(), index;                             \
+        struct range range = any_range(words * width);                                             \
+        size_t asked = argument;                                                                   \
+        memcpy(answer.at, &before, 8);                                                             \
+        protect(memory, PROT_READ);                                                                \
+        uint8_t status =                                                                           \
+            bitvec_c_##C##_##W(order, (const T *)(void *)memory.at, words, range.start,            \
+                               range.count, asked, (size_t *)(void *)answer.at);                   \
+        protect(memory, PROT_READ | PROT_WRITE);                                                   \
+        same_status(status, range_status(width, order, words, range.start, range.count));          \
+        memcpy(&index, answer.at, 8);                                                              \
+        if (index != (status == BITVEC_OK ? model_##C(width, order, range, asked) : before))       \
+            wrong("the index");                                                                    \
+        same_bytes(memory, model);                                                                 \
+    }
+
+/* An export that edits a range, with the arguments behind its count. */
+#define EDIT(C, W, T, KIND, by, ...)                                                               \
+    static void C##_##W(uint8_t order, unsigned width) {                                           \
+        struct buffer memory = any_memory(MEMORY, width, model);                                   \
+        size_t words = memory.size / sizeof(T);                                                    \
+        struct range range = any_range(words * width);                                             \
+        size_t moved = by;                                                                         \
+        uint8_t status = bitvec_c_##C##_##W(order, (T *)(void *)memory.at, words, range.start,     \
+                                            __VA_ARGS__);                                          \
+        uint8_t expected = range_status(width, order, words, range.start, range.count);            \
+        if (expected == BITVEC_OK && moved > range.count)                                          \
+            expected = BITVEC_OUTSIDE;                                                             \
+        same_status(status, expected);                                                             \
+        if (status == BITVEC_OK)                                                                   \
+            model_edit(width, order, range, moved, KIND);                                          \
+        same_bytes(memory, model);                                                                 \
+    }
+
+/* An export that makes the bits of a range of words `T` by an operator of those of words `S`. */
+#define COMBINE(C, NAME, S, T, OPERATOR)                                                           \
+    static void NAME(uint8_t order, unsigned width) {                                              \
+        unsigned other_width = 8 * sizeof(S);                                                      \
+        uint8_t other_order = any_order();                                                         \
+        struct buffer source = any_memory(OTHER, other_width, other_model);                        \
+        struct buffer target = any_memory(MEMORY, width, model);                                   \
+        size_t words = source.size / sizeof(S), target_words = target.size / sizeof(T);            \
+        struct range from = any_range(words * other_width);                                        \
+        size_t to = any_start(target_words * width, from.count);                                   \
+        uint8_t expected = pair_status(other_width, other_order, words, from.start, width, order,  \
+                                       target_words, to, from.count);                              \
+        protect(source, PROT_READ);                                                                \
+        uint8_t status =                                                                           \
+            bitvec_c_##C(other_order, (const S *)(void *)source.at, words, from.start, order,      \
+                         (T *)(void *)target.at, target_words, to, from.count);                    \
+        protect(source, PROT_READ | PROT_WRITE);                                                   \
+        same_status(status, expected);                                                             \
+        for (size_t i = 0; status == BITVEC_OK && i < from.count; i++) {                           \
+            bool here = bit_at(model, width, order, to + i);                                       \
+            bool there = bit_at(other_model, other_width, other_order, from.start + i);            \
+            put_bit(model, width, order, to + i, model_operator(OPERATOR, here, there));           \
+        }                                                                                          \
+        same_bytes(target, model);                                                                 \
+    }
+
+/* An export that answers how many pairs of bits an operator makes one, or the first such. */
+#define QUESTION(C, W, T, OPERATOR, COUNTS)                                                        \
+    static void C##_##W(uint8_t order, unsigned width) {                                           \
+        struct buffer memory = any_memory(MEMORY, width, model), answer = take(ANSWER, 8);         \
+        struct buffer other = any_memory(OTHER, width, other_model);                               \
+        uint8_t other_order = any_order();                                                         \
+        size_t words = memory.size / sizeof(T), other_words = other.size / sizeof(T);              \
+        size_t before = any(), found = 0, number, seen = 0;                                        \
+        struct range range = any_range(words * width);                                             \
+        size_t there = any_start(other_words * width, range.count);                                \
+        if (one_in(2)) { /* the same bits, so that they seldom differ */                           \
+            other = memory;                                                                        \
+            other_words = words;                                                                   \
+            other_order = one_in(8) ? other_order : order;                                         \
+            memcpy(other_model, model, ROOM);                                                      \
+            there = one_in(8) ? there : range.start;                                               \
+        }                                                                                          \
+        memcpy(answer.at, &before, 8);                                                             \
+        protect(memory, PROT_READ);                                                                \
+        uint8_t status =                                                                           \
+            bitvec_c_##C##_##W(order, (const T *)(void *)memory.at, words, range.start,            \
+                               other_order, (const T *)(void *)other.at, other_words, there,       \
+                               range.count, (size_t *)(void *)answer.at);                          \
+        protect(memory, PROT_READ | PROT_WRITE);                                                   \
+        same_status(status, pair_status(width, order, words, range.start, width, other_order,      \
+                                        other_words, there, range.count));                         \
+        for (; status == BITVEC_OK && seen < range.count; seen++) {                                \
+            bool here = bit_at(model, width, order, range.start + seen);                           \
+            bool is = bit_at(other_model, width, other_order, there + seen);                       \
+            if (model_operator(OPERATOR, here, is) && ++found && !(COUNTS))                        \
+                break;                                                                             \
+        }                                                                                          \
+        memcpy(&number, answer.at, 8);                                                             \
+        if (number != (status != BITVEC_OK ? before : (COUNTS) ? found : seen))                    \
+            wrong("the answer");                                                                   \
+        same_bytes(memory, model);                                                                 \
+    }
+
+#define MORE_CALLS(W, T)                                                                           \
+    SEEK(first, W, T, below(2))                                                                    \
+    SEEK(last, W, T, below(2))                                                                     \
+    SEEK(find_zeros, W, T, one_in(2) ? below(9) : mostly(range.count < 600 ? range.count : 9))     \
+    EDIT(invert, W, T, INVERT, 0, range.count)                                                     \
+    EDIT(reverse, W, T, REVERSE, 0, range.count)                                                   \
+    EDIT(shift_left, W, T, SHIFT_LEFT, mostly(range.count), range.count, moved)                    \
+    EDIT(shift_right, W, T, SHIFT_RIGHT, mostly(range.count), range.count, moved)                  \
+    EDIT(rotate_left, W, T, ROTATE_LEFT, mostly(range.count), range.count, moved)                  \
+    COMBINE(and_##W, and_##W, T, T, AND)                                                           \
+    COMBINE(or_##W, or_##W, T, T, OR)                                                              \
+    COMBINE(xor_##W, xor_##W, T, T, XOR)                                                           \
+    COMBINE(and_not_##W, and_not_##W, T, T, AND_NOT)                                               \
+    COMBINE(copy_u8_to_##W, copy_u8_to_##W, uint8_t, T, SOURCE)                                    \
+    COMBINE(copy_u16_to_##W, copy_u16_to_##W, uint16_t, T, SOURCE)                                 \
+    COMBINE(copy_u32_to_##W, copy_u32_to_##W, uint32_t, T, SOURCE)                                 \
+    COMBINE(copy_u64_to_##W, copy_u64_to_##W, uint64_t, T, SOURCE)                                 \
+    QUESTION(count_and, W, T, AND, true)                                                           \
+    QUESTION(first_and, W, T, AND, false)                                                          \
+    QUESTION(first_and_not, W, T, AND_NOT, false)                                                  \
+    QUESTION(first_difference, W, T, XOR, false)
+
+MORE_CALLS(u8, uint8_t)
+MORE_CALLS(u16, uint16_t)
+MORE_CALLS(u32, uint32_t)
+MORE_CALLS(u64, uint64_t)
+
+struct export {
+    const char *name;
+    void (*call)(uint8_t order, unsigned width);
+    unsigned width;
+    uint64_t calls;
+};
+
+#define EXPORTS_OF(C)                                                                              \
+    {"bitvec_c_" #C "_u8", C##_u8, 8, 0}, {"bitvec_c_" #C "_u16", C##_u16, 16, 0},                 \
+        {"bitvec_c_" #C "_u32", C##_u32, 32, 0}, {"bitvec_c_" #C "_u64", C##_u64, 64, 0}
+
+static struct export exports[] = {
+    EXPORTS_OF(copy), EXPORTS_OF(copy_within), EXPORTS_OF(fill), EXPORTS_OF(get), EXPORTS_OF(set),
+    EXPORTS_OF(load), EXPORTS_OF(store), EXPORTS_OF(count_ones), EXPORTS_OF(first_one),
+    EXPORTS_OF(equal), EXPORTS_OF(can_run), EXPORTS_OF(run), EXPORTS_OF(first), EXPORTS_OF(last),
+    EXPORTS_OF(find_zeros), EXPORTS_OF(invert), EXPORTS_OF(reverse), EXPORTS_OF(shift_left),
+    EXPORTS_OF(shift_right), EXPORTS_OF(rotate_left), EXPORTS_OF(and), EXPORTS_OF(or),
+    EXPORTS_OF(xor), EXPORTS_OF(and_not), EXPORTS_OF(copy_u8_to), EXPORTS_OF(copy_u16_to),
+    EXPORTS_OF(copy_u32_to), EXPORTS_OF(copy_u64_to), EXPORTS_OF(count_and), EXPORTS_OF(first_and),
+    EXPORTS_OF(first_and_not), EXPORTS_OF(first_difference),
+};
+
+#define EXPORTS (sizeof(exports) / sizeof(exports[0]))
+
+int main(int count, char **words) {
+    if (count != 3)
+        return 2;
+    uint64_t seed = strtoull(words[1], NULL, 10), calls = strtoull(words[2], NULL, 10);
+    state = seed * 2 + 1;
+    map_rooms();
+    if (bitvec_c_version() != BITVEC_VERSION) {
+        printf("the archive is of version %" PRIu32 "\n", bitvec_c_version());
+        return 1;
+    }
+    for (number_of_call = 0; number_of_call < calls; number_of_call++) {
+        struct export *export = &exports[below(EXPORTS)];
+        name = export->name;
+        export->call(any_order(), export->width);
+        export->calls++;
+    }
+    for (size_t i = 0; i < EXPORTS; i++)
+        printf("%s %" PRIu64 "\n", exports[i].name, exports[i].calls);
+    printf("bitvec_c_version 1\n");
+    return 0;
+}

@@ -1,0 +1,253 @@
+//! Sets of bits: the operators, and questions of two sets.
+
+use crate::order::Order;
+use crate::refusal::Refusal;
+use crate::register::Register;
+use crate::slice::{BitSlice, granted};
+use crate::slice_mut::BitSliceMut;
+use core::ops::{BitAndAssign, BitOrAssign, BitXorAssign};
+
+/// A call of the library that combines two ranges.
+type Operator<T> = fn(u8, (&[T], usize), u8, (&mut [T], usize), usize) -> Result<(), Refusal>;
+
+impl<T: Register, O: Order> BitSliceMut<'_, T, O> {
+    /// Makes of each bit, as far as both slices go, what an operator makes of it and of the
+    /// other's: by a call of the library, or where their words differ, up to 64 at a time by `new`.
+    #[inline]
+    fn combine<T2: Register, O2: Order>(
+        &mut self,
+        source: &BitSlice<'_, T2, O2>,
+        call: Operator<T>,
+        new: impl Fn(u64, u64) -> u64,
+    ) {
+        let len = self.len().min(source.len());
+        match T::same(&source.seen()) {
+            Some(words) => {
+                let from = (words, source.place().1);
+                granted(call(O2::CODE, from, O::CODE, self.place_mut(), len));
+            }
+            None => self.make(len, |bits, from, count| {
+                new(bits, source.window(from, count))
+            }),
+        }
+    }
+
+    /// Clears those bits whose bit in another slice is one: the difference of two sets. Costs by
+    /// words.
+    ///
+    /// # Errors
+    ///
+    /// [`Refusal::Lengths`] where that has not as many bits.
+    ///
+    /// # Examples
+    ///
+    /// ```
+    /// use worghulen::{BitView, Lsb0, Msb0};
+    ///
+    /// let (mut words, other) = ([0x7f_u8], [0x30_u8]);
+    /// words.view_bits_mut::<Lsb0>().and_not_from(&other.view_bits::<Msb0>())?;
+    /// assert_eq!(words, [0x73]);
+    /// # Ok::<(), worghulen::Refusal>(())
+    /// ```
+    pub fn and_not_from<T2: Register, O2: Order>(
+        &mut self,
+        source: &BitSlice<'_, T2, O2>,
+    ) -> Result<(), Refusal> {
+        if source.len() != self.len() {
+            return Err(Refusal::Lengths);
+        }
+        self.combine(source, T::and_not, |here, there| here & !there);
+        Ok(())
+    }
+}
+
+/// Leaves one those bits whose bit in the other slice, of any words and order, is one. Where that
+/// is shorter, the bits behind its last become zero. Costs by words.
+///
+/// # Examples
+///
+/// ```
+/// use worghulen::{BitView, Lsb0};
+///
+/// let (mut words, other) = ([0xfc_u8, 0xff], [0x0f_u16]);
+/// let mut bits = words.view_bits_mut::<Lsb0>();
+/// bits &= other.view_bits::<Lsb0>().get(..12).unwrap();
+/// assert_eq!(words, [0x0c, 0x00]);
+/// ```
+impl<'b, T: Register, O: Order, T2: Register, O2: Order> BitAndAssign<BitSlice<'b, T2, O2>>
+    for BitSliceMut<'_, T, O>
+{
+    fn bitand_assign(&mut self, other: BitSlice<'b, T2, O2>) {
+        self.combine(&other, T::and, |here, there| here & there);
+        if let Some(mut behind) = self.get_mut(other.len()..) {
+            behind.fill(false);
+        }
+    }
+}
+
+/// Makes one those bits whose bit in the other slice, of any words and order, is one. Where that is
+/// shorter, the bits behind its last stay. Costs by words.
+///
+/// # Examples
+///
+/// ```
+/// use worghulen::{BitView, Lsb0, Msb0};
+///
+/// let (mut words, other) = ([0x01_u8], [0x40_u8]);
+/// let mut bits = words.view_bits_mut::<Lsb0>();
+/// bits |= other.view_bits::<Msb0>();
+/// assert_eq!(words, [0x03]);
+/// ```
+impl<'b, T: Register, O: Order, T2: Register, O2: Order> BitOrAssign<BitSlice<'b, T2, O2>>
+    for BitSliceMut<'_, T, O>
+{
+    fn bitor_assign(&mut self, other: BitSlice<'b, T2, O2>) {
+        self.combine(&other, T::or, |here, there| here | there);
+    }
+}
+
+/// Turns over those bits whose bit in the other slice, of any words and order, is one. Where that
+/// is shorter, the bits behind its last stay. Costs by words.
+///
+/// # Examples
+///
+/// ```
+/// use worghulen::{BitView, Lsb0};
+///
+/// let (mut words, other) = ([0x0f_u8], [0x3c_u64]);
+/// let mut bits = words.view_bits_mut::<Lsb0>();
+/// bits ^= other.view_bits::<Lsb0>();
+/// assert_eq!(words, [0x33]);
+/// ```
+impl<'b, T: Register, O: Order, T2: Register, O2: Order> BitXorAssign<BitSlice<'b, T2, O2>>
+    for BitSliceMut<'_, T, O>
+{
+    fn bitxor_assign(&mut self, other: BitSlice<'b, T2, O2>) {
+        self.combine(&other, T::xor, |here, there| here ^ there);
+    }
+}
+
+macro_rules! by_reference {
+    ($($operator:ident $call:ident;)*) => { $(
+        impl<'b, T: Register, O: Order, T2: Register, O2: Order> $operator<&BitSlice<'b, T2, O2>>
+            for BitSliceMut<'_, T, O>
+        {
+            fn $call(&mut self, other: &BitSlice<'b, T2, O2>) {
+                self.$call(*other);
+            }
+        }
+
+        impl<'b, T: Register, O: Order, T2: Register, O2: Order> $operator<&BitSliceMut<'b, T2, O2>>
+            for BitSliceMut<'_, T, O>
+        {
+            fn $call(&mut self, other: &BitSliceMut<'b, T2, O2>) {
+                self.$call(other.as_bitslice());
+            }
+        }
+    )* };
+}
+
+by_reference! {
+    BitAndAssign bitand_assign;
+    BitOrAssign bitor_assign;
+    BitXorAssign bitxor_assign;
+}
+
+/// A call of the library that asks of two ranges.
+type Question<T> = fn(u8, (&[T], usize), u8, (&[T], usize), usize) -> Result<usize, Refusal>;
+
+impl<T: Register, O: Order> BitSlice<'_, T, O> {
+    /// Whether each index with a one here has a one in another slice: whether one set lies in
+    /// another. Behind its last bit a slice has no ones. Costs by words, up to the first that
+    /// decides.
+    ///
+    /// # Examples
+    ///
+    /// ```
+    /// use worghulen::{BitView, Lsb0};
+    ///
+    /// let (few, many) = ([0x05_u8], [0x0f_u16]);
+    /// let (few, many) = (few.view_bits::<Lsb0>(), many.view_bits::<Lsb0>());
+    /// assert!(few.is_subset(&many) && !many.is_subset(&few));
+    /// ```
+    #[must_use]
+    pub fn is_subset<T2: Register, O2: Order>(&self, other: &BitSlice<'_, T2, O2>) -> bool {
+        let common = self.len().min(other.len());
+        !self.rest(common).any()
+            && self
+                .windows_with(other)
+                .all(|(here, there)| here & !there == 0)
+    }
+
+    /// Whether there is an index with a one here and in another slice: whether two sets have an
+    /// element in common. Costs by words, up to the first that decides.
+    ///
+    /// # Examples
+    ///
+    /// ```
+    /// use worghulen::{BitView, Lsb0};
+    ///
+    /// let (odd, even) = ([0xaa_u8], [0x55_u8]);
+    /// assert!(!odd.view_bits::<Lsb0>().intersects(&even.view_bits::<Lsb0>()));
+    /// ```
+    #[must_use]
+    pub fn intersects<T2: Register, O2: Order>(&self, other: &BitSlice<'_, T2, O2>) -> bool {
+        self.windows_with(other)
+            .any(|(here, there)| here & there != 0)
+    }
+
+    /// At how many indices there is a one here and in another slice: how many elements two sets
+    /// have in common. Costs by words.
+    ///
+    /// # Examples
+    ///
+    /// ```
+    /// use worghulen::{BitView, Lsb0};
+    ///
+    /// let (here, there) = ([0x3c_u8, 0x03], [0xfff0_u16]);
+    /// assert_eq!(here.view_bits::<Lsb0>().count_and(&there.view_bits::<Lsb0>()), 4);
+    /// ```
+    #[must_use]
+    pub fn count_and<T2: Register, O2: Order>(&self, other: &BitSlice<'_, T2, O2>) -> usize {
+        let common = self.len().min(other.len());
+        match T::same(&other.seen()) {
+            Some(words) => self.ask(words, other, common, T::count_and),
+            None => self
+                .windows_with(other)
+                .map(|(here, there)| (here & there).count_ones() as usize)
+                .sum(),
+        }
+    }
+
+    /// What a call of the library answers of the first bits and those of another slice, whose words
+    /// are of one type.
+    #[inline]
+    pub(crate) fn ask<T2: Register, O2: Order>(
+        &self,
+        words: &[T],
+        other: &BitSlice<'_, T2, O2>,
+        count: usize,
+        call: Question<T>,
+    ) -> usize {
+        let there = (words, other.place().1);
+        granted(call(O::CODE, self.place(), O2::CODE, there, count))
+    }
+
+    /// The bits of both slices, as far as both go, up to 64 at a time.
+    fn windows_with<T2: Register, O2: Order>(
+        &self,
+        other: &BitSlice<'_, T2, O2>,
+    ) -> impl Iterator<Item = (u64, u64)> {
+        let len = self.len().min(other.len());
+        let mut from = 0;
+        core::iter::from_fn(move || {
+            let count = self.ahead(from).min(len - from);
+            if count == 0 {
+                return None;
+            }
+            let both = (self.window(from, count), other.window(from, count));
+            from += count;
+            Some(both)
+        })
+    }
+}

@@ -1,0 +1,230 @@
+//! Two slices compared, whatever their words and orders are.
+
+use crate::order::Order;
+use crate::register::Register;
+use crate::slice::{BitSlice, granted};
+use crate::slice_mut::BitSliceMut;
+use core::cmp::Ordering;
+use core::hash::{Hash, Hasher};
+
+impl<T: Register, O: Order> BitSlice<'_, T, O> {
+    /// Whether another slice has as many bits, and the same ones: what `==` answers. Costs by
+    /// words, up to the first difference.
+    ///
+    /// # Examples
+    ///
+    /// ```
+    /// use worghulen::{BitSlice, BitView, Lsb0, Msb0};
+    ///
+    /// let words = [0b0110_0110_u8];
+    /// let low = BitSlice::<_, Lsb0>::new(&words, 0..4)?;
+    /// let high = BitSlice::<_, Lsb0>::new(&words, 4..8)?;
+    /// assert!(low.equals(&high));
+    /// assert_eq!(low, [0x6000_u16].view_bits::<Msb0>().get(..4).unwrap());
+    /// # Ok::<(), worghulen::Refusal>(())
+    /// ```
+    #[must_use]
+    pub fn equals<T2: Register, O2: Order>(&self, other: &BitSlice<'_, T2, O2>) -> bool {
+        if self.len() != other.len() {
+            return false;
+        }
+        let (words, start) = self.place();
+        match T::same(&other.seen()) {
+            Some(others) if O::CODE == O2::CODE => {
+                let there = (others, other.place().1);
+                granted(T::equal(O::CODE, (words, start), there, self.len()))
+            }
+            _ => self.first_difference(other).is_none(),
+        }
+    }
+
+    /// The first index at which the slices have different bits, as far as both go, and `None` where
+    /// there is none. Costs by words, up to that bit.
+    ///
+    /// # Examples
+    ///
+    /// ```
+    /// use worghulen::{BitView, Lsb0};
+    ///
+    /// let (one, other) = ([0x5a_u8], [0x4a_u32]);
+    /// let (one, other) = (one.view_bits::<Lsb0>(), other.view_bits::<Lsb0>());
+    /// assert_eq!(one.first_difference(&other), Some(4));
+    /// ```
+    #[must_use]
+    pub fn first_difference<T2: Register, O2: Order>(
+        &self,
+        other: &BitSlice<'_, T2, O2>,
+    ) -> Option<usize> {
+        let len = self.len().min(other.len());
+        if let Some(words) = T::same(&other.seen()) {
+            let found = self.ask(words, other, len, T::first_difference);
+            return (found < len).then_some(found);
+        }
+        let mut from = 0;
+        while from < len {
+            let count = self.ahead(from).min(len - from);
+            let differing = self.window(from, count) ^ other.window(from, count);
+            if differing != 0 {
+                return Some(from + differing.trailing_zeros() as usize);
+            }
+            from += count;
+        }
+        None
+    }
+
+    /// How the bits compare with those of another slice, as two lists of `bool` do: at the first
+    /// difference the one with the zero is less, and where there is none, the shorter. Costs by
+    /// words, up to the first difference.
+    ///
+    /// # Examples
+    ///
+    /// ```
+    /// use std::cmp::Ordering;
+    /// use worghulen::{BitView, Lsb0, Msb0};
+    ///
+    /// let (one, other) = ([0x0f_u8], [0xf0_u16]);
+    /// let (one, other) = (one.view_bits::<Lsb0>(), other.view_bits::<Msb0>());
+    /// assert_eq!(one.compare(&other), Ordering::Greater);
+    /// assert!(one > other && one.get(..0).unwrap() < other);
+    /// ```
+    #[must_use]
+    pub fn compare<T2: Register, O2: Order>(&self, other: &BitSlice<'_, T2, O2>) -> Ordering {
+        match self.first_difference(other) {
+            Some(index) => self.bit(index).cmp(&other.bit(index)),
+            None => self.len().cmp(&other.len()),
+        }
+    }
+
+    /// Whether the bits begin with those of another slice. Costs by words.
+    ///
+    /// # Examples
+    ///
+    /// ```
+    /// use worghulen::{BitView, Msb0};
+    ///
+    /// let (bytes, start) = ([0x47_u8, 0x11], [0x47_u8]);
+    /// assert!(bytes.view_bits::<Msb0>().starts_with(&start.view_bits::<Msb0>()));
+    /// ```
+    #[must_use]
+    pub fn starts_with<T2: Register, O2: Order>(&self, other: &BitSlice<'_, T2, O2>) -> bool {
+        self.part(..other.len())
+            .is_ok_and(|start| start.equals(other))
+    }
+
+    /// Whether the bits end with those of another slice. Costs by words.
+    ///
+    /// # Examples
+    ///
+    /// ```
+    /// use worghulen::{BitView, Lsb0, Msb0};
+    ///
+    /// let (bytes, end) = ([0x47_u8, 0x11], [0x1_u8]);
+    /// let end = end.view_bits::<Lsb0>();
+    /// assert!(bytes.view_bits::<Lsb0>().ends_with(&end.get(..4).unwrap()));
+    /// assert!(!bytes.view_bits::<Msb0>().ends_with(&end));
+    /// ```
+    #[must_use]
+    pub fn ends_with<T2: Register, O2: Order>(&self, other: &BitSlice<'_, T2, O2>) -> bool {
+        self.len()
+            .checked_sub(other.len())
+            .is_some_and(|from| self.rest(from).equals(other))
+    }
+}
+
+impl<'b, T: Register, O: Order, T2: Register, O2: Order> PartialEq<BitSlice<'b, T2, O2>>
+    for BitSlice<'_, T, O>
+{
+    fn eq(&self, other: &BitSlice<'b, T2, O2>) -> bool {
+        self.equals(other)
+    }
+}
+
+impl<'b, T: Register, O: Order, T2: Register, O2: Order> PartialEq<BitSliceMut<'b, T2, O2>>
+    for BitSlice<'_, T, O>
+{
+    fn eq(&self, other: &BitSliceMut<'b, T2, O2>) -> bool {
+        self.equals(&other.as_bitslice())
+    }
+}
+
+impl<'b, T: Register, O: Order, T2: Register, O2: Order> PartialEq<BitSlice<'b, T2, O2>>
+    for BitSliceMut<'_, T, O>
+{
+    fn eq(&self, other: &BitSlice<'b, T2, O2>) -> bool {
+        self.as_bitslice().equals(other)
+    }
+}
+
+impl<'b, T: Register, O: Order, T2: Register, O2: Order> PartialEq<BitSliceMut<'b, T2, O2>>
+    for BitSliceMut<'_, T, O>
+{
+    fn eq(&self, other: &BitSliceMut<'b, T2, O2>) -> bool {
+        self.as_bitslice().equals(&other.as_bitslice())
+    }
+}
+
+/// Whether a list of truth values is that of the bits. Costs by bits.
+impl<T: Register, O: Order> PartialEq<[bool]> for BitSlice<'_, T, O> {
+    fn eq(&self, other: &[bool]) -> bool {
+        self.iter().eq(other.iter().copied())
+    }
+}
+
+impl<T: Register, O: Order, const N: usize> PartialEq<[bool; N]> for BitSlice<'_, T, O> {
+    fn eq(&self, other: &[bool; N]) -> bool {
+        *self == other[..]
+    }
+}
+
+impl<T: Register, O: Order> Eq for BitSlice<'_, T, O> {}
+
+impl<T: Register, O: Order> Eq for BitSliceMut<'_, T, O> {}
+
+impl<'b, T: Register, O: Order, T2: Register, O2: Order> PartialOrd<BitSlice<'b, T2, O2>>
+    for BitSlice<'_, T, O>
+{
+    fn partial_cmp(&self, other: &BitSlice<'b, T2, O2>) -> Option<Ordering> {
+        Some(self.compare(other))
+    }
+}
+
+impl<T: Register, O: Order> Ord for BitSlice<'_, T, O> {
+    fn cmp(&self, other: &Self) -> Ordering {
+        self.compare(other)
+    }
+}
+
+impl<'b, T: Register, O: Order, T2: Register, O2: Order> PartialOrd<BitSliceMut<'b, T2, O2>>
+    for BitSliceMut<'_, T, O>
+{
+    fn partial_cmp(&self, other: &BitSliceMut<'b, T2, O2>) -> Option<Ordering> {
+        Some(self.as_bitslice().compare(&other.as_bitslice()))
+    }
+}
+
+impl<T: Register, O: Order> Ord for BitSliceMut<'_, T, O> {
+    fn cmp(&self, other: &Self) -> Ordering {
+        self.as_bitslice().compare(&other.as_bitslice())
+    }
+}
+
+/// Slices that are equal have the same hash, also where their words and orders differ. Costs by
+/// words.
+impl<T: Register, O: Order> Hash for BitSlice<'_, T, O> {
+    fn hash<H: Hasher>(&self, state: &mut H) {
+        state.write_usize(self.len());
+        let mut from = 0;
+        while from < self.len() {
+            // (by their number alone, so that what is hashed does not tell where the bits lie)
+            let count = (self.len() - from).min(64);
+            state.write_u64(self.window(from, count));
+            from += count;
+        }
+    }
+}
+
+impl<T: Register, O: Order> Hash for BitSliceMut<'_, T, O> {
+    fn hash<H: Hasher>(&self, state: &mut H) {
+        self.as_bitslice().hash(state);
+    }
+}

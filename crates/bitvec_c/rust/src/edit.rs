@@ -1,0 +1,366 @@
+//! Edits of bits.
+
+use crate::number::Number;
+use crate::order::Order;
+use crate::range::{run_of, within};
+use crate::refusal::Refusal;
+use crate::register::Register;
+use crate::slice::{BitSlice, granted, load_bits, to_boundary};
+use crate::slice_mut::BitSliceMut;
+use core::ops::RangeBounds;
+
+impl<T: Register, O: Order> BitSliceMut<'_, T, O> {
+    /// Makes the bit at an index the same as `bit`. Constant time.
+    ///
+    /// # Errors
+    ///
+    /// [`Refusal::Outside`] where there is no such bit.
+    ///
+    /// # Examples
+    ///
+    /// ```
+    /// use worghulen::{BitSliceMut, Lsb0, Refusal};
+    ///
+    /// let mut words = [0_u8];
+    /// let mut bits = BitSliceMut::<_, Lsb0>::new(&mut words, 2..6)?;
+    /// bits.set(1, true)?;
+    /// assert_eq!(bits.set(4, true), Err(Refusal::Outside));
+    /// assert_eq!(words, [0b0000_1000]);
+    /// # Ok::<(), Refusal>(())
+    /// ```
+    #[inline]
+    pub fn set(&mut self, index: usize, bit: bool) -> Result<(), Refusal> {
+        if index >= self.len() {
+            return Err(Refusal::Outside);
+        }
+        let (words, start) = self.place_mut();
+        T::set(O::CODE, words, start + index, bit)
+    }
+
+    /// Makes the bit at an index the same as `bit`, and returns it as it was. Constant time.
+    ///
+    /// # Errors
+    ///
+    /// [`Refusal::Outside`] where there is no such bit.
+    ///
+    /// # Examples
+    ///
+    /// ```
+    /// use worghulen::{BitView, Lsb0};
+    ///
+    /// let mut words = [0b0000_1000_u8];
+    /// let mut bits = words.view_bits_mut::<Lsb0>();
+    /// assert_eq!((bits.replace(3, false)?, bits.replace(0, true)?), (true, false));
+    /// assert_eq!(words, [0b0000_0001]);
+    /// # Ok::<(), worghulen::Refusal>(())
+    /// ```
+    pub fn replace(&mut self, index: usize, bit: bool) -> Result<bool, Refusal> {
+        let old = self.get(index).ok_or(Refusal::Outside)?;
+        self.set(index, bit)?;
+        Ok(old)
+    }
+
+    /// Exchanges two bits. Constant time.
+    ///
+    /// # Errors
+    ///
+    /// [`Refusal::Outside`] where there is no bit at one of the indices.
+    ///
+    /// # Examples
+    ///
+    /// ```
+    /// use worghulen::{BitView, Lsb0};
+    ///
+    /// let mut words = [0b0000_1000_u8];
+    /// words.view_bits_mut::<Lsb0>().swap(3, 7)?;
+    /// assert_eq!(words, [0b1000_0000]);
+    /// # Ok::<(), worghulen::Refusal>(())
+    /// ```
+    pub fn swap(&mut self, i: usize, j: usize) -> Result<(), Refusal> {
+        let there = self.get(j).ok_or(Refusal::Outside)?;
+        let here = self.replace(i, there)?;
+        self.set(j, here)
+    }
+
+    /// Makes every bit the same as `bit`. Costs by words.
+    ///
+    /// # Examples
+    ///
+    /// ```
+    /// use worghulen::{BitSliceMut, Lsb0};
+    ///
+    /// let mut words = [0_u16; 2];
+    /// BitSliceMut::<_, Lsb0>::new(&mut words, 12..20)?.fill(true);
+    /// assert_eq!(words, [0xf000, 0x000f]);
+    /// # Ok::<(), worghulen::Refusal>(())
+    /// ```
+    pub fn fill(&mut self, bit: bool) {
+        let len = self.len();
+        let (words, start) = self.place_mut();
+        granted(T::fill(O::CODE, words, start, len, bit));
+    }
+
+    /// Turns each bit over. Costs by words.
+    ///
+    /// # Examples
+    ///
+    /// ```
+    /// use worghulen::{BitSliceMut, Lsb0};
+    ///
+    /// let mut words = [0x12_u8, 0x34];
+    /// BitSliceMut::<_, Lsb0>::new(&mut words, 4..12)?.invert();
+    /// assert_eq!(words, [0xe2, 0x3b]);
+    /// # Ok::<(), worghulen::Refusal>(())
+    /// ```
+    pub fn invert(&mut self) {
+        let len = self.len();
+        let (words, start) = self.place_mut();
+        granted(T::invert(O::CODE, words, start, len));
+    }
+
+    /// Makes the bits the lowest digits of a number, as many as there are bits, so that
+    /// [`load_le`](BitSlice::load_le) gives these back. Constant time.
+    ///
+    /// # Errors
+    ///
+    /// [`Refusal::TooWide`] where there are more than 64 bits.
+    ///
+    /// # Examples
+    ///
+    /// ```
+    /// use worghulen::{BitSliceMut, Lsb0};
+    ///
+    /// let mut words = [0_u8; 2];
+    /// BitSliceMut::<_, Lsb0>::new(&mut words, 4..12)?.store_le(0x123)?;
+    /// assert_eq!(words, [0x30, 0x02]);
+    /// BitSliceMut::<_, Lsb0>::new(&mut words, 0..4)?.store_le(-2_i8)?;
+    /// assert_eq!(words, [0x3e, 0x02]);
+    /// # Ok::<(), worghulen::Refusal>(())
+    /// ```
+    #[inline]
+    pub fn store_le<N: Number>(&mut self, number: N) -> Result<(), Refusal> {
+        let len = self.len();
+        let (words, start) = self.place_mut();
+        T::store(O::CODE, false, words, start, len, number.digits())
+    }
+
+    /// Makes the bits the lowest digits of a number, as many as there are bits, so that
+    /// [`load_be`](BitSlice::load_be) gives these back. Constant time.
+    ///
+    /// # Errors
+    ///
+    /// [`Refusal::TooWide`] where there are more than 64 bits.
+    ///
+    /// # Examples
+    ///
+    /// ```
+    /// use worghulen::{BitSliceMut, Msb0};
+    ///
+    /// let mut words = [0_u8; 2];
+    /// BitSliceMut::<_, Msb0>::new(&mut words, 4..12)?.store_be(0x123_u16)?;
+    /// assert_eq!(words, [0x02, 0x30]);
+    /// # Ok::<(), worghulen::Refusal>(())
+    /// ```
+    #[inline]
+    pub fn store_be<N: Number>(&mut self, number: N) -> Result<(), Refusal> {
+        let len = self.len();
+        let (words, start) = self.place_mut();
+        T::store(O::CODE, true, words, start, len, number.digits())
+    }
+
+    /// Makes the bits the same as those of another slice, of any words and order. Costs by words.
+    ///
+    /// # Errors
+    ///
+    /// [`Refusal::Lengths`] where that has not as many bits.
+    ///
+    /// # Examples
+    ///
+    /// ```
+    /// use worghulen::{BitSlice, BitSliceMut, Lsb0, Msb0};
+    ///
+    /// let source = BitSlice::<_, Msb0>::new(&[0x0f_u8, 0xf0], 4..12)?;
+    /// let mut words = [0_u8; 2];
+    /// BitSliceMut::<_, Msb0>::new(&mut words, 1..9)?.copy_from(&source)?;
+    /// assert_eq!(words, [0x7f, 0x80]);
+    /// let mut words = [0_u32];
+    /// BitSliceMut::<_, Lsb0>::new(&mut words, 9..17)?.copy_from(&source)?;
+    /// assert_eq!(words, [0x1fe00]);
+    /// # Ok::<(), worghulen::Refusal>(())
+    /// ```
+    pub fn copy_from<T2: Register, O2: Order>(
+        &mut self,
+        source: &BitSlice<'_, T2, O2>,
+    ) -> Result<(), Refusal> {
+        let len = self.len();
+        if source.len() != len {
+            return Err(Refusal::Lengths);
+        }
+        match T::same(&source.seen()) {
+            Some(words) if O::CODE == O2::CODE => {
+                let from = (words, source.place().1);
+                T::copy(O::CODE, from, self.place_mut(), len)
+            }
+            _ => T::convert(
+                O2::CODE,
+                &source.seen(),
+                source.place().1,
+                O::CODE,
+                self.place_mut(),
+                len,
+            ),
+        }
+    }
+
+    /// Copies the bits of a range of indices to those from an index on, which may overlap them:
+    /// each gets what stood there before. Costs by words.
+    ///
+    /// # Errors
+    ///
+    /// [`Refusal::Reversed`] where the range starts past its end, [`Refusal::TooLong`] where it has
+    /// too many bits, and [`Refusal::Outside`] where it, or what it is copied to, ends past the
+    /// last bit.
+    ///
+    /// # Examples
+    ///
+    /// ```
+    /// use worghulen::{BitSliceMut, Msb0};
+    ///
+    /// let mut words = [0b1011_0000_u8];
+    /// BitSliceMut::<_, Msb0>::new(&mut words, ..)?.copy_within(..4, 2)?;
+    /// assert_eq!(words, [0b1010_1100]);
+    /// # Ok::<(), worghulen::Refusal>(())
+    /// ```
+    pub fn copy_within(
+        &mut self,
+        range: impl RangeBounds<usize>,
+        start: usize,
+    ) -> Result<(), Refusal> {
+        let (from, count) = within(range, self.len())?;
+        let (to, count) = within(run_of(start, count)?, self.len())?;
+        let (words, first) = self.place_mut();
+        T::copy_within(O::CODE, words, first + from, first + to, count)
+    }
+
+    /// Puts the bits in the opposite order. Costs by words.
+    ///
+    /// # Examples
+    ///
+    /// ```
+    /// use worghulen::{BitView, Lsb0};
+    ///
+    /// let mut words = [0x03_u8, 0x40];
+    /// words.view_bits_mut::<Lsb0>().get_mut(..15).unwrap().reverse();
+    /// assert_eq!(words, [0x01, 0x60]);
+    /// ```
+    pub fn reverse(&mut self) {
+        let len = self.len();
+        let (words, start) = self.place_mut();
+        granted(T::reverse(O::CODE, words, start, len));
+    }
+
+    /// Moves each bit `by` indices towards the first: the first `by` bits are lost, and the last
+    /// `by` become zero. Costs by words.
+    ///
+    /// # Errors
+    ///
+    /// [`Refusal::Outside`] where `by` is past the length.
+    ///
+    /// # Examples
+    ///
+    /// ```
+    /// use worghulen::{BitView, Msb0};
+    ///
+    /// let mut words = [0b1011_0011_u8];
+    /// words.view_bits_mut::<Msb0>().shift_left(3)?;
+    /// assert_eq!(words, [0b1001_1000]);
+    /// # Ok::<(), worghulen::Refusal>(())
+    /// ```
+    pub fn shift_left(&mut self, by: usize) -> Result<(), Refusal> {
+        let len = self.len();
+        let (words, start) = self.place_mut();
+        T::shift_left(O::CODE, words, start, len, by)
+    }
+
+    /// Moves each bit `by` indices towards the last: the last `by` bits are lost, and the first
+    /// `by` become zero. Costs by words.
+    ///
+    /// # Errors
+    ///
+    /// [`Refusal::Outside`] where `by` is past the length.
+    ///
+    /// # Examples
+    ///
+    /// ```
+    /// use worghulen::{BitView, Msb0};
+    ///
+    /// let mut words = [0b1011_0011_u8];
+    /// words.view_bits_mut::<Msb0>().shift_right(3)?;
+    /// assert_eq!(words, [0b0001_0110]);
+    /// # Ok::<(), worghulen::Refusal>(())
+    /// ```
+    pub fn shift_right(&mut self, by: usize) -> Result<(), Refusal> {
+        let len = self.len();
+        let (words, start) = self.place_mut();
+        T::shift_right(O::CODE, words, start, len, by)
+    }
+
+    /// Puts the first `by` bits behind the others. Costs by words.
+    ///
+    /// # Errors
+    ///
+    /// [`Refusal::Outside`] where `by` is past the length.
+    ///
+    /// # Examples
+    ///
+    /// ```
+    /// use worghulen::{BitView, Msb0};
+    ///
+    /// let mut words = [0b1011_0011_u8];
+    /// words.view_bits_mut::<Msb0>().rotate_left(3)?;
+    /// assert_eq!(words, [0b1001_1101]);
+    /// # Ok::<(), worghulen::Refusal>(())
+    /// ```
+    pub fn rotate_left(&mut self, by: usize) -> Result<(), Refusal> {
+        let len = self.len();
+        let (words, start) = self.place_mut();
+        T::rotate_left(O::CODE, words, start, len, by)
+    }
+
+    /// Puts the last `by` bits before the others. Costs by words.
+    ///
+    /// # Errors
+    ///
+    /// [`Refusal::Outside`] where `by` is past the length.
+    ///
+    /// # Examples
+    ///
+    /// ```
+    /// use worghulen::{BitView, Msb0};
+    ///
+    /// let mut words = [0b1011_0011_u8];
+    /// words.view_bits_mut::<Msb0>().rotate_right(3)?;
+    /// assert_eq!(words, [0b0111_0110]);
+    /// # Ok::<(), worghulen::Refusal>(())
+    /// ```
+    pub fn rotate_right(&mut self, by: usize) -> Result<(), Refusal> {
+        let left = self.len().checked_sub(by).ok_or(Refusal::Outside)?;
+        self.rotate_left(left)
+    }
+
+    /// Makes of the first bits what a function makes of at most 64 of them, as digits, the first
+    /// lowest, from an index on.
+    #[inline]
+    pub(crate) fn make(&mut self, len: usize, new: impl Fn(u64, usize, usize) -> u64) {
+        let (words, start) = self.place_mut();
+        let mut from = 0;
+        while from < len {
+            let place = start + from;
+            let count = to_boundary(place, len - from);
+            let bits = new(load_bits::<T, O>(words, place, count), from, count);
+            let number = O::turned(bits, count);
+            granted(T::store(O::CODE, O::BIG, words, place, count, number));
+            from += count;
+        }
+    }
+}

@@ -1,0 +1,198 @@
+//! What names a bit or a range of bits of a slice.
+
+use crate::order::Order;
+use crate::register::Register;
+use crate::slice::BitSlice;
+use core::ops::{Bound, Index, Range, RangeFrom, RangeFull, RangeInclusive, RangeTo};
+use core::ops::{RangeBounds, RangeToInclusive};
+
+/// An index, which names a bit, or a range of indices, which names a slice of them: what
+/// [`BitSlice::get`] takes.
+///
+/// # Examples
+///
+/// ```
+/// use worghulen::{BitView, Lsb0};
+///
+/// let bits = 0b0110_1000_u8;
+/// let bits = bits.view_bits::<Lsb0>();
+/// assert_eq!(bits.get(3), Some(true));
+/// assert_eq!(bits.get(3..6).unwrap().to_string(), "101");
+/// assert!(bits.get(6..9).is_none());
+/// ```
+pub trait BitIndex<'a, T, O>: sealed::Sealed {
+    /// A bit, or a slice of bits.
+    type Output;
+
+    /// What is named, and `None` where it is not among the bits.
+    fn of(self, bits: BitSlice<'a, T, O>) -> Option<Self::Output>;
+}
+
+mod sealed {
+    /// Nothing outside this crate can name it.
+    pub trait Sealed {}
+}
+
+impl sealed::Sealed for usize {}
+
+impl<'a, T: Register, O: Order> BitIndex<'a, T, O> for usize {
+    type Output = bool;
+
+    #[inline]
+    fn of(self, bits: BitSlice<'a, T, O>) -> Option<bool> {
+        bits.bit(self)
+    }
+}
+
+macro_rules! ranges {
+    ($($range:ty)*) => { $(
+        impl sealed::Sealed for $range {}
+
+        impl<'a, T: Register, O: Order> BitIndex<'a, T, O> for $range {
+            type Output = BitSlice<'a, T, O>;
+
+            #[inline]
+            fn of(self, bits: BitSlice<'a, T, O>) -> Option<BitSlice<'a, T, O>> {
+                bits.part(self).ok()
+            }
+        }
+    )* };
+}
+
+ranges! {
+    Range<usize> RangeFrom<usize> RangeFull RangeInclusive<usize> RangeTo<usize>
+    RangeToInclusive<usize> (Bound<usize>, Bound<usize>)
+}
+
+/// The bit at an index, as `bits[3]`. A range of bits is no reference, so [`BitSlice::get`] has
+/// those. Constant time.
+impl<T: Register, O: Order> Index<usize> for BitSlice<'_, T, O> {
+    type Output = bool;
+
+    /// # Panics
+    ///
+    /// Panics where there is no such bit.
+    #[inline]
+    #[track_caller]
+    fn index(&self, index: usize) -> &bool {
+        match self.bit(index) {
+            Some(true) => &true,
+            Some(false) => &false,
+            None => no_bit(index, self.len()),
+        }
+    }
+}
+
+#[cold]
+#[track_caller]
+fn no_bit(index: usize, len: usize) -> ! {
+    panic!("there is no bit {index} in a slice of {len} bits")
+}
+
+impl<T: Register, O: Order> BitSlice<'_, T, O> {
+    /// The bits of a range of indices, or why it is refused, which [`get`](Self::get) does not say.
+    /// Constant time.
+    ///
+    /// # Errors
+    ///
+    /// [`Refusal::Reversed`](crate::Refusal::Reversed) where the range starts past its end, and
+    /// [`Refusal::Outside`](crate::Refusal::Outside) where it ends past the last bit.
+    ///
+    /// # Examples
+    ///
+    /// ```
+    /// use worghulen::{BitView, Lsb0, Refusal};
+    ///
+    /// let words = [0x5a_u8];
+    /// let bits = words.view_bits::<Lsb0>();
+    /// assert_eq!(bits.part(2..7)?.part(1..3)?, bits.part(3..5)?);
+    /// assert_eq!(bits.part(2..9).err(), Some(Refusal::Outside));
+    /// # Ok::<(), Refusal>(())
+    /// ```
+    #[inline]
+    pub fn part(&self, range: impl RangeBounds<usize>) -> Result<Self, crate::Refusal> {
+        let (words, start) = self.place();
+        let (from, len) = crate::range::within(range, self.len())?;
+        Ok(Self::of(words, start + from, len))
+    }
+
+    /// The bits before an index, and those from it on. Constant time.
+    ///
+    /// # Panics
+    ///
+    /// Panics where the index is past the length; [`split_at_checked`](Self::split_at_checked) does
+    /// not.
+    ///
+    /// # Examples
+    ///
+    /// ```
+    /// use worghulen::{BitView, Lsb0};
+    ///
+    /// let words = [0b0000_0111_u8];
+    /// let (low, high) = words.view_bits::<Lsb0>().split_at(3);
+    /// assert!(low.all() && high.not_any());
+    /// ```
+    #[inline]
+    #[must_use]
+    #[track_caller]
+    pub fn split_at(&self, mid: usize) -> (Self, Self) {
+        match self.split_at_checked(mid) {
+            Some(parts) => parts,
+            None => no_bit(mid, self.len()),
+        }
+    }
+
+    /// The bits before an index, and those from it on, and `None` where the index is past the
+    /// length. Constant time.
+    ///
+    /// # Examples
+    ///
+    /// ```
+    /// use worghulen::{BitView, Msb0};
+    ///
+    /// let words = [0x9b_u8];
+    /// let bits = words.view_bits::<Msb0>();
+    /// let (high, low) = bits.split_at_checked(4).unwrap();
+    /// assert_eq!((high.load_be::<u8>()?, low.load_be::<u8>()?), (0x9, 0xb));
+    /// assert!(bits.split_at_checked(9).is_none());
+    /// # Ok::<(), worghulen::Refusal>(())
+    /// ```
+    #[inline]
+    #[must_use]
+    pub fn split_at_checked(&self, mid: usize) -> Option<(Self, Self)> {
+        Some((self.get(..mid)?, self.get(mid..)?))
+    }
+
+    /// The first bit and those behind it, and `None` where there is none. Constant time.
+    ///
+    /// # Examples
+    ///
+    /// ```
+    /// use worghulen::{BitView, Lsb0};
+    ///
+    /// let words = [0x01_u8];
+    /// let (first, rest) = words.view_bits::<Lsb0>().split_first().unwrap();
+    /// assert!(first && rest.not_any());
+    /// ```
+    #[must_use]
+    pub fn split_first(&self) -> Option<(bool, Self)> {
+        Some((self.bit(0)?, self.get(1..)?))
+    }
+
+    /// The last bit and those before it, and `None` where there is none. Constant time.
+    ///
+    /// # Examples
+    ///
+    /// ```
+    /// use worghulen::{BitView, Lsb0};
+    ///
+    /// let words = [0x80_u8];
+    /// let (last, rest) = words.view_bits::<Lsb0>().split_last().unwrap();
+    /// assert!(last && rest.not_any());
+    /// ```
+    #[must_use]
+    pub fn split_last(&self) -> Option<(bool, Self)> {
+        let last = self.len().checked_sub(1)?;
+        Some((self.bit(last)?, self.get(..last)?))
+    }
+}

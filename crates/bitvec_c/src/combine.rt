@@ -1,0 +1,627 @@
+//! A range of bits combined with one of another memory, whose words and order may be others.
+
+ghost use Rattle.std.specs.Prelude.{◌≡◌, ◌+◌, ◌*◌, ◌≤◌, ◌&&◌, ◌||◌, not, length, map};
+ghost use Rattle.bitvec.specs.Digit.{exclusive_or};
+ghost use Rattle.bitvec.specs.Memory.{zip_with};
+ghost use Rattle.bitvec.specs.Place.{region_max_bits};
+ghost use Rattle.bitvec_c.specs.Call.{IsCall};
+ghost use Rattle.bitvec_c.specs.Order.{order_at};
+ghost use Rattle.bitvec_c.specs.Range.{range_bits, RangeBecomes};
+ghost use Rattle.bitvec_c.specs.Status.{pair_status};
+
+use crate::range::span;
+use crate::status::{LSB0, OK, test_pair};
+use bitvec::mem::BitRegister;
+use bitvec::order::{BitOrder, Lsb0, Msb0};
+use bitvec::ptr::combine::{And, AndNot, Combine, Or, Source, Xor};
+
+// Makes of each bit of a range what `C` makes of it and of the source's, and changes no other bit.
+fn combine_in<C: Combine, R2: BitRegister, O2: BitOrder<R2>, R: BitRegister, O: BitOrder<R>>(
+    source: &[R2],
+    from: usize,
+    target: &mut [R],
+    to: usize,
+    count: usize,
+)
+    requires short { count ≤ region_max_bits }
+    requires source_inside { from + count ≤ length source.now * R2.BITS }
+    requires target_inside { to + count ≤ length target.old * R.BITS }
+    ensures { RangeBecomes R.BITS O.at_of to count
+        (zip_with C.of (range_bits R.BITS O.at_of to count (map R.number target.old))
+        (range_bits R2.BITS O2.at_of from count (map R2.number source.now)))
+        (map R.number target.old) (map R.number target.new) }
+{
+    let here = span::<R, O>(to, count);
+    let there = span::<R2, O2>(from, count);
+    here.combine_from::<C, R2, O2>(target, there, source);
+}
+
+// The same where the source's order is that of a code.
+fn combine_from<C: Combine, R2: BitRegister, R: BitRegister, O: BitOrder<R>>(
+    source_order: u8,
+    source: &[R2],
+    from: usize,
+    target: &mut [R],
+    to: usize,
+    count: usize,
+)
+    requires short { count ≤ region_max_bits }
+    requires source_inside { from + count ≤ length source.now * R2.BITS }
+    requires target_inside { to + count ≤ length target.old * R.BITS }
+    ensures { RangeBecomes R.BITS O.at_of to count
+        (zip_with C.of (range_bits R.BITS O.at_of to count (map R.number target.old))
+        (range_bits R2.BITS (order_at R2.BITS source_order) from count (map R2.number source.now)))
+        (map R.number target.old) (map R.number target.new) }
+{
+    if source_order == LSB0 {
+        combine_in::<C, R2, Lsb0, R, O>(source, from, target, to, count);
+    } else {
+        combine_in::<C, R2, Msb0, R, O>(source, from, target, to, count);
+    }
+}
+
+// The same where both orders are those of codes.
+fn combine_range<C: Combine, R2: BitRegister, R: BitRegister>(
+    source_order: u8,
+    source: &[R2],
+    from: usize,
+    order: u8,
+    target: &mut [R],
+    to: usize,
+    count: usize,
+)
+    requires short { count ≤ region_max_bits }
+    requires source_inside { from + count ≤ length source.now * R2.BITS }
+    requires target_inside { to + count ≤ length target.old * R.BITS }
+    ensures { RangeBecomes R.BITS (order_at R.BITS order) to count
+        (zip_with C.of (range_bits R.BITS (order_at R.BITS order) to count
+        (map R.number target.old))
+        (range_bits R2.BITS (order_at R2.BITS source_order) from count (map R2.number source.now)))
+        (map R.number target.old) (map R.number target.new) }
+{
+    if order == LSB0 {
+        combine_from::<C, R2, R, Lsb0>(source_order, source, from, target, to, count);
+    } else {
+        combine_from::<C, R2, R, Msb0>(source_order, source, from, target, to, count);
+    }
+}
+
+// Combines two ranges where the call's conditions hold, and returns the status.
+fn combine<C: Combine, R2: BitRegister, R: BitRegister>(
+    source_order: u8,
+    source: &[R2],
+    from: usize,
+    order: u8,
+    target: &mut [R],
+    to: usize,
+    count: usize,
+) -> u8
+    ensures { IsCall
+        (pair_status R2.BITS source_order (length source.now) from R.BITS order
+        (length target.old) to count)
+        (RangeBecomes R.BITS (order_at R.BITS order) to count
+        (zip_with C.of (range_bits R.BITS (order_at R.BITS order) to count
+        (map R.number target.old))
+        (range_bits R2.BITS (order_at R2.BITS source_order) from count (map R2.number source.now)))
+        (map R.number target.old) (map R.number target.new))
+        (target.new ≡ target.old) result }
+{
+    let words = target.len();
+    let status = test_pair::<R2, R>(source_order, source.len(), from, order, words, to, count);
+    if status == OK {
+        combine_range::<C, R2, R>(source_order, source, from, order, target, to, count);
+    }
+    status
+}
+
+/// Leaves one those bits of a range whose bit in the source is one, both in memories of words of 8
+/// bits, each under an order of its own, and changes no other bit.
+///
+/// It refuses with `NO_ORDER`, `TOO_LONG` or `OUTSIDE`.
+#[unsafe(no_mangle)]
+pub extern "C" fn bitvec_c_and_u8(
+    source_order: u8,
+    source: &[u8],
+    source_start: usize,
+    order: u8,
+    target: &mut [u8],
+    target_start: usize,
+    count: usize,
+) -> u8
+    ensures { IsCall (pair_status 8 source_order (length source.now) source_start 8 order
+        (length target.old) target_start count)
+        (RangeBecomes 8 (order_at 8 order) target_start count (zip_with (λ t s. t && s)
+        (range_bits 8 (order_at 8 order) target_start count target.old) (range_bits 8
+        (order_at 8 source_order) source_start count source.now))
+        target.old target.new) (target.new ≡ target.old) result }
+{
+    combine::<And, u8, u8>(
+        source_order,
+        source,
+        source_start,
+        order,
+        target,
+        target_start,
+        count,
+    )
+}
+
+/// Leaves one those bits of a range whose bit in the source is one, both in memories of words of
+/// 16 bits, each under an order of its own, and changes no other bit.
+///
+/// It refuses with `NO_ORDER`, `TOO_LONG` or `OUTSIDE`.
+#[unsafe(no_mangle)]
+pub extern "C" fn bitvec_c_and_u16(
+    source_order: u8,
+    source: &[u16],
+    source_start: usize,
+    order: u8,
+    target: &mut [u16],
+    target_start: usize,
+    count: usize,
+) -> u8
+    ensures { IsCall (pair_status 16 source_order (length source.now) source_start 16 order
+        (length target.old) target_start count)
+        (RangeBecomes 16 (order_at 16 order) target_start count (zip_with (λ t s. t && s)
+        (range_bits 16 (order_at 16 order) target_start count target.old) (range_bits 16
+        (order_at 16 source_order) source_start count source.now))
+        target.old target.new) (target.new ≡ target.old) result }
+{
+    combine::<And, u16, u16>(
+        source_order,
+        source,
+        source_start,
+        order,
+        target,
+        target_start,
+        count,
+    )
+}
+
+/// Leaves one those bits of a range whose bit in the source is one, both in memories of words of
+/// 32 bits, each under an order of its own, and changes no other bit.
+///
+/// It refuses with `NO_ORDER`, `TOO_LONG` or `OUTSIDE`.
+#[unsafe(no_mangle)]
+pub extern "C" fn bitvec_c_and_u32(
+    source_order: u8,
+    source: &[u32],
+    source_start: usize,
+    order: u8,
+    target: &mut [u32],
+    target_start: usize,
+    count: usize,
+) -> u8
+    ensures { IsCall (pair_status 32 source_order (length source.now) source_start 32 order
+        (length target.old) target_start count)
+        (RangeBecomes 32 (order_at 32 order) target_start count (zip_with (λ t s. t && s)
+        (range_bits 32 (order_at 32 order) target_start count target.old) (range_bits 32
+        (order_at 32 source_order) source_start count source.now))
+        target.old target.new) (target.new ≡ target.old) result }
+{
+    combine::<And, u32, u32>(
+        source_order,
+        source,
+        source_start,
+        order,
+        target,
+        target_start,
+        count,
+    )
+}
+
+/// Leaves one those bits of a range whose bit in the source is one, both in memories of words of
+/// 64 bits, each under an order of its own, and changes no other bit.
+///
+/// It refuses with `NO_ORDER`, `TOO_LONG` or `OUTSIDE`.
+#[unsafe(no_mangle)]
+pub extern "C" fn bitvec_c_and_u64(
+    source_order: u8,
+    source: &[u64],
+    source_start: usize,
+    order: u8,
+    target: &mut [u64],
+    target_start: usize,
+    count: usize,
+) -> u8
+    ensures { IsCall (pair_status 64 source_order (length source.now) source_start 64 order
+        (length target.old) target_start count)
+        (RangeBecomes 64 (order_at 64 order) target_start count (zip_with (λ t s. t && s)
+        (range_bits 64 (order_at 64 order) target_start count target.old) (range_bits 64
+        (order_at 64 source_order) source_start count source.now))
+        target.old target.new) (target.new ≡ target.old) result }
+{
+    combine::<And, u64, u64>(
+        source_order,
+        source,
+        source_start,
+        order,
+        target,
+        target_start,
+        count,
+    )
+}
+
+/// Makes one those bits of a range whose bit in the source is one, both in memories of words of 8
+/// bits, each under an order of its own, and changes no other bit.
+///
+/// It refuses with `NO_ORDER`, `TOO_LONG` or `OUTSIDE`.
+#[unsafe(no_mangle)]
+pub extern "C" fn bitvec_c_or_u8(
+    source_order: u8,
+    source: &[u8],
+    source_start: usize,
+    order: u8,
+    target: &mut [u8],
+    target_start: usize,
+    count: usize,
+) -> u8
+    ensures { IsCall (pair_status 8 source_order (length source.now) source_start 8 order
+        (length target.old) target_start count)
+        (RangeBecomes 8 (order_at 8 order) target_start count (zip_with (λ t s. t || s)
+        (range_bits 8 (order_at 8 order) target_start count target.old) (range_bits 8
+        (order_at 8 source_order) source_start count source.now))
+        target.old target.new) (target.new ≡ target.old) result }
+{
+    combine::<Or, u8, u8>(
+        source_order,
+        source,
+        source_start,
+        order,
+        target,
+        target_start,
+        count,
+    )
+}
+
+/// Makes one those bits of a range whose bit in the source is one, both in memories of words of 16
+/// bits, each under an order of its own, and changes no other bit.
+///
+/// It refuses with `NO_ORDER`, `TOO_LONG` or `OUTSIDE`.
+#[unsafe(no_mangle)]
+pub extern "C" fn bitvec_c_or_u16(
+    source_order: u8,
+    source: &[u16],
+    source_start: usize,
+    order: u8,
+    target: &mut [u16],
+    target_start: usize,
+    count: usize,
+) -> u8
+    ensures { IsCall (pair_status 16 source_order (length source.now) source_start 16 order
+        (length target.old) target_start count)
+        (RangeBecomes 16 (order_at 16 order) target_start count (zip_with (λ t s. t || s)
+        (range_bits 16 (order_at 16 order) target_start count target.old) (range_bits 16
+        (order_at 16 source_order) source_start count source.now))
+        target.old target.new) (target.new ≡ target.old) result }
+{
+    combine::<Or, u16, u16>(
+        source_order,
+        source,
+        source_start,
+        order,
+        target,
+        target_start,
+        count,
+    )
+}
+
+/// Makes one those bits of a range whose bit in the source is one, both in memories of words of 32
+/// bits, each under an order of its own, and changes no other bit.
+///
+/// It refuses with `NO_ORDER`, `TOO_LONG` or `OUTSIDE`.
+#[unsafe(no_mangle)]
+pub extern "C" fn bitvec_c_or_u32(
+    source_order: u8,
+    source: &[u32],
+    source_start: usize,
+    order: u8,
+    target: &mut [u32],
+    target_start: usize,
+    count: usize,
+) -> u8
+    ensures { IsCall (pair_status 32 source_order (length source.now) source_start 32 order
+        (length target.old) target_start count)
+        (RangeBecomes 32 (order_at 32 order) target_start count (zip_with (λ t s. t || s)
+        (range_bits 32 (order_at 32 order) target_start count target.old) (range_bits 32
+        (order_at 32 source_order) source_start count source.now))
+        target.old target.new) (target.new ≡ target.old) result }
+{
+    combine::<Or, u32, u32>(
+        source_order,
+        source,
+        source_start,
+        order,
+        target,
+        target_start,
+        count,
+    )
+}
+
+/// Makes one those bits of a range whose bit in the source is one, both in memories of words of 64
+/// bits, each under an order of its own, and changes no other bit.
+///
+/// It refuses with `NO_ORDER`, `TOO_LONG` or `OUTSIDE`.
+#[unsafe(no_mangle)]
+pub extern "C" fn bitvec_c_or_u64(
+    source_order: u8,
+    source: &[u64],
+    source_start: usize,
+    order: u8,
+    target: &mut [u64],
+    target_start: usize,
+    count: usize,
+) -> u8
+    ensures { IsCall (pair_status 64 source_order (length source.now) source_start 64 order
+        (length target.old) target_start count)
+        (RangeBecomes 64 (order_at 64 order) target_start count (zip_with (λ t s. t || s)
+        (range_bits 64 (order_at 64 order) target_start count target.old) (range_bits 64
+        (order_at 64 source_order) source_start count source.now))
+        target.old target.new) (target.new ≡ target.old) result }
+{
+    combine::<Or, u64, u64>(
+        source_order,
+        source,
+        source_start,
+        order,
+        target,
+        target_start,
+        count,
+    )
+}
+
+/// Turns over those bits of a range whose bit in the source is one, both in memories of words of 8
+/// bits, each under an order of its own, and changes no other bit.
+///
+/// It refuses with `NO_ORDER`, `TOO_LONG` or `OUTSIDE`.
+#[unsafe(no_mangle)]
+pub extern "C" fn bitvec_c_xor_u8(
+    source_order: u8,
+    source: &[u8],
+    source_start: usize,
+    order: u8,
+    target: &mut [u8],
+    target_start: usize,
+    count: usize,
+) -> u8
+    ensures { IsCall (pair_status 8 source_order (length source.now) source_start 8 order
+        (length target.old) target_start count)
+        (RangeBecomes 8 (order_at 8 order) target_start count (zip_with exclusive_or
+        (range_bits 8 (order_at 8 order) target_start count target.old) (range_bits 8
+        (order_at 8 source_order) source_start count source.now))
+        target.old target.new) (target.new ≡ target.old) result }
+{
+    combine::<Xor, u8, u8>(
+        source_order,
+        source,
+        source_start,
+        order,
+        target,
+        target_start,
+        count,
+    )
+}
+
+/// Turns over those bits of a range whose bit in the source is one, both in memories of words of
+/// 16 bits, each under an order of its own, and changes no other bit.
+///
+/// It refuses with `NO_ORDER`, `TOO_LONG` or `OUTSIDE`.
+#[unsafe(no_mangle)]
+pub extern "C" fn bitvec_c_xor_u16(
+    source_order: u8,
+    source: &[u16],
+    source_start: usize,
+    order: u8,
+    target: &mut [u16],
+    target_start: usize,
+    count: usize,
+) -> u8
+    ensures { IsCall (pair_status 16 source_order (length source.now) source_start 16 order
+        (length target.old) target_start count)
+        (RangeBecomes 16 (order_at 16 order) target_start count (zip_with exclusive_or
+        (range_bits 16 (order_at 16 order) target_start count target.old) (range_bits 16
+        (order_at 16 source_order) source_start count source.now))
+        target.old target.new) (target.new ≡ target.old) result }
+{
+    combine::<Xor, u16, u16>(
+        source_order,
+        source,
+        source_start,
+        order,
+        target,
+        target_start,
+        count,
+    )
+}
+
+/// Turns over those bits of a range whose bit in the source is one, both in memories of words of
+/// 32 bits, each under an order of its own, and changes no other bit.
+///
+/// It refuses with `NO_ORDER`, `TOO_LONG` or `OUTSIDE`.
+#[unsafe(no_mangle)]
+pub extern "C" fn bitvec_c_xor_u32(
+    source_order: u8,
+    source: &[u32],
+    source_start: usize,
+    order: u8,
+    target: &mut [u32],
+    target_start: usize,
+    count: usize,
+) -> u8
+    ensures { IsCall (pair_status 32 source_order (length source.now) source_start 32 order
+        (length target.old) target_start count)
+        (RangeBecomes 32 (order_at 32 order) target_start count (zip_with exclusive_or
+        (range_bits 32 (order_at 32 order) target_start count target.old) (range_bits 32
+        (order_at 32 source_order) source_start count source.now))
+        target.old target.new) (target.new ≡ target.old) result }
+{
+    combine::<Xor, u32, u32>(
+        source_order,
+        source,
+        source_start,
+        order,
+        target,
+        target_start,
+        count,
+    )
+}
+
+/// Turns over those bits of a range whose bit in the source is one, both in memories of words of
+/// 64 bits, each under an order of its own, and changes no other bit.
+///
+/// It refuses with `NO_ORDER`, `TOO_LONG` or `OUTSIDE`.
+#[unsafe(no_mangle)]
+pub extern "C" fn bitvec_c_xor_u64(
+    source_order: u8,
+    source: &[u64],
+    source_start: usize,
+    order: u8,
+    target: &mut [u64],
+    target_start: usize,
+    count: usize,
+) -> u8
+    ensures { IsCall (pair_status 64 source_order (length source.now) source_start 64 order
+        (length target.old) target_start count)
+        (RangeBecomes 64 (order_at 64 order) target_start count (zip_with exclusive_or
+        (range_bits 64 (order_at 64 order) target_start count target.old) (range_bits 64
+        (order_at 64 source_order) source_start count source.now))
+        target.old target.new) (target.new ≡ target.old) result }
+{
+    combine::<Xor, u64, u64>(
+        source_order,
+        source,
+        source_start,
+        order,
+        target,
+        target_start,
+        count,
+    )
+}
+
+/// Makes zero those bits of a range whose bit in the source is one, both in memories of words of 8
+/// bits, each under an order of its own, and changes no other bit.
+///
+/// It refuses with `NO_ORDER`, `TOO_LONG` or `OUTSIDE`.
+#[unsafe(no_mangle)]
+pub extern "C" fn bitvec_c_and_not_u8(
+    source_order: u8,
+    source: &[u8],
+    source_start: usize,
+    order: u8,
+    target: &mut [u8],
+    target_start: usize,
+    count: usize,
+) -> u8
+    ensures { IsCall (pair_status 8 source_order (length source.now) source_start 8 order
+        (length target.old) target_start count)
+        (RangeBecomes 8 (order_at 8 order) target_start count (zip_with (λ t s. t && not s)
+        (range_bits 8 (order_at 8 order) target_start count target.old) (range_bits 8
+        (order_at 8 source_order) source_start count source.now))
+        target.old target.new) (target.new ≡ target.old) result }
+{
+    combine::<AndNot, u8, u8>(
+        source_order,
+        source,
+        source_start,
+        order,
+        target,
+        target_start,
+        count,
+    )
+}
+
+/// Makes zero those bits of a range whose bit in the source is one, both in memories of words of
+/// 16 bits, each under an order of its own, and changes no other bit.
+///
+/// It refuses with `NO_ORDER`, `TOO_LONG` or `OUTSIDE`.
+#[unsafe(no_mangle)]
+pub extern "C" fn bitvec_c_and_not_u16(
+    source_order: u8,
+    source: &[u16],
+    source_start: usize,
+    order: u8,
+    target: &mut [u16],
+    target_start: usize,
+    count: usize,
+) -> u8
+    ensures { IsCall (pair_status 16 source_order (length source.now) source_start 16 order
+        (length target.old) target_start count)
+        (RangeBecomes 16 (order_at 16 order) target_start count (zip_with (λ t s. t && not s)
+        (range_bits 16 (order_at 16 order) target_start count target.old) (range_bits 16
+        (order_at 16 source_order) source_start count source.now))
+        target.old target.new) (target.new ≡ target.old) result }
+{
+    combine::<AndNot, u16, u16>(
+        source_order,
+        source,
+        source_start,
+        order,
+        target,
+        target_start,
+        count,
+    )
+}
+
+/// Makes zero those bits of a range whose bit in the source is one, both in memories of words of
+/// 32 bits, each under an order of its own, and changes no other bit.
+///
+/// It refuses with `NO_ORDER`, `TOO_LONG` or `OUTSIDE`.
+#[unsafe(no_mangle)]
+pub extern "C" fn bitvec_c_and_not_u32(
+    source_order: u8,
+    source: &[u32],
+    source_start: usize,
+    order: u8,
+    target: &mut [u32],
+    target_start: usize,
+    count: usize,
+) -> u8
+    ensures { IsCall (pair_status 32 source_order (length source.now) source_start 32 order
+        (length target.old) target_start count)
+        (RangeBecomes 32 (order_at 32 order) target_start count (zip_with (λ t s. t && not s)
+        (range_bits 32 (order_at 32 order) target_start count target.old) (range_bits 32
+        (order_at 32 source_order) source_start count source.now))
+        target.old target.new) (target.new ≡ target.old) result }
+{
+    combine::<AndNot, u32, u32>(
+        source_order,
+        source,
+        source_start,
+        order,
+        target,
+        target_start,
+        count,
+    )
+}
+
+/// Makes zero those bits of a range whose bit in the source is one, both in memories of words of
+/// 64 bits, each under an order of its own, and changes no other bit.
+///
+/// It refuses with `NO_ORDER`, `TOO_LONG` or `OUTSIDE`.
+#[unsafe(no_mangle)]
+pub extern "C" fn bitvec_c_and_not_u64(
+    source_order: u8,
+    source: &[u64],
+    source_start: usize,
+    order: u8,
+    target: &mut [u64],
+    target_start: usize,
+    count: usize,
+) -> u8
+    ensures { IsCall (pair_status 64 source_order (length source.now) source_start 64 order
+        (length target.old) target_start count)
+        (RangeBecomes 64 (order_at 64 order) target_start count (zip_with (λ t s. t && not s)
+        (range_bits 64 (order_at 64 order) target_start count target.old) (range_bits 64
+        (order_at 64 source_order) source_start count source.now))
+        target.old target.new) (target.new ≡ target.old) result }
+{
+    combine::<AndNot, u64, u64>(
+        source_order,
+        source,
+        source_start,
+        order,
+        target,
+        target_start,
+        count,
+    )
+}

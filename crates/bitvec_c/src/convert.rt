@@ -1,0 +1,601 @@
+//! Copies of a range of bits to one of a memory whose words and order may be others.
+
+ghost use Rattle.std.specs.Prelude.{◌≡◌, ◌+◌, ◌*◌, ◌≤◌, length, map};
+ghost use Rattle.bitvec.specs.Place.{region_max_bits};
+ghost use Rattle.bitvec_c.specs.Call.{IsCall};
+ghost use Rattle.bitvec_c.specs.Order.{order_at};
+ghost use Rattle.bitvec_c.specs.Range.{range_bits, RangeBecomes};
+ghost use Rattle.bitvec_c.specs.Status.{pair_status};
+
+use crate::range::span;
+use crate::status::{LSB0, OK, test_pair};
+use bitvec::mem::BitRegister;
+use bitvec::order::{BitOrder, Lsb0, Msb0};
+
+// Makes the bits of a range those of another memory's, and changes no other bit.
+fn convert_in<R2: BitRegister, O2: BitOrder<R2>, R: BitRegister, O: BitOrder<R>>(
+    source: &[R2],
+    from: usize,
+    target: &mut [R],
+    to: usize,
+    count: usize,
+)
+    requires short { count ≤ region_max_bits }
+    requires source_inside { from + count ≤ length source.now * R2.BITS }
+    requires target_inside { to + count ≤ length target.old * R.BITS }
+    ensures { RangeBecomes R.BITS O.at_of to count
+        (range_bits R2.BITS O2.at_of from count (map R2.number source.now))
+        (map R.number target.old) (map R.number target.new) }
+{
+    let here = span::<R, O>(to, count);
+    let there = span::<R2, O2>(from, count);
+    here.copy_from::<R2, O2>(target, there, source);
+}
+
+// The same where the source's order is that of a code.
+fn convert_from<R2: BitRegister, R: BitRegister, O: BitOrder<R>>(
+    source_order: u8,
+    source: &[R2],
+    from: usize,
+    target: &mut [R],
+    to: usize,
+    count: usize,
+)
+    requires short { count ≤ region_max_bits }
+    requires source_inside { from + count ≤ length source.now * R2.BITS }
+    requires target_inside { to + count ≤ length target.old * R.BITS }
+    ensures { RangeBecomes R.BITS O.at_of to count
+        (range_bits R2.BITS (order_at R2.BITS source_order) from count (map R2.number source.now))
+        (map R.number target.old) (map R.number target.new) }
+{
+    if source_order == LSB0 {
+        convert_in::<R2, Lsb0, R, O>(source, from, target, to, count);
+    } else {
+        convert_in::<R2, Msb0, R, O>(source, from, target, to, count);
+    }
+}
+
+// The same where both orders are those of codes.
+fn convert_range<R2: BitRegister, R: BitRegister>(
+    source_order: u8,
+    source: &[R2],
+    from: usize,
+    order: u8,
+    target: &mut [R],
+    to: usize,
+    count: usize,
+)
+    requires short { count ≤ region_max_bits }
+    requires source_inside { from + count ≤ length source.now * R2.BITS }
+    requires target_inside { to + count ≤ length target.old * R.BITS }
+    ensures { RangeBecomes R.BITS (order_at R.BITS order) to count
+        (range_bits R2.BITS (order_at R2.BITS source_order) from count (map R2.number source.now))
+        (map R.number target.old) (map R.number target.new) }
+{
+    if order == LSB0 {
+        convert_from::<R2, R, Lsb0>(source_order, source, from, target, to, count);
+    } else {
+        convert_from::<R2, R, Msb0>(source_order, source, from, target, to, count);
+    }
+}
+
+// Copies a range where the call's conditions hold, and returns the status.
+fn convert<R2: BitRegister, R: BitRegister>(
+    source_order: u8,
+    source: &[R2],
+    from: usize,
+    order: u8,
+    target: &mut [R],
+    to: usize,
+    count: usize,
+) -> u8
+    ensures { IsCall (pair_status R2.BITS source_order (length source.now) from R.BITS order
+        (length target.old) to count)
+        (RangeBecomes R.BITS (order_at R.BITS order) to count
+        (range_bits R2.BITS (order_at R2.BITS source_order) from count (map R2.number source.now))
+        (map R.number target.old) (map R.number target.new))
+        (target.new ≡ target.old) result }
+{
+    let words = target.len();
+    let status = test_pair::<R2, R>(source_order, source.len(), from, order, words, to, count);
+    if status == OK {
+        convert_range::<R2, R>(source_order, source, from, order, target, to, count);
+    }
+    status
+}
+
+/// Copies a range of bits of a memory of words of 8 bits to one of a memory of words of 8 bits,
+/// each under an order of its own, and changes no other bit.
+///
+/// It refuses with `NO_ORDER`, `TOO_LONG` or `OUTSIDE`.
+#[unsafe(no_mangle)]
+pub extern "C" fn bitvec_c_copy_u8_to_u8(
+    source_order: u8,
+    source: &[u8],
+    source_start: usize,
+    order: u8,
+    target: &mut [u8],
+    target_start: usize,
+    count: usize,
+) -> u8
+    ensures { IsCall (pair_status 8 source_order (length source.now) source_start 8 order
+        (length target.old) target_start count)
+        (RangeBecomes 8 (order_at 8 order) target_start count (range_bits 8
+        (order_at 8 source_order) source_start count source.now)
+        target.old target.new) (target.new ≡ target.old) result }
+{
+    convert::<u8, u8>(
+        source_order,
+        source,
+        source_start,
+        order,
+        target,
+        target_start,
+        count,
+    )
+}
+
+/// Copies a range of bits of a memory of words of 8 bits to one of a memory of words of 16 bits,
+/// each under an order of its own, and changes no other bit.
+///
+/// It refuses with `NO_ORDER`, `TOO_LONG` or `OUTSIDE`.
+#[unsafe(no_mangle)]
+pub extern "C" fn bitvec_c_copy_u8_to_u16(
+    source_order: u8,
+    source: &[u8],
+    source_start: usize,
+    order: u8,
+    target: &mut [u16],
+    target_start: usize,
+    count: usize,
+) -> u8
+    ensures { IsCall (pair_status 8 source_order (length source.now) source_start 16 order
+        (length target.old) target_start count)
+        (RangeBecomes 16 (order_at 16 order) target_start count (range_bits 8
+        (order_at 8 source_order) source_start count source.now)
+        target.old target.new) (target.new ≡ target.old) result }
+{
+    convert::<u8, u16>(
+        source_order,
+        source,
+        source_start,
+        order,
+        target,
+        target_start,
+        count,
+    )
+}
+
+/// Copies a range of bits of a memory of words of 8 bits to one of a memory of words of 32 bits,
+/// each under an order of its own, and changes no other bit.
+///
+/// It refuses with `NO_ORDER`, `TOO_LONG` or `OUTSIDE`.
+#[unsafe(no_mangle)]
+pub extern "C" fn bitvec_c_copy_u8_to_u32(
+    source_order: u8,
+    source: &[u8],
+    source_start: usize,
+    order: u8,
+    target: &mut [u32],
+    target_start: usize,
+    count: usize,
+) -> u8
+    ensures { IsCall (pair_status 8 source_order (length source.now) source_start 32 order
+        (length target.old) target_start count)
+        (RangeBecomes 32 (order_at 32 order) target_start count (range_bits 8
+        (order_at 8 source_order) source_start count source.now)
+        target.old target.new) (target.new ≡ target.old) result }
+{
+    convert::<u8, u32>(
+        source_order,
+        source,
+        source_start,
+        order,
+        target,
+        target_start,
+        count,
+    )
+}
+
+/// Copies a range of bits of a memory of words of 8 bits to one of a memory of words of 64 bits,
+/// each under an order of its own, and changes no other bit.
+///
+/// It refuses with `NO_ORDER`, `TOO_LONG` or `OUTSIDE`.
+#[unsafe(no_mangle)]
+pub extern "C" fn bitvec_c_copy_u8_to_u64(
+    source_order: u8,
+    source: &[u8],
+    source_start: usize,
+    order: u8,
+    target: &mut [u64],
+    target_start: usize,
+    count: usize,
+) -> u8
+    ensures { IsCall (pair_status 8 source_order (length source.now) source_start 64 order
+        (length target.old) target_start count)
+        (RangeBecomes 64 (order_at 64 order) target_start count (range_bits 8
+        (order_at 8 source_order) source_start count source.now)
+        target.old target.new) (target.new ≡ target.old) result }
+{
+    convert::<u8, u64>(
+        source_order,
+        source,
+        source_start,
+        order,
+        target,
+        target_start,
+        count,
+    )
+}
+
+/// Copies a range of bits of a memory of words of 16 bits to one of a memory of words of 8 bits,
+/// each under an order of its own, and changes no other bit.
+///
+/// It refuses with `NO_ORDER`, `TOO_LONG` or `OUTSIDE`.
+#[unsafe(no_mangle)]
+pub extern "C" fn bitvec_c_copy_u16_to_u8(
+    source_order: u8,
+    source: &[u16],
+    source_start: usize,
+    order: u8,
+    target: &mut [u8],
+    target_start: usize,
+    count: usize,
+) -> u8
+    ensures { IsCall (pair_status 16 source_order (length source.now) source_start 8 order
+        (length target.old) target_start count)
+        (RangeBecomes 8 (order_at 8 order) target_start count (range_bits 16
+        (order_at 16 source_order) source_start count source.now)
+        target.old target.new) (target.new ≡ target.old) result }
+{
+    convert::<u16, u8>(
+        source_order,
+        source,
+        source_start,
+        order,
+        target,
+        target_start,
+        count,
+    )
+}
+
+/// Copies a range of bits of a memory of words of 16 bits to one of a memory of words of 16 bits,
+/// each under an order of its own, and changes no other bit.
+///
+/// It refuses with `NO_ORDER`, `TOO_LONG` or `OUTSIDE`.
+#[unsafe(no_mangle)]
+pub extern "C" fn bitvec_c_copy_u16_to_u16(
+    source_order: u8,
+    source: &[u16],
+    source_start: usize,
+    order: u8,
+    target: &mut [u16],
+    target_start: usize,
+    count: usize,
+) -> u8
+    ensures { IsCall (pair_status 16 source_order (length source.now) source_start 16 order
+        (length target.old) target_start count)
+        (RangeBecomes 16 (order_at 16 order) target_start count (range_bits 16
+        (order_at 16 source_order) source_start count source.now)
+        target.old target.new) (target.new ≡ target.old) result }
+{
+    convert::<u16, u16>(
+        source_order,
+        source,
+        source_start,
+        order,
+        target,
+        target_start,
+        count,
+    )
+}
+
+/// Copies a range of bits of a memory of words of 16 bits to one of a memory of words of 32 bits,
+/// each under an order of its own, and changes no other bit.
+///
+/// It refuses with `NO_ORDER`, `TOO_LONG` or `OUTSIDE`.
+#[unsafe(no_mangle)]
+pub extern "C" fn bitvec_c_copy_u16_to_u32(
+    source_order: u8,
+    source: &[u16],
+    source_start: usize,
+    order: u8,
+    target: &mut [u32],
+    target_start: usize,
+    count: usize,
+) -> u8
+    ensures { IsCall (pair_status 16 source_order (length source.now) source_start 32 order
+        (length target.old) target_start count)
+        (RangeBecomes 32 (order_at 32 order) target_start count (range_bits 16
+        (order_at 16 source_order) source_start count source.now)
+        target.old target.new) (target.new ≡ target.old) result }
+{
+    convert::<u16, u32>(
+        source_order,
+        source,
+        source_start,
+        order,
+        target,
+        target_start,
+        count,
+    )
+}
+
+/// Copies a range of bits of a memory of words of 16 bits to one of a memory of words of 64 bits,
+/// each under an order of its own, and changes no other bit.
+///
+/// It refuses with `NO_ORDER`, `TOO_LONG` or `OUTSIDE`.
+#[unsafe(no_mangle)]
+pub extern "C" fn bitvec_c_copy_u16_to_u64(
+    source_order: u8,
+    source: &[u16],
+    source_start: usize,
+    order: u8,
+    target: &mut [u64],
+    target_start: usize,
+    count: usize,
+) -> u8
+    ensures { IsCall (pair_status 16 source_order (length source.now) source_start 64 order
+        (length target.old) target_start count)
+        (RangeBecomes 64 (order_at 64 order) target_start count (range_bits 16
+        (order_at 16 source_order) source_start count source.now)
+        target.old target.new) (target.new ≡ target.old) result }
+{
+    convert::<u16, u64>(
+        source_order,
+        source,
+        source_start,
+        order,
+        target,
+        target_start,
+        count,
+    )
+}
+
+/// Copies a range of bits of a memory of words of 32 bits to one of a memory of words of 8 bits,
+/// each under an order of its own, and changes no other bit.
+///
+/// It refuses with `NO_ORDER`, `TOO_LONG` or `OUTSIDE`.
+#[unsafe(no_mangle)]
+pub extern "C" fn bitvec_c_copy_u32_to_u8(
+    source_order: u8,
+    source: &[u32],
+    source_start: usize,
+    order: u8,
+    target: &mut [u8],
+    target_start: usize,
+    count: usize,
+) -> u8
+    ensures { IsCall (pair_status 32 source_order (length source.now) source_start 8 order
+        (length target.old) target_start count)
+        (RangeBecomes 8 (order_at 8 order) target_start count (range_bits 32
+        (order_at 32 source_order) source_start count source.now)
+        target.old target.new) (target.new ≡ target.old) result }
+{
+    convert::<u32, u8>(
+        source_order,
+        source,
+        source_start,
+        order,
+        target,
+        target_start,
+        count,
+    )
+}
+
+/// Copies a range of bits of a memory of words of 32 bits to one of a memory of words of 16 bits,
+/// each under an order of its own, and changes no other bit.
+///
+/// It refuses with `NO_ORDER`, `TOO_LONG` or `OUTSIDE`.
+#[unsafe(no_mangle)]
+pub extern "C" fn bitvec_c_copy_u32_to_u16(
+    source_order: u8,
+    source: &[u32],
+    source_start: usize,
+    order: u8,
+    target: &mut [u16],
+    target_start: usize,
+    count: usize,
+) -> u8
+    ensures { IsCall (pair_status 32 source_order (length source.now) source_start 16 order
+        (length target.old) target_start count)
+        (RangeBecomes 16 (order_at 16 order) target_start count (range_bits 32
+        (order_at 32 source_order) source_start count source.now)
+        target.old target.new) (target.new ≡ target.old) result }
+{
+    convert::<u32, u16>(
+        source_order,
+        source,
+        source_start,
+        order,
+        target,
+        target_start,
+        count,
+    )
+}
+
+/// Copies a range of bits of a memory of words of 32 bits to one of a memory of words of 32 bits,
+/// each under an order of its own, and changes no other bit.
+///
+/// It refuses with `NO_ORDER`, `TOO_LONG` or `OUTSIDE`.
+#[unsafe(no_mangle)]
+pub extern "C" fn bitvec_c_copy_u32_to_u32(
+    source_order: u8,
+    source: &[u32],
+    source_start: usize,
+    order: u8,
+    target: &mut [u32],
+    target_start: usize,
+    count: usize,
+) -> u8
+    ensures { IsCall (pair_status 32 source_order (length source.now) source_start 32 order
+        (length target.old) target_start count)
+        (RangeBecomes 32 (order_at 32 order) target_start count (range_bits 32
+        (order_at 32 source_order) source_start count source.now)
+        target.old target.new) (target.new ≡ target.old) result }
+{
+    convert::<u32, u32>(
+        source_order,
+        source,
+        source_start,
+        order,
+        target,
+        target_start,
+        count,
+    )
+}
+
+/// Copies a range of bits of a memory of words of 32 bits to one of a memory of words of 64 bits,
+/// each under an order of its own, and changes no other bit.
+///
+/// It refuses with `NO_ORDER`, `TOO_LONG` or `OUTSIDE`.
+#[unsafe(no_mangle)]
+pub extern "C" fn bitvec_c_copy_u32_to_u64(
+    source_order: u8,
+    source: &[u32],
+    source_start: usize,
+    order: u8,
+    target: &mut [u64],
+    target_start: usize,
+    count: usize,
+) -> u8
+    ensures { IsCall (pair_status 32 source_order (length source.now) source_start 64 order
+        (length target.old) target_start count)
+        (RangeBecomes 64 (order_at 64 order) target_start count (range_bits 32
+        (order_at 32 source_order) source_start count source.now)
+        target.old target.new) (target.new ≡ target.old) result }
+{
+    convert::<u32, u64>(
+        source_order,
+        source,
+        source_start,
+        order,
+        target,
+        target_start,
+        count,
+    )
+}
+
+/// Copies a range of bits of a memory of words of 64 bits to one of a memory of words of 8 bits,
+/// each under an order of its own, and changes no other bit.
+///
+/// It refuses with `NO_ORDER`, `TOO_LONG` or `OUTSIDE`.
+#[unsafe(no_mangle)]
+pub extern "C" fn bitvec_c_copy_u64_to_u8(
+    source_order: u8,
+    source: &[u64],
+    source_start: usize,
+    order: u8,
+    target: &mut [u8],
+    target_start: usize,
+    count: usize,
+) -> u8
+    ensures { IsCall (pair_status 64 source_order (length source.now) source_start 8 order
+        (length target.old) target_start count)
+        (RangeBecomes 8 (order_at 8 order) target_start count (range_bits 64
+        (order_at 64 source_order) source_start count source.now)
+        target.old target.new) (target.new ≡ target.old) result }
+{
+    convert::<u64, u8>(
+        source_order,
+        source,
+        source_start,
+        order,
+        target,
+        target_start,
+        count,
+    )
+}
+
+/// Copies a range of bits of a memory of words of 64 bits to one of a memory of words of 16 bits,
+/// each under an order of its own, and changes no other bit.
+///
+/// It refuses with `NO_ORDER`, `TOO_LONG` or `OUTSIDE`.
+#[unsafe(no_mangle)]
+pub extern "C" fn bitvec_c_copy_u64_to_u16(
+    source_order: u8,
+    source: &[u64],
+    source_start: usize,
+    order: u8,
+    target: &mut [u16],
+    target_start: usize,
+    count: usize,
+) -> u8
+    ensures { IsCall (pair_status 64 source_order (length source.now) source_start 16 order
+        (length target.old) target_start count)
+        (RangeBecomes 16 (order_at 16 order) target_start count (range_bits 64
+        (order_at 64 source_order) source_start count source.now)
+        target.old target.new) (target.new ≡ target.old) result }
+{
+    convert::<u64, u16>(
+        source_order,
+        source,
+        source_start,
+        order,
+        target,
+        target_start,
+        count,
+    )
+}
+
+/// Copies a range of bits of a memory of words of 64 bits to one of a memory of words of 32 bits,
+/// each under an order of its own, and changes no other bit.
+///
+/// It refuses with `NO_ORDER`, `TOO_LONG` or `OUTSIDE`.
+#[unsafe(no_mangle)]
+pub extern "C" fn bitvec_c_copy_u64_to_u32(
+    source_order: u8,
+    source: &[u64],
+    source_start: usize,
+    order: u8,
+    target: &mut [u32],
+    target_start: usize,
+    count: usize,
+) -> u8
+    ensures { IsCall (pair_status 64 source_order (length source.now) source_start 32 order
+        (length target.old) target_start count)
+        (RangeBecomes 32 (order_at 32 order) target_start count (range_bits 64
+        (order_at 64 source_order) source_start count source.now)
+        target.old target.new) (target.new ≡ target.old) result }
+{
+    convert::<u64, u32>(
+        source_order,
+        source,
+        source_start,
+        order,
+        target,
+        target_start,
+        count,
+    )
+}
+
+/// Copies a range of bits of a memory of words of 64 bits to one of a memory of words of 64 bits,
+/// each under an order of its own, and changes no other bit.
+///
+/// It refuses with `NO_ORDER`, `TOO_LONG` or `OUTSIDE`.
+#[unsafe(no_mangle)]
+pub extern "C" fn bitvec_c_copy_u64_to_u64(
+    source_order: u8,
+    source: &[u64],
+    source_start: usize,
+    order: u8,
+    target: &mut [u64],
+    target_start: usize,
+    count: usize,
+) -> u8
+    ensures { IsCall (pair_status 64 source_order (length source.now) source_start 64 order
+        (length target.old) target_start count)
+        (RangeBecomes 64 (order_at 64 order) target_start count (range_bits 64
+        (order_at 64 source_order) source_start count source.now)
+        target.old target.new) (target.new ≡ target.old) result }
+{
+    convert::<u64, u64>(
+        source_order,
+        source,
+        source_start,
+        order,
+        target,
+        target_start,
+        count,
+    )
+}

@@ -1,0 +1,786 @@
+//! Questions of two ranges of bits, whose words and orders may differ.
+
+ghost use Rattle.std.specs.Prelude.{◌≡◌, ◌+◌, ◌*◌, ◌≤◌, ◌&&◌, true, not, length, map};
+ghost use Rattle.bitvec.specs.Digit.{exclusive_or};
+ghost use Rattle.bitvec.specs.Memory.{zip_with};
+ghost use Rattle.bitvec.specs.Place.{region_max_bits};
+ghost use Rattle.bitvec.specs.Truths.{ones_in};
+ghost use Rattle.bitvec_c.specs.Call.{IsCall};
+ghost use Rattle.bitvec_c.specs.Order.{order_at};
+ghost use Rattle.bitvec_c.specs.Range.{range_bits};
+ghost use Rattle.bitvec_c.specs.Seek.{IsFirstOr};
+ghost use Rattle.bitvec_c.specs.Status.{pair_status};
+
+use crate::range::span;
+use crate::status::{LSB0, OK, test_pair};
+use bitvec::mem::BitRegister;
+use bitvec::order::{BitOrder, Lsb0, Msb0};
+use bitvec::ptr::combine::{And, AndNot, Combine, Xor};
+
+// How many of the pairs of bits of two ranges `C` makes one.
+fn count_in<C: Combine, R: BitRegister, O: BitOrder<R>, R2: BitRegister, O2: BitOrder<R2>>(
+    memory: &[R],
+    start: usize,
+    other: &[R2],
+    other_start: usize,
+    count: usize,
+) -> usize
+    requires short { count ≤ region_max_bits }
+    requires inside { start + count ≤ length memory.now * R.BITS }
+    requires other_inside { other_start + count ≤ length other.now * R2.BITS }
+    ensures { result ≡ ones_in (zip_with C.of
+        (range_bits R.BITS O.at_of start count (map R.number memory.now))
+        (range_bits R2.BITS O2.at_of other_start count (map R2.number other.now))) }
+{
+    let here = span::<R, O>(start, count);
+    let there = span::<R2, O2>(other_start, count);
+    here.count_with::<C, R2, O2>(memory, there, other)
+}
+
+// The same where the other's order is that of a code.
+fn count_from<C: Combine, R: BitRegister, O: BitOrder<R>, R2: BitRegister>(
+    memory: &[R],
+    start: usize,
+    other_order: u8,
+    other: &[R2],
+    other_start: usize,
+    count: usize,
+) -> usize
+    requires short { count ≤ region_max_bits }
+    requires inside { start + count ≤ length memory.now * R.BITS }
+    requires other_inside { other_start + count ≤ length other.now * R2.BITS }
+    ensures { result ≡ ones_in (zip_with C.of
+        (range_bits R.BITS O.at_of start count (map R.number memory.now))
+        (range_bits R2.BITS (order_at R2.BITS other_order) other_start count
+        (map R2.number other.now))) }
+{
+    if other_order == LSB0 {
+        count_in::<C, R, O, R2, Lsb0>(memory, start, other, other_start, count)
+    } else {
+        count_in::<C, R, O, R2, Msb0>(memory, start, other, other_start, count)
+    }
+}
+
+// The same where both orders are those of codes.
+fn count_of<C: Combine, R: BitRegister, R2: BitRegister>(
+    order: u8,
+    memory: &[R],
+    start: usize,
+    other_order: u8,
+    other: &[R2],
+    other_start: usize,
+    count: usize,
+) -> usize
+    requires short { count ≤ region_max_bits }
+    requires inside { start + count ≤ length memory.now * R.BITS }
+    requires other_inside { other_start + count ≤ length other.now * R2.BITS }
+    ensures { result ≡ ones_in (zip_with C.of
+        (range_bits R.BITS (order_at R.BITS order) start count (map R.number memory.now))
+        (range_bits R2.BITS (order_at R2.BITS other_order) other_start count
+        (map R2.number other.now))) }
+{
+    if order == LSB0 {
+        count_from::<C, R, Lsb0, R2>(memory, start, other_order, other, other_start, count)
+    } else {
+        count_from::<C, R, Msb0, R2>(memory, start, other_order, other, other_start, count)
+    }
+}
+
+// Answers how many of the pairs of bits of two ranges `C` makes one.
+fn count_with<C: Combine, R: BitRegister, R2: BitRegister>(
+    order: u8,
+    memory: &[R],
+    start: usize,
+    other_order: u8,
+    other: &[R2],
+    other_start: usize,
+    count: usize,
+    ones: &mut usize,
+) -> u8
+    ensures { IsCall (pair_status R.BITS order (length memory.now) start R2.BITS other_order
+        (length other.now) other_start count)
+        (ones.new ≡ ones_in (zip_with C.of
+        (range_bits R.BITS (order_at R.BITS order) start count (map R.number memory.now))
+        (range_bits R2.BITS (order_at R2.BITS other_order) other_start count
+        (map R2.number other.now))))
+        (ones.new ≡ ones.old) result }
+{
+    let words = memory.len();
+    let status = test_pair::<R, R2>(
+        order,
+        words,
+        start,
+        other_order,
+        other.len(),
+        other_start,
+        count,
+    );
+    if status == OK {
+        *ones = count_of::<C, R, R2>(order, memory, start, other_order, other, other_start, count);
+    }
+    status
+}
+
+// The index of the first pair of bits of two ranges that `C` makes one, and how many there are
+// where it makes none.
+fn first_in<C: Combine, R: BitRegister, O: BitOrder<R>, R2: BitRegister, O2: BitOrder<R2>>(
+    memory: &[R],
+    start: usize,
+    other: &[R2],
+    other_start: usize,
+    count: usize,
+) -> usize
+    requires short { count ≤ region_max_bits }
+    requires inside { start + count ≤ length memory.now * R.BITS }
+    requires other_inside { other_start + count ≤ length other.now * R2.BITS }
+    ensures { IsFirstOr true (zip_with C.of
+        (range_bits R.BITS O.at_of start count (map R.number memory.now))
+        (range_bits R2.BITS O2.at_of other_start count (map R2.number other.now))) count result }
+{
+    let here = span::<R, O>(start, count);
+    let there = span::<R2, O2>(other_start, count);
+    match here.first_with::<C, R2, O2>(memory, there, other) {
+        Some(i) => i,
+        None => count,
+    }
+}
+
+// The same where the other's order is that of a code.
+fn first_from<C: Combine, R: BitRegister, O: BitOrder<R>, R2: BitRegister>(
+    memory: &[R],
+    start: usize,
+    other_order: u8,
+    other: &[R2],
+    other_start: usize,
+    count: usize,
+) -> usize
+    requires short { count ≤ region_max_bits }
+    requires inside { start + count ≤ length memory.now * R.BITS }
+    requires other_inside { other_start + count ≤ length other.now * R2.BITS }
+    ensures { IsFirstOr true (zip_with C.of
+        (range_bits R.BITS O.at_of start count (map R.number memory.now))
+        (range_bits R2.BITS (order_at R2.BITS other_order) other_start count
+        (map R2.number other.now))) count result }
+{
+    if other_order == LSB0 {
+        first_in::<C, R, O, R2, Lsb0>(memory, start, other, other_start, count)
+    } else {
+        first_in::<C, R, O, R2, Msb0>(memory, start, other, other_start, count)
+    }
+}
+
+// The same where both orders are those of codes.
+fn first_of<C: Combine, R: BitRegister, R2: BitRegister>(
+    order: u8,
+    memory: &[R],
+    start: usize,
+    other_order: u8,
+    other: &[R2],
+    other_start: usize,
+    count: usize,
+) -> usize
+    requires short { count ≤ region_max_bits }
+    requires inside { start + count ≤ length memory.now * R.BITS }
+    requires other_inside { other_start + count ≤ length other.now * R2.BITS }
+    ensures { IsFirstOr true (zip_with C.of
+        (range_bits R.BITS (order_at R.BITS order) start count (map R.number memory.now))
+        (range_bits R2.BITS (order_at R2.BITS other_order) other_start count
+        (map R2.number other.now))) count result }
+{
+    if order == LSB0 {
+        first_from::<C, R, Lsb0, R2>(memory, start, other_order, other, other_start, count)
+    } else {
+        first_from::<C, R, Msb0, R2>(memory, start, other_order, other, other_start, count)
+    }
+}
+
+// Answers the index of the first pair of bits of two ranges that `C` makes one.
+fn first_with<C: Combine, R: BitRegister, R2: BitRegister>(
+    order: u8,
+    memory: &[R],
+    start: usize,
+    other_order: u8,
+    other: &[R2],
+    other_start: usize,
+    count: usize,
+    index: &mut usize,
+) -> u8
+    ensures { IsCall (pair_status R.BITS order (length memory.now) start R2.BITS other_order
+        (length other.now) other_start count)
+        (IsFirstOr true (zip_with C.of
+        (range_bits R.BITS (order_at R.BITS order) start count (map R.number memory.now))
+        (range_bits R2.BITS (order_at R2.BITS other_order) other_start count
+        (map R2.number other.now))) count index.new)
+        (index.new ≡ index.old) result }
+{
+    let words = memory.len();
+    let status = test_pair::<R, R2>(
+        order,
+        words,
+        start,
+        other_order,
+        other.len(),
+        other_start,
+        count,
+    );
+    if status == OK {
+        *index = first_of::<C, R, R2>(order, memory, start, other_order, other, other_start, count);
+    }
+    status
+}
+
+/// Answers how many bits of a range are one whose bit in the other range is one too, both in
+/// memories of words of 8 bits, each under an order of its own.
+///
+/// It refuses with `NO_ORDER`, `TOO_LONG` or `OUTSIDE`.
+#[unsafe(no_mangle)]
+pub extern "C" fn bitvec_c_count_and_u8(
+    order: u8,
+    memory: &[u8],
+    start: usize,
+    other_order: u8,
+    other: &[u8],
+    other_start: usize,
+    count: usize,
+    ones: &mut usize,
+) -> u8
+    ensures { IsCall (pair_status 8 order (length memory.now) start 8 other_order
+        (length other.now) other_start count)
+        (ones.new ≡ ones_in (zip_with (λ x y. x && y) (range_bits 8
+        (order_at 8 order) start count memory.now)
+        (range_bits 8 (order_at 8 other_order) other_start count other.now))) (ones.new
+        ≡ ones.old) result }
+{
+    count_with::<And, u8, u8>(
+        order,
+        memory,
+        start,
+        other_order,
+        other,
+        other_start,
+        count,
+        ones,
+    )
+}
+
+/// Answers how many bits of a range are one whose bit in the other range is one too, both in
+/// memories of words of 16 bits, each under an order of its own.
+///
+/// It refuses with `NO_ORDER`, `TOO_LONG` or `OUTSIDE`.
+#[unsafe(no_mangle)]
+pub extern "C" fn bitvec_c_count_and_u16(
+    order: u8,
+    memory: &[u16],
+    start: usize,
+    other_order: u8,
+    other: &[u16],
+    other_start: usize,
+    count: usize,
+    ones: &mut usize,
+) -> u8
+    ensures { IsCall (pair_status 16 order (length memory.now) start 16 other_order
+        (length other.now) other_start count)
+        (ones.new ≡ ones_in (zip_with (λ x y. x && y) (range_bits 16
+        (order_at 16 order) start count memory.now)
+        (range_bits 16 (order_at 16 other_order) other_start count other.now))) (ones.new
+        ≡ ones.old) result }
+{
+    count_with::<And, u16, u16>(
+        order,
+        memory,
+        start,
+        other_order,
+        other,
+        other_start,
+        count,
+        ones,
+    )
+}
+
+/// Answers how many bits of a range are one whose bit in the other range is one too, both in
+/// memories of words of 32 bits, each under an order of its own.
+///
+/// It refuses with `NO_ORDER`, `TOO_LONG` or `OUTSIDE`.
+#[unsafe(no_mangle)]
+pub extern "C" fn bitvec_c_count_and_u32(
+    order: u8,
+    memory: &[u32],
+    start: usize,
+    other_order: u8,
+    other: &[u32],
+    other_start: usize,
+    count: usize,
+    ones: &mut usize,
+) -> u8
+    ensures { IsCall (pair_status 32 order (length memory.now) start 32 other_order
+        (length other.now) other_start count)
+        (ones.new ≡ ones_in (zip_with (λ x y. x && y) (range_bits 32
+        (order_at 32 order) start count memory.now)
+        (range_bits 32 (order_at 32 other_order) other_start count other.now))) (ones.new
+        ≡ ones.old) result }
+{
+    count_with::<And, u32, u32>(
+        order,
+        memory,
+        start,
+        other_order,
+        other,
+        other_start,
+        count,
+        ones,
+    )
+}
+
+/// Answers how many bits of a range are one whose bit in the other range is one too, both in
+/// memories of words of 64 bits, each under an order of its own.
+///
+/// It refuses with `NO_ORDER`, `TOO_LONG` or `OUTSIDE`.
+#[unsafe(no_mangle)]
+pub extern "C" fn bitvec_c_count_and_u64(
+    order: u8,
+    memory: &[u64],
+    start: usize,
+    other_order: u8,
+    other: &[u64],
+    other_start: usize,
+    count: usize,
+    ones: &mut usize,
+) -> u8
+    ensures { IsCall (pair_status 64 order (length memory.now) start 64 other_order
+        (length other.now) other_start count)
+        (ones.new ≡ ones_in (zip_with (λ x y. x && y) (range_bits 64
+        (order_at 64 order) start count memory.now)
+        (range_bits 64 (order_at 64 other_order) other_start count other.now))) (ones.new
+        ≡ ones.old) result }
+{
+    count_with::<And, u64, u64>(
+        order,
+        memory,
+        start,
+        other_order,
+        other,
+        other_start,
+        count,
+        ones,
+    )
+}
+
+/// Answers the index of the first bit of a range that is one and whose bit in the other range is
+/// one too, and `count` where there is none, both in memories of words of 8 bits, each under an
+/// order of its own.
+///
+/// It refuses with `NO_ORDER`, `TOO_LONG` or `OUTSIDE`.
+#[unsafe(no_mangle)]
+pub extern "C" fn bitvec_c_first_and_u8(
+    order: u8,
+    memory: &[u8],
+    start: usize,
+    other_order: u8,
+    other: &[u8],
+    other_start: usize,
+    count: usize,
+    index: &mut usize,
+) -> u8
+    ensures { IsCall (pair_status 8 order (length memory.now) start 8 other_order
+        (length other.now) other_start count)
+        (IsFirstOr true (zip_with (λ x y. x && y) (range_bits 8
+        (order_at 8 order) start count memory.now)
+        (range_bits 8 (order_at 8 other_order) other_start count other.now)) count index.new)
+        (index.new ≡ index.old) result }
+{
+    first_with::<And, u8, u8>(
+        order,
+        memory,
+        start,
+        other_order,
+        other,
+        other_start,
+        count,
+        index,
+    )
+}
+
+/// Answers the index of the first bit of a range that is one and whose bit in the other range is
+/// one too, and `count` where there is none, both in memories of words of 16 bits, each under an
+/// order of its own.
+///
+/// It refuses with `NO_ORDER`, `TOO_LONG` or `OUTSIDE`.
+#[unsafe(no_mangle)]
+pub extern "C" fn bitvec_c_first_and_u16(
+    order: u8,
+    memory: &[u16],
+    start: usize,
+    other_order: u8,
+    other: &[u16],
+    other_start: usize,
+    count: usize,
+    index: &mut usize,
+) -> u8
+    ensures { IsCall (pair_status 16 order (length memory.now) start 16 other_order
+        (length other.now) other_start count)
+        (IsFirstOr true (zip_with (λ x y. x && y) (range_bits 16
+        (order_at 16 order) start count memory.now)
+        (range_bits 16 (order_at 16 other_order) other_start count other.now)) count index.new)
+        (index.new ≡ index.old) result }
+{
+    first_with::<And, u16, u16>(
+        order,
+        memory,
+        start,
+        other_order,
+        other,
+        other_start,
+        count,
+        index,
+    )
+}
+
+/// Answers the index of the first bit of a range that is one and whose bit in the other range is
+/// one too, and `count` where there is none, both in memories of words of 32 bits, each under an
+/// order of its own.
+///
+/// It refuses with `NO_ORDER`, `TOO_LONG` or `OUTSIDE`.
+#[unsafe(no_mangle)]
+pub extern "C" fn bitvec_c_first_and_u32(
+    order: u8,
+    memory: &[u32],
+    start: usize,
+    other_order: u8,
+    other: &[u32],
+    other_start: usize,
+    count: usize,
+    index: &mut usize,
+) -> u8
+    ensures { IsCall (pair_status 32 order (length memory.now) start 32 other_order
+        (length other.now) other_start count)
+        (IsFirstOr true (zip_with (λ x y. x && y) (range_bits 32
+        (order_at 32 order) start count memory.now)
+        (range_bits 32 (order_at 32 other_order) other_start count other.now)) count index.new)
+        (index.new ≡ index.old) result }
+{
+    first_with::<And, u32, u32>(
+        order,
+        memory,
+        start,
+        other_order,
+        other,
+        other_start,
+        count,
+        index,
+    )
+}
+
+/// Answers the index of the first bit of a range that is one and whose bit in the other range is
+/// one too, and `count` where there is none, both in memories of words of 64 bits, each under an
+/// order of its own.
+///
+/// It refuses with `NO_ORDER`, `TOO_LONG` or `OUTSIDE`.
+#[unsafe(no_mangle)]
+pub extern "C" fn bitvec_c_first_and_u64(
+    order: u8,
+    memory: &[u64],
+    start: usize,
+    other_order: u8,
+    other: &[u64],
+    other_start: usize,
+    count: usize,
+    index: &mut usize,
+) -> u8
+    ensures { IsCall (pair_status 64 order (length memory.now) start 64 other_order
+        (length other.now) other_start count)
+        (IsFirstOr true (zip_with (λ x y. x && y) (range_bits 64
+        (order_at 64 order) start count memory.now)
+        (range_bits 64 (order_at 64 other_order) other_start count other.now)) count index.new)
+        (index.new ≡ index.old) result }
+{
+    first_with::<And, u64, u64>(
+        order,
+        memory,
+        start,
+        other_order,
+        other,
+        other_start,
+        count,
+        index,
+    )
+}
+
+/// Answers the index of the first bit of a range that is one and whose bit in the other range is
+/// zero, and `count` where there is none, both in memories of words of 8 bits, each under an order
+/// of its own.
+///
+/// It refuses with `NO_ORDER`, `TOO_LONG` or `OUTSIDE`.
+#[unsafe(no_mangle)]
+pub extern "C" fn bitvec_c_first_and_not_u8(
+    order: u8,
+    memory: &[u8],
+    start: usize,
+    other_order: u8,
+    other: &[u8],
+    other_start: usize,
+    count: usize,
+    index: &mut usize,
+) -> u8
+    ensures { IsCall (pair_status 8 order (length memory.now) start 8 other_order
+        (length other.now) other_start count)
+        (IsFirstOr true (zip_with (λ x y. x && not y) (range_bits 8
+        (order_at 8 order) start count memory.now)
+        (range_bits 8 (order_at 8 other_order) other_start count other.now)) count index.new)
+        (index.new ≡ index.old) result }
+{
+    first_with::<AndNot, u8, u8>(
+        order,
+        memory,
+        start,
+        other_order,
+        other,
+        other_start,
+        count,
+        index,
+    )
+}
+
+/// Answers the index of the first bit of a range that is one and whose bit in the other range is
+/// zero, and `count` where there is none, both in memories of words of 16 bits, each under an
+/// order of its own.
+///
+/// It refuses with `NO_ORDER`, `TOO_LONG` or `OUTSIDE`.
+#[unsafe(no_mangle)]
+pub extern "C" fn bitvec_c_first_and_not_u16(
+    order: u8,
+    memory: &[u16],
+    start: usize,
+    other_order: u8,
+    other: &[u16],
+    other_start: usize,
+    count: usize,
+    index: &mut usize,
+) -> u8
+    ensures { IsCall (pair_status 16 order (length memory.now) start 16 other_order
+        (length other.now) other_start count)
+        (IsFirstOr true (zip_with (λ x y. x && not y) (range_bits 16
+        (order_at 16 order) start count memory.now)
+        (range_bits 16 (order_at 16 other_order) other_start count other.now)) count index.new)
+        (index.new ≡ index.old) result }
+{
+    first_with::<AndNot, u16, u16>(
+        order,
+        memory,
+        start,
+        other_order,
+        other,
+        other_start,
+        count,
+        index,
+    )
+}
+
+/// Answers the index of the first bit of a range that is one and whose bit in the other range is
+/// zero, and `count` where there is none, both in memories of words of 32 bits, each under an
+/// order of its own.
+///
+/// It refuses with `NO_ORDER`, `TOO_LONG` or `OUTSIDE`.
+#[unsafe(no_mangle)]
+pub extern "C" fn bitvec_c_first_and_not_u32(
+    order: u8,
+    memory: &[u32],
+    start: usize,
+    other_order: u8,
+    other: &[u32],
+    other_start: usize,
+    count: usize,
+    index: &mut usize,
+) -> u8
+    ensures { IsCall (pair_status 32 order (length memory.now) start 32 other_order
+        (length other.now) other_start count)
+        (IsFirstOr true (zip_with (λ x y. x && not y) (range_bits 32
+        (order_at 32 order) start count memory.now)
+        (range_bits 32 (order_at 32 other_order) other_start count other.now)) count index.new)
+        (index.new ≡ index.old) result }
+{
+    first_with::<AndNot, u32, u32>(
+        order,
+        memory,
+        start,
+        other_order,
+        other,
+        other_start,
+        count,
+        index,
+    )
+}
+
+/// Answers the index of the first bit of a range that is one and whose bit in the other range is
+/// zero, and `count` where there is none, both in memories of words of 64 bits, each under an
+/// order of its own.
+///
+/// It refuses with `NO_ORDER`, `TOO_LONG` or `OUTSIDE`.
+#[unsafe(no_mangle)]
+pub extern "C" fn bitvec_c_first_and_not_u64(
+    order: u8,
+    memory: &[u64],
+    start: usize,
+    other_order: u8,
+    other: &[u64],
+    other_start: usize,
+    count: usize,
+    index: &mut usize,
+) -> u8
+    ensures { IsCall (pair_status 64 order (length memory.now) start 64 other_order
+        (length other.now) other_start count)
+        (IsFirstOr true (zip_with (λ x y. x && not y) (range_bits 64
+        (order_at 64 order) start count memory.now)
+        (range_bits 64 (order_at 64 other_order) other_start count other.now)) count index.new)
+        (index.new ≡ index.old) result }
+{
+    first_with::<AndNot, u64, u64>(
+        order,
+        memory,
+        start,
+        other_order,
+        other,
+        other_start,
+        count,
+        index,
+    )
+}
+
+/// Answers the index of the first bit of a range that is not the same in the other range, and
+/// `count` where there is none, both in memories of words of 8 bits, each under an order of its
+/// own.
+///
+/// It refuses with `NO_ORDER`, `TOO_LONG` or `OUTSIDE`.
+#[unsafe(no_mangle)]
+pub extern "C" fn bitvec_c_first_difference_u8(
+    order: u8,
+    memory: &[u8],
+    start: usize,
+    other_order: u8,
+    other: &[u8],
+    other_start: usize,
+    count: usize,
+    index: &mut usize,
+) -> u8
+    ensures { IsCall (pair_status 8 order (length memory.now) start 8 other_order
+        (length other.now) other_start count)
+        (IsFirstOr true (zip_with exclusive_or (range_bits 8 (order_at 8 order) start count
+        memory.now)
+        (range_bits 8 (order_at 8 other_order) other_start count other.now)) count index.new)
+        (index.new ≡ index.old) result }
+{
+    first_with::<Xor, u8, u8>(
+        order,
+        memory,
+        start,
+        other_order,
+        other,
+        other_start,
+        count,
+        index,
+    )
+}
+
+/// Answers the index of the first bit of a range that is not the same in the other range, and
+/// `count` where there is none, both in memories of words of 16 bits, each under an order of its
+/// own.
+///
+/// It refuses with `NO_ORDER`, `TOO_LONG` or `OUTSIDE`.
+#[unsafe(no_mangle)]
+pub extern "C" fn bitvec_c_first_difference_u16(
+    order: u8,
+    memory: &[u16],
+    start: usize,
+    other_order: u8,
+    other: &[u16],
+    other_start: usize,
+    count: usize,
+    index: &mut usize,
+) -> u8
+    ensures { IsCall (pair_status 16 order (length memory.now) start 16 other_order
+        (length other.now) other_start count)
+        (IsFirstOr true (zip_with exclusive_or (range_bits 16
+        (order_at 16 order) start count memory.now)
+        (range_bits 16 (order_at 16 other_order) other_start count other.now)) count index.new)
+        (index.new ≡ index.old) result }
+{
+    first_with::<Xor, u16, u16>(
+        order,
+        memory,
+        start,
+        other_order,
+        other,
+        other_start,
+        count,
+        index,
+    )
+}
+
+/// Answers the index of the first bit of a range that is not the same in the other range, and
+/// `count` where there is none, both in memories of words of 32 bits, each under an order of its
+/// own.
+///
+/// It refuses with `NO_ORDER`, `TOO_LONG` or `OUTSIDE`.
+#[unsafe(no_mangle)]
+pub extern "C" fn bitvec_c_first_difference_u32(
+    order: u8,
+    memory: &[u32],
+    start: usize,
+    other_order: u8,
+    other: &[u32],
+    other_start: usize,
+    count: usize,
+    index: &mut usize,
+) -> u8
+    ensures { IsCall (pair_status 32 order (length memory.now) start 32 other_order
+        (length other.now) other_start count)
+        (IsFirstOr true (zip_with exclusive_or (range_bits 32
+        (order_at 32 order) start count memory.now)
+        (range_bits 32 (order_at 32 other_order) other_start count other.now)) count index.new)
+        (index.new ≡ index.old) result }
+{
+    first_with::<Xor, u32, u32>(
+        order,
+        memory,
+        start,
+        other_order,
+        other,
+        other_start,
+        count,
+        index,
+    )
+}
+
+/// Answers the index of the first bit of a range that is not the same in the other range, and
+/// `count` where there is none, both in memories of words of 64 bits, each under an order of its
+/// own.
+///
+/// It refuses with `NO_ORDER`, `TOO_LONG` or `OUTSIDE`.
+#[unsafe(no_mangle)]
+pub extern "C" fn bitvec_c_first_difference_u64(
+    order: u8,
+    memory: &[u64],
+    start: usize,
+    other_order: u8,
+    other: &[u64],
+    other_start: usize,
+    count: usize,
+    index: &mut usize,
+) -> u8
+    ensures { IsCall (pair_status 64 order (length memory.now) start 64 other_order
+        (length other.now) other_start count)
+        (IsFirstOr true (zip_with exclusive_or (range_bits 64
+        (order_at 64 order) start count memory.now)
+        (range_bits 64 (order_at 64 other_order) other_start count other.now)) count index.new)
+        (index.new ≡ index.old) result }
+{
+    first_with::<Xor, u64, u64>(
+        order,
+        memory,
+        start,
+        other_order,
+        other,
+        other_start,
+        count,
+        index,
+    )
+}
