@@ -1142,6 +1142,548 @@ fn time_places<const RISING: bool>(order: &str) {
     time(&name("copy-short"), WORDS, || copy_all::<RISING>(black_box(&source), black_box(&mut memory), black_box(&places)));
 }
 
+// ---- free maps
+
+const BLOCKS: usize = 1_048_576;
+const SLOTS: usize = 4096;
+
+/// A bit for each block, and two levels over them, of which each bit says that a word below has no free block. There are
+/// as many blocks as fill the words of all levels.
+struct Levels {
+    words: Vec<u64>,
+    full: Vec<u64>,
+    top: Vec<u64>,
+}
+
+/// The words of the level over these.
+fn level_over(words: &[u64]) -> Vec<u64> {
+    let word = |part: &[u64]| part.iter().enumerate().fold(0, |sum, (i, word)| sum | ((*word == !0) as u64) << i);
+    words.chunks(64).map(word).collect()
+}
+
+/// The first bit that is zero from one on, by words.
+#[inline(always)]
+fn zero_from(words: &[u64], from: usize) -> Option<usize> {
+    let mut k = from / 64;
+    let mut free = !*words.get(k)? & !0 << (from % 64);
+    while free == 0 {
+        k += 1;
+        free = !*words.get(k)?;
+    }
+    Some(k * 64 + free.trailing_zeros() as usize)
+}
+
+/// `edit` of each word that some bits lie in, with the mask of those bits, until it says no.
+#[inline(always)]
+fn parts(at: usize, count: usize, mut edit: impl FnMut(usize, u64) -> bool) -> bool {
+    let mut done = 0;
+    while done < count {
+        let bit = (at + done) % 64;
+        let part = (64 - bit).min(count - done);
+        if !edit((at + done) / 64, mask::<true>(bit, part)) {
+            return false;
+        }
+        done += part;
+    }
+    true
+}
+
+/// Makes bits be ones, or zeros.
+#[inline(always)]
+fn fill_bits(words: &mut [u64], at: usize, count: usize, one: bool) {
+    let (first, last) = (at / 64, (at + count - 1) / 64);
+    let head = !0 << (at % 64);
+    let tail = !0 >> (63 - (at + count - 1) % 64);
+    let put = |word: &mut u64, mask: u64| if one { *word |= mask } else { *word &= !mask };
+    if first == last {
+        put(&mut words[first], head & tail);
+    } else {
+        put(&mut words[first], head);
+        words[first + 1..last].fill(if one { !0 } else { 0 });
+        put(&mut words[last], tail);
+    }
+}
+
+impl Levels {
+    fn of(words: Vec<u64>) -> Self {
+        let full = level_over(&words);
+        let top = level_over(&full);
+        Levels { words, full, top }
+    }
+
+    #[inline(always)]
+    fn lowest(&self) -> Option<usize> {
+        let group = zero_from(&self.top, 0)?;
+        let word = group * 64 + (!self.full[group]).trailing_zeros() as usize;
+        Some(word * 64 + (!self.words[word]).trailing_zeros() as usize)
+    }
+
+    /// Puts one block in use. The levels are looked at only where its word becomes full.
+    #[inline(always)]
+    fn take(&mut self, at: usize) {
+        let w = at / 64;
+        self.words[w] |= 1 << (at % 64);
+        if self.words[w] == !0 {
+            self.full[w / 64] |= 1 << (w % 64);
+            if self.full[w / 64] == !0 {
+                self.top[w / 4096] |= 1 << (w / 64 % 64);
+            }
+        }
+    }
+
+    /// Makes one block free. The levels are looked at only where its word was full.
+    #[inline(always)]
+    fn give(&mut self, at: usize) {
+        let w = at / 64;
+        let was = self.words[w];
+        self.words[w] = was & !(1 << (at % 64));
+        if was == !0 {
+            self.full[w / 64] &= !(1 << (w % 64));
+            self.top[w / 4096] &= !(1 << (w / 64 % 64));
+        }
+    }
+
+    /// Makes blocks be in use, or free: the words between the ends, and their bits in the level above, by fills.
+    #[inline(always)]
+    fn mark(&mut self, at: usize, count: usize, used: bool) {
+        match (count, used) {
+            (0, _) => {}
+            (1, true) => self.take(at),
+            (1, false) => self.give(at),
+            _ => {
+                fill_bits(&mut self.words, at, count, used);
+                let (first, last) = (at / 64, (at + count - 1) / 64);
+                Self::refresh(&self.words, &mut self.full, first, last, used);
+                Self::refresh(&self.full, &mut self.top, first / 64, last / 64, used);
+            }
+        }
+    }
+
+    /// The bits of a level for the words from one to another, of which those between the two are full, or not.
+    #[inline(always)]
+    fn refresh(words: &[u64], over: &mut [u64], first: usize, last: usize, used: bool) {
+        if first + 1 < last {
+            fill_bits(over, first + 1, last - first - 1, used);
+        }
+        for w in [first, last] {
+            let bit = 1 << (w % 64);
+            if words[w] == !0 { over[w / 64] |= bit } else { over[w / 64] &= !bit }
+        }
+    }
+
+    #[inline(always)]
+    fn are(&self, at: usize, count: usize, used: bool) -> bool {
+        at <= BLOCKS && count <= BLOCKS - at && parts(at, count, |w, mask| self.words[w] & mask == if used { mask } else { 0 })
+    }
+
+    #[inline(always)]
+    fn alloc(&mut self) -> Option<usize> {
+        let at = self.lowest()?;
+        self.take(at);
+        Some(at)
+    }
+
+    #[inline(always)]
+    fn alloc_at_or_after(&mut self, block: usize) -> Option<usize> {
+        let free = !*self.words.get(block / 64)? & !0 << (block % 64);
+        let at = if free != 0 {
+            block / 64 * 64 + free.trailing_zeros() as usize
+        } else {
+            let word = zero_from(&self.full, block / 64 + 1)?;
+            word * 64 + (!self.words[word]).trailing_zeros() as usize
+        };
+        self.take(at);
+        Some(at)
+    }
+
+    /// From the lowest free block's word on: runs within a word by shifts, and across its edge by the zeros that the word
+    /// before ends with.
+    #[inline(always)]
+    fn first_run(&self, wanted: usize) -> Option<usize> {
+        let start = self.lowest()? / 64;
+        let mut before = 0;
+        for (k, word) in self.words[start..].iter().enumerate() {
+            let free = !*word;
+            if before + free.trailing_ones() as usize >= wanted {
+                return Some((start + k) * 64 - before);
+            }
+            let (mut run, mut have) = (free, 1);
+            while have < wanted && run != 0 {
+                let by = have.min(wanted - have);
+                run &= run >> by;
+                have += by;
+            }
+            if run != 0 {
+                return Some((start + k) * 64 + run.trailing_zeros() as usize);
+            }
+            before = if free == !0 { before + 64 } else { free.leading_ones() as usize };
+        }
+        None
+    }
+
+    #[inline(always)]
+    fn alloc_run(&mut self, count: usize) -> Option<usize> {
+        let at = self.first_run(count)?;
+        self.mark(at, count, true);
+        Some(at)
+    }
+
+    #[inline(always)]
+    fn reserve(&mut self, at: usize, count: usize) -> Option<usize> {
+        if !self.are(at, count, false) {
+            return None;
+        }
+        self.mark(at, count, true);
+        Some(at)
+    }
+
+    #[inline(always)]
+    fn give_back(&mut self, at: usize, count: usize) {
+        if self.are(at, count, true) {
+            self.mark(at, count, false);
+        }
+    }
+}
+
+/// Hands out one block of words with no levels, and takes it back.
+#[inline(never)]
+fn one_scanned(words: &mut [u64]) -> Option<usize> {
+    let k = words.iter().position(|word| *word != !0)?;
+    let at = k * 64 + (!words[k]).trailing_zeros() as usize;
+    words[k] |= 1 << (at % 64);
+    black_box(&mut *words);
+    words[k] &= !(1 << (at % 64));
+    Some(at)
+}
+
+#[inline(never)]
+fn one_leveled(map: &mut Levels) -> Option<usize> {
+    let at = map.alloc()?;
+    map.give(at);
+    Some(at)
+}
+
+#[inline(never)]
+fn many_leveled(map: &mut Levels, live: &mut [(usize, usize)]) -> usize {
+    let mut sum: usize = 0;
+    for range in live.iter_mut() {
+        let at = map.alloc().unwrap_or(0);
+        *range = (at, 1);
+        sum = sum.wrapping_mul(31).wrapping_add(at);
+    }
+    all_back(map, live);
+    sum
+}
+
+#[inline(always)]
+fn all_back(map: &mut Levels, live: &mut [(usize, usize)]) {
+    for range in live {
+        let (at, count) = *range;
+        if count > 0 {
+            map.give_back(at, count);
+        }
+        *range = (0, 0);
+    }
+}
+
+#[inline(never)]
+fn run_leveled(map: &mut Levels, count: usize) -> Option<usize> {
+    let at = map.alloc_run(count)?;
+    map.mark(at, count, false);
+    Some(at)
+}
+
+#[inline(never)]
+fn long_leveled(map: &mut Levels, at: usize, count: usize) {
+    if map.reserve(at, count).is_some() {
+        map.give_back(at, count);
+    }
+}
+
+/// A live range is taken back, or one is handed out, as a number that is drawn says.
+#[inline(always)]
+fn map_call(map: &mut Levels, range: (usize, usize), draw: usize) -> (usize, usize) {
+    let (at, count) = range;
+    if count > 0 {
+        map.give_back(at, count);
+        return (0, 0);
+    }
+    let many = (draw >> 4) % 16 + 1;
+    let (at, count) = match draw % 16 {
+        0..=7 => (map.alloc(), 1),
+        8..=12 => (map.alloc_run(many), many),
+        13 | 14 => (map.alloc_at_or_after(draw), 1),
+        _ => (map.reserve(draw, many), many),
+    };
+    at.map_or((0, 0), |at| (at, count))
+}
+
+#[inline(never)]
+fn map_history(map: &mut Levels, live: &mut [(usize, usize)], calls: usize) -> usize {
+    let mut word: u64 = 1;
+    let mut sum: usize = 0;
+    for _ in 0..calls {
+        word = word.wrapping_mul(6364136223846793005).wrapping_add(1442695040888963407);
+        let range = &mut live[(word >> 48) as usize % SLOTS];
+        *range = map_call(map, *range, (word >> 20) as usize % BLOCKS);
+        sum = sum.wrapping_mul(31).wrapping_add(range.0);
+    }
+    all_back(map, live);
+    sum
+}
+
+/// Words of which each is the same, but for the last.
+fn uniform(word: u64, last: u64) -> Vec<u64> {
+    let mut words = vec![word; BLOCKS / 64];
+    *words.last_mut().unwrap() = last;
+    words
+}
+
+fn time_maps() {
+    let count = BLOCKS / 64;
+    let mut live = vec![(0, 0); SLOTS];
+    let mut map = Levels::of(uniform(!0, !0 >> 1));
+    time("map-alloc-last", 1, || {
+        black_box(one_leveled(black_box(&mut map)));
+    });
+    let mut words = uniform(!0, !0 >> 1);
+    time("map-alloc-last-scan", 1, || {
+        black_box(one_scanned(black_box(&mut words)));
+    });
+    for (job, word) in [("map-alloc-empty", 0), ("map-alloc-half", 0x5555_5555_5555_5555)] {
+        let mut map = Levels::of(uniform(word, word));
+        time(job, SLOTS, || {
+            black_box(many_leveled(black_box(&mut map), black_box(&mut live)));
+        });
+    }
+    let mut word = 1u64;
+    let mut fragmented: Vec<u64> = (1..count)
+        .map(|_| {
+            word = word.wrapping_mul(6364136223846793005).wrapping_add(1442695040888963407);
+            (word & word >> 7 & word >> 13) | 0x0101_0101_0101_0101
+        })
+        .collect();
+    fragmented.push(0);
+    let mut map = Levels::of(fragmented);
+    time("map-run-8", count, || {
+        black_box(run_leveled(black_box(&mut map), black_box(8)));
+    });
+    let mut map = Levels::of(uniform(0, 0));
+    time("map-free-long", count, || long_leveled(black_box(&mut map), black_box(3), black_box(BLOCKS - 7)));
+    time("map-history", 1_000_000, || {
+        black_box(map_history(black_box(&mut map), black_box(&mut live), black_box(1_000_000)));
+    });
+}
+
+// ---- numbers one behind the other
+
+/// A reader with a window: the next `bits` bits, the first the highest, and zeros below them.
+struct Reader<'a> {
+    words: &'a [u64],
+    next: usize,
+    window: u64,
+    bits: usize,
+}
+
+impl Reader<'_> {
+    /// The next 1 to 63 bits, the first the highest digit.
+    #[inline(always)]
+    fn read(&mut self, count: usize) -> Option<u64> {
+        if count <= self.bits {
+            let value = self.window >> (64 - count);
+            self.window <<= count;
+            self.bits -= count;
+            return Some(value);
+        }
+        let word = *self.words.get(self.next)?;
+        self.next += 1;
+        let missing = count - self.bits;
+        let value = self.window >> (64 - count) | word >> (64 - missing);
+        self.window = word << missing;
+        self.bits = 64 - missing;
+        Some(value)
+    }
+
+    /// The number whose code comes next, where the code is of at most 63 bits.
+    #[inline(always)]
+    fn read_code(&mut self) -> Option<u64> {
+        let zeros = self.window.leading_zeros() as usize;
+        if 2 * zeros + 1 <= self.bits {
+            let value = self.window >> (63 - 2 * zeros);
+            self.window = self.window << (2 * zeros) << 1;
+            self.bits -= 2 * zeros + 1;
+            return Some(value - 1);
+        }
+        let word = *self.words.get(self.next)?;
+        let window = self.window | word >> self.bits;
+        let zeros = window.leading_zeros() as usize;
+        if zeros > 31 {
+            return None;
+        }
+        self.next += 1;
+        let value = window >> (63 - 2 * zeros);
+        let missing = 2 * zeros + 1 - self.bits;
+        self.window = word << (missing - 1) << 1;
+        self.bits = 64 - missing;
+        Some(value - 1)
+    }
+}
+
+/// The same with the first bit the lowest.
+struct LowReader<'a> {
+    words: &'a [u64],
+    next: usize,
+    window: u64,
+    bits: usize,
+}
+
+impl LowReader<'_> {
+    #[inline(always)]
+    fn read(&mut self, count: usize) -> Option<u64> {
+        let ones = !(!0 << count);
+        if count <= self.bits {
+            let value = self.window & ones;
+            self.window >>= count;
+            self.bits -= count;
+            return Some(value);
+        }
+        let word = *self.words.get(self.next)?;
+        self.next += 1;
+        let value = (self.window | word << self.bits) & ones;
+        let missing = count - self.bits;
+        self.window = word >> missing;
+        self.bits = 64 - missing;
+        Some(value)
+    }
+}
+
+/// A writer with a window of fewer than 64 bits, the first the highest.
+struct Writer<'a> {
+    words: &'a mut [u64],
+    next: usize,
+    window: u64,
+    bits: usize,
+}
+
+impl Writer<'_> {
+    /// Writes a number in 1 to 63 bits, the first the highest digit.
+    #[inline(always)]
+    fn write(&mut self, count: usize, value: u64) -> Option<()> {
+        if value >> count != 0 || self.words.len() * 64 - self.next * 64 - self.bits < count {
+            return None;
+        }
+        let free = 64 - self.bits;
+        if count < free {
+            self.window |= value << (free - count);
+            self.bits += count;
+            return Some(());
+        }
+        let rest = count - free;
+        self.words[self.next] = self.window | value >> rest;
+        self.next += 1;
+        self.window = value << 1 << (63 - rest);
+        self.bits = rest;
+        Some(())
+    }
+
+    /// Puts what is in the window before the bits that stay.
+    fn finish(self) {
+        if self.bits > 0 {
+            let word = &mut self.words[self.next];
+            *word = *word & !0 >> self.bits | self.window;
+        }
+    }
+}
+
+#[inline(never)]
+fn read_all(words: &[u64], count: usize) -> Option<u64> {
+    let mut reader = Reader { words, next: 0, window: 0, bits: 0 };
+    let mut sum = 0u64;
+    for _ in 0..count {
+        sum = sum.wrapping_add(reader.read(13)?);
+    }
+    Some(sum)
+}
+
+#[inline(never)]
+fn read_all_low(words: &[u64], count: usize) -> Option<u64> {
+    let mut reader = LowReader { words, next: 0, window: 0, bits: 0 };
+    let mut sum = 0u64;
+    for _ in 0..count {
+        sum = sum.wrapping_add(reader.read(13)?);
+    }
+    Some(sum)
+}
+
+#[inline(never)]
+fn read_mixed(words: &[u64], widths: &[usize]) -> Option<u64> {
+    let mut reader = Reader { words, next: 0, window: 0, bits: 0 };
+    let mut sum = 0u64;
+    for width in widths {
+        sum = sum.wrapping_add(reader.read(*width % 32)?);
+    }
+    Some(sum)
+}
+
+#[inline(never)]
+fn read_codes(words: &[u64], count: usize) -> Option<u64> {
+    let mut reader = Reader { words, next: 0, window: 0, bits: 0 };
+    let mut sum = 0u64;
+    for _ in 0..count {
+        sum = sum.wrapping_add(reader.read_code()?);
+    }
+    Some(sum)
+}
+
+#[inline(never)]
+fn write_all(words: &mut [u64], count: usize) -> Option<()> {
+    let mut writer = Writer { words, next: 0, window: 0, bits: 0 };
+    for n in 0..count {
+        writer.write(13, (n % 8192) as u64)?;
+    }
+    writer.finish();
+    Some(())
+}
+
+/// Codes of small numbers, one behind the other, and the sum of these numbers.
+fn codes() -> (Vec<u64>, u64) {
+    let mut memory = vec![0u64; WORDS];
+    let (mut sum, mut place) = (0u64, 0);
+    for word in words() {
+        let number = (word >> 40 & 0xFF) >> (word >> 61);
+        let width = 2 * (number + 1).ilog2() as usize + 1;
+        for j in 0..width {
+            let bit = number + 1 >> (width - 1 - j) & 1;
+            memory[(place + j) / 64] |= bit << (63 - (place + j) % 64);
+        }
+        place += width;
+        sum = sum.wrapping_add(number);
+    }
+    (memory, sum)
+}
+
+fn time_streams(source: &[u64], target: &mut [u64]) {
+    const WIDTHS: [usize; 24] = [7, 13, 1, 24, 5, 18, 11, 2, 22, 9, 16, 3, 20, 8, 14, 6, 23, 10, 4, 19, 12, 17, 21, 15];
+    let widths: Vec<usize> = (0..WORDS).map(|k| WIDTHS[k % 24]).collect();
+    time("stream-read-13-msb0", WORDS, || {
+        black_box(read_all(black_box(source), black_box(WORDS)));
+    });
+    time("stream-read-mixed-msb0", WORDS, || {
+        black_box(read_mixed(black_box(source), black_box(&widths)));
+    });
+    time("stream-read-13-lsb0", WORDS, || {
+        black_box(read_all_low(black_box(source), black_box(WORDS)));
+    });
+    time("stream-write-13-msb0", WORDS, || {
+        black_box(write_all(black_box(target), black_box(WORDS)));
+    });
+    let (memory, sum) = codes();
+    assert_eq!(read_codes(&memory, WORDS), Some(sum));
+    time("stream-golomb-read", WORDS, || {
+        black_box(read_codes(black_box(&memory), black_box(WORDS)));
+    });
+}
+
 fn main() {
     let source = words();
     let mut target = words();
@@ -1159,4 +1701,6 @@ fn main() {
     time_edits::<false>("msb0", &mut target);
     time_places::<true>("lsb0");
     time_places::<false>("msb0");
+    time_streams(&source, &mut target);
+    time_maps();
 }

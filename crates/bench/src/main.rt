@@ -1,19 +1,21 @@
 //! How long the layer's calls take, and whether they do what plain loops do.
 //!
-//! With no argument it copies, runs, fills and searches a few thousand words, compares each memory
-//! or answer with what a plain loop makes, and prints a line for each that agrees. With the
-//! argument `time` it prints a name, a unit and the nanoseconds of one for each job; with `grow` it
-//! does so three times, each time with memories four times as large, so that what grows faster than
-//! its input shows.
+//! With no argument it copies, runs, fills and searches a few thousand words, and hands out blocks
+//! of free maps, compares each memory or answer with what a plain loop makes, and prints a line for
+//! each that agrees. With the argument `time` it prints a name, a unit and the nanoseconds of one
+//! for each job; with `grow` it does so three times, each time with memories four times as large,
+//! so that what grows faster than its input shows; free maps have as many blocks each time.
 #![tactic(auto)]
 
 mod copies;
 mod domains;
 mod edits;
+mod maps;
 mod places;
 mod runs;
 mod sets;
 mod slices;
+mod streams;
 mod timer;
 mod words;
 
@@ -40,5 +42,7 @@ fn jobs(rt: HostRuntime, mode: Mode) -> io::Result<()> {
     domains::domains(rt, mode)?;
     slices::slices(rt, mode)?;
     edits::edits(rt, mode)?;
-    places::all_acts(rt, mode)
+    places::all_acts(rt, mode)?;
+    streams::streams(rt, mode)?;
+    maps::maps(rt, mode)
 }

@@ -4,7 +4,7 @@
 ghost use Rattle.std.specs.Prelude.{⊤};
 
 use crate::timer::{Job, Mode, Name, tell, time};
-use crate::words::{Formula, bit, words};
+use crate::words::{Formula, bit, put, words};
 use bitvec::order::{Lsb0, Msb0};
 use bitvec::ptr::single::BitPtr;
 use bitvec::ptr::span::BitSpan;
@@ -191,21 +191,6 @@ fn plain_sum<F: Formula>(words: &[u64], places: &[usize], act: Act, rises: bool)
         }
     }
     sum
-}
-
-// Writes a bit of a memory.
-fn put<F: Formula>(words: &mut [u64], place: usize, is_one: bool) {
-    let position = F::position(64, place % 64);
-    if let Some(word) = words.get_mut(place / 64)
-        && position < 64
-    {
-        let digit = 1 << position as u32;
-        *word = if is_one {
-            *word | digit
-        } else {
-            *word & !digit
-        };
-    }
 }
 
 // What is stored, written or copied at one place, bit by bit.

@@ -75,6 +75,21 @@ pub fn bit<R: BitRegister, F: Formula>(words: &[R], place: usize) -> bool {
     }
 }
 
+/// Writes a bit of a memory.
+pub fn put<F: Formula>(words: &mut [u64], place: usize, is_one: bool) {
+    let position = F::position(64, place % 64);
+    if let Some(word) = words.get_mut(place / 64)
+        && position < 64
+    {
+        let digit = 1 << position as u32;
+        *word = if is_one {
+            *word | digit
+        } else {
+            *word & !digit
+        };
+    }
+}
+
 /// Whether a memory was made of another by a copy of `count` bits, and no other bit changed: bit by
 /// bit.
 pub fn is_copied<R: BitRegister, F: Formula, R2: BitRegister, F2: Formula>(

@@ -1,30 +1,28 @@
 //! Questions of a span or a slice beside another one, in a memory of its own: bytes under `lsb0`,
 //! words of 16 bits under `msb0`, or words of 64 bits under either.
 
-use crate::lists::begin_item;
+use crate::answer::{Answer, Text};
 use crate::spans::span_at;
+use crate::values::{Value, named, place_value};
 use bits_text::names::Call;
-use bits_text::words::{words_of, write_words};
 use bitvec::mem::BitRegister;
 use bitvec::order::{BitOrder, Lsb0, Msb0};
 use bitvec::ptr::span::BitSpan;
 use bitvec_slice::slice::{BitSlice, BitSliceMut};
-use std::alloc::{AllocError, Allocator};
+use std::alloc::Global;
+use std::cmp::Ordering;
 use std::marker::PhantomData;
 
-mod asked;
-
-/// Writes the answer to a question of two spans or slices, and tells whether the words ask one.
+/// Writes the answer to a question of two spans or slices; `None` where the words ask none.
 ///
 /// The calls are `equals`, `equals_each`, `copy_from` and `copy_from_bitslice`, the questions
-/// `is_subset`, `intersects`, `count_and`, `first_and`, `first_and_not`, `first_difference` and
-/// `compare`, and `asked` for all of these. The words are those after the order and the register of
-/// the first.
-pub fn write_answer<'a, R: BitRegister, O: BitOrder<R>, A: Allocator>(
-    text: &mut String<&'a A>,
-    alloc: &'a A,
+/// `is_subset`, `intersects`, `count_and`, `first_and`, `first_and_not`, `first_difference`,
+/// `compare`, `find` and `contains`, and `asked` for the first seven of these. The words are those
+/// after the order and the register of the first.
+pub fn write_answer<R: BitRegister, O: BitOrder<R>>(
+    out: &mut Answer,
     words: &[&str],
-) -> Result<bool, AllocError> {
+) -> Option<()> {
     let [
         memory,
         start,
@@ -37,10 +35,10 @@ pub fn write_answer<'a, R: BitRegister, O: BitOrder<R>, A: Allocator>(
         other_len,
     ] = words
     else {
-        return Ok(false);
+        return None;
     };
-    let two = Two::<R, O, A> {
-        alloc,
+    let two = Two::<R, O> {
+        alloc: out.alloc,
         name,
         here: Place { memory, start, len },
         there: Place {
@@ -50,13 +48,7 @@ pub fn write_answer<'a, R: BitRegister, O: BitOrder<R>, A: Allocator>(
         },
         of: PhantomData,
     };
-    match answer_at(order, register, &two).unwrap_or(Ok(None))? {
-        Some(answer) => {
-            text.push_str(&answer)?;
-            Ok(true)
-        }
-        None => Ok(false),
-    }
+    out.take(answer_at(order, register, &two)?)
 }
 
 // The answer of a call for the order and the register of the second, or `None` where there is none
@@ -81,112 +73,225 @@ struct Place<'t> {
 
 // A question of two, for a register and an order of the first.
 #[derive(Drop)]
-struct Two<'a, 't, R: BitRegister, O, A: Allocator> {
-    alloc: &'a A,
+struct Two<'a, 't, R: BitRegister, O> {
+    alloc: &'a Global,
     name: &'t str,
     here: Place<'t>,
     there: Place<'t>,
     of: PhantomData<(R, O)>,
 }
 
-impl<'a, R: BitRegister, O: BitOrder<R>, A: Allocator> Call for Two<'a, '_, R, O, A> {
-    type Answer = Result<Option<String<&'a A>>, AllocError>;
+impl<'a, R: BitRegister, O: BitOrder<R>> Call for Two<'a, '_, R, O> {
+    type Answer = Text<'a>;
 
     // The answer for a register and an order of the second.
     fn at<S: BitRegister, P: BitOrder<S>>(&self) -> Self::Answer {
-        let Some(mut memory) = words_of::<R, A>(self.alloc, self.here.memory)? else {
-            return Ok(None);
-        };
-        match words_of::<S, A>(self.alloc, self.there.memory)? {
-            Some(mut other) => self.answered::<S, P>(&mut memory, &mut other),
-            None => Ok(None),
+        let mut out = Answer::new(self.alloc);
+        let is_question = self.write::<S, P>(&mut out);
+        out.finish(is_question)
+    }
+}
+
+impl<R: BitRegister, O: BitOrder<R>> Two<'_, '_, R, O> {
+    // Writes the answer.
+    fn write<S: BitRegister, P: BitOrder<S>>(&self, out: &mut Answer) -> Option<()> {
+        let span = span_at::<R, O>(self.here.start, self.here.len)?;
+        let there = span_at::<S, P>(self.there.start, self.there.len)?;
+        let mut memory = out.memory::<R>(self.here.memory)?;
+        let mut other = out.memory::<S>(self.there.memory)?;
+        if let Some(way) = named(&COPIES, self.name) {
+            copied(way, span, &mut memory, there, &other)?;
+            out.words(&memory);
+            return Some(());
+        }
+        let here = BitSlice::new(span, &memory)?;
+        if self.name == "equals_each" {
+            return write_equal_each(out, here, there, &mut other);
+        }
+        write_asked(out, self.name, here, BitSlice::new(there, &other)?)
+    }
+}
+
+// Ways to copy the bits of the second to the first.
+#[derive(Clone, Copy)]
+enum Copying {
+    Spans,
+    Slices,
+}
+
+const COPIES: [(&str, Copying); 2] = [
+    ("copy_from", Copying::Spans),
+    ("copy_from_bitslice", Copying::Slices),
+];
+
+// Copies the bits of the second to the first; `None` where they have not as many bits, or where one
+// is not in its memory.
+fn copied<R: BitRegister, O: BitOrder<R>, S: BitRegister, P: BitOrder<S>>(
+    way: Copying,
+    span: BitSpan<R, O>,
+    memory: &mut [R],
+    there: BitSpan<S, P>,
+    other: &[S],
+) -> Option<()> {
+    if !span.fits(memory.len()) || !there.fits(other.len()) || span.len() != there.len() {
+        return None;
+    }
+    match way {
+        Copying::Spans => span.copy_from(memory, there, other),
+        Copying::Slices => {
+            let source = BitSlice::new(there, other)?;
+            let Ok(mut slice) = BitSliceMut::new(span, memory) else {
+                return None;
+            };
+            if source.len() != slice.len() {
+                return None;
+            }
+            slice.copy_from_bitslice(source);
         }
     }
+    Some(())
 }
 
-impl<'a, R: BitRegister, O: BitOrder<R>, A: Allocator> Two<'a, '_, R, O, A> {
-    // The answer of two memories, as text.
-    fn answered<S: BitRegister, P: BitOrder<S>>(
-        &self,
-        memory: &mut [R],
-        other: &mut [S],
-    ) -> Result<Option<String<&'a A>>, AllocError> {
-        let Some(span) = span_at::<R, O>(self.here.start, self.here.len) else {
-            return Ok(None);
-        };
-        let Some(there) = span_at::<S, P>(self.there.start, self.there.len) else {
-            return Ok(None);
-        };
-        let mut text = String::new(self.alloc);
-        let is_done = match self.name {
-            "equals" => write_equal(&mut text, span, memory, there, other)?,
-            "equals_each" => write_equal_each(&mut text, span, memory, there, other)?,
-            _ if is_copied(self.name, span, memory, there, other) => {
-                write_words(&mut text, memory)?;
-                true
-            }
-            _ => write_asked(&mut text, self.name, span, memory, there, other)?,
-        };
-        if is_done { Ok(Some(text)) } else { Ok(None) }
-    }
+// What is asked of two slices.
+#[derive(Clone, Copy)]
+enum Question {
+    Equals,
+    IsSubset,
+    Intersects,
+    CountAnd,
+    FirstAnd,
+    FirstAndNot,
+    FirstDifference,
+    Compare,
+    Find,
+    Contains,
 }
 
-// Writes the answer to a question of two slices, and tells whether there is one: whether both lie in
-// their memories, and the name is that of one.
-fn write_asked<R: BitRegister, O: BitOrder<R>, S: BitRegister, P: BitOrder<S>, A: Allocator>(
-    text: &mut String<A>,
+const QUESTIONS: [(&str, Question); 10] = [
+    ("equals", Question::Equals),
+    ("is_subset", Question::IsSubset),
+    ("intersects", Question::Intersects),
+    ("count_and", Question::CountAnd),
+    ("first_and", Question::FirstAnd),
+    ("first_and_not", Question::FirstAndNot),
+    ("first_difference", Question::FirstDifference),
+    ("compare", Question::Compare),
+    ("find", Question::Find),
+    ("contains", Question::Contains),
+];
+
+// What `asked` asks, of slices of two lengths only the last two.
+const ASKED: [Question; 7] = [
+    Question::IsSubset,
+    Question::Intersects,
+    Question::CountAnd,
+    Question::FirstAnd,
+    Question::FirstAndNot,
+    Question::FirstDifference,
+    Question::Compare,
+];
+
+// Writes the answer to a question of two slices, or to all in turn.
+fn write_asked<R: BitRegister, O: BitOrder<R>, S: BitRegister, P: BitOrder<S>>(
+    out: &mut Answer,
     name: &str,
-    span: BitSpan<R, O>,
-    memory: &[R],
-    there: BitSpan<S, P>,
-    other: &[S],
-) -> Result<bool, AllocError> {
-    match (BitSlice::new(span, memory), BitSlice::new(there, other)) {
-        (Some(here), Some(there)) => asked::write_answer(text, name, here, there),
-        _ => Ok(false),
+    here: BitSlice<R, O>,
+    there: BitSlice<S, P>,
+) -> Option<()> {
+    if name != "asked" {
+        out.value(value_of(named(&QUESTIONS, name)?, here, there)?);
+        return Some(());
+    }
+    for question in ASKED.iter() {
+        if let Some(value) = value_of(*question, here, there) {
+            out.item(&[value]);
+        }
+    }
+    Some(())
+}
+
+// The answer to a question of two slices; `None` where it is one of slices of one length, and these
+// have two.
+fn value_of<R: BitRegister, O: BitOrder<R>, S: BitRegister, P: BitOrder<S>>(
+    question: Question,
+    here: BitSlice<R, O>,
+    there: BitSlice<S, P>,
+) -> Option<Value> {
+    match question {
+        Question::Equals => Some(equality(here.equals(&there), there.equals(&here))),
+        Question::FirstDifference => Some(place_value(here.first_difference(&there))),
+        Question::Compare => Some(comparison(here.compare(&there))),
+        Question::Find => Some(place_value(here.find(&there))),
+        Question::Contains => Some(Value::Truth(here.contains(&there))),
+        _ if here.len() != there.len() => None,
+        _ => value_of_one_length(question, here, there),
     }
 }
 
-// Writes whether two slices have the same bits, asked of the one and of the other; tells whether
-// both lie in their memories.
-fn write_equal<R: BitRegister, O: BitOrder<R>, S: BitRegister, P: BitOrder<S>, A: Allocator>(
-    text: &mut String<A>,
-    span: BitSpan<R, O>,
-    memory: &[R],
-    there: BitSpan<S, P>,
-    other: &[S],
-) -> Result<bool, AllocError> {
-    let (Some(here), Some(there)) = (BitSlice::new(span, memory), BitSlice::new(there, other))
-    else {
-        return Ok(false);
-    };
-    begin_item(text)?;
-    text.push_str(match (here.equals(&there), there.equals(&here)) {
+// The answer to a question of two slices of one length.
+fn value_of_one_length<R: BitRegister, O: BitOrder<R>, S: BitRegister, P: BitOrder<S>>(
+    question: Question,
+    here: BitSlice<R, O>,
+    there: BitSlice<S, P>,
+) -> Option<Value> {
+    if here.len() != there.len() {
+        return None;
+    }
+    match question {
+        Question::IsSubset => Some(Value::Truth(here.is_subset(&there))),
+        Question::Intersects => Some(Value::Truth(here.intersects(&there))),
+        Question::CountAnd => Some(Value::Number(here.count_and(&there))),
+        Question::FirstAnd => Some(place_value(here.first_and(&there))),
+        Question::FirstAndNot => Some(place_value(here.first_and_not(&there))),
+        _ => None,
+    }
+}
+
+// Whether two are equal, asked of the one and of the other.
+fn equality(way: bool, back: bool) -> Value {
+    Value::Name(match (way, back) {
         (true, true) => "true",
         (false, false) => "false",
         _ => "one way",
-    })?;
-    Ok(true)
+    })
+}
+
+// The name of an ordering.
+fn comparison(ordering: Ordering) -> Value {
+    Value::Name(match ordering {
+        Ordering::Less => "less",
+        Ordering::Equal => "equal",
+        Ordering::Greater => "greater",
+    })
 }
 
 // Writes whether two slices have the same bits, and then for each bit of the second whether they
 // have them with it turned over.
-fn write_equal_each<R: BitRegister, O: BitOrder<R>, S: BitRegister, P: BitOrder<S>, A: Allocator>(
-    text: &mut String<A>,
-    span: BitSpan<R, O>,
-    memory: &[R],
+fn write_equal_each<R: BitRegister, O: BitOrder<R>, S: BitRegister, P: BitOrder<S>>(
+    out: &mut Answer,
+    here: BitSlice<R, O>,
     there: BitSpan<S, P>,
     other: &mut [S],
-) -> Result<bool, AllocError> {
-    if !write_equal(text, span, memory, there, other)? {
-        return Ok(false);
-    }
+) -> Option<()> {
+    write_equal(out, here, there, other)?;
     for i in 0..there.len() {
         turn_over(there, other, i);
-        write_equal(text, span, memory, there, other)?;
+        write_equal(out, here, there, other)?;
         turn_over(there, other, i);
     }
-    Ok(true)
+    Some(())
+}
+
+// Writes whether two slices have the same bits.
+fn write_equal<R: BitRegister, O: BitOrder<R>, S: BitRegister, P: BitOrder<S>>(
+    out: &mut Answer,
+    here: BitSlice<R, O>,
+    there: BitSpan<S, P>,
+    other: &[S],
+) -> Option<()> {
+    let there = BitSlice::new(there, other)?;
+    out.item(&[value_of(Question::Equals, here, there)?]);
+    Some(())
 }
 
 // Turns a bit of a span over, where the span has it.
@@ -194,46 +299,5 @@ fn turn_over<S: BitRegister, P: BitOrder<S>>(span: BitSpan<S, P>, memory: &mut [
     if span.fits(memory.len()) && i < span.len() {
         let bit = span.read(memory, i);
         span.write(memory, i, !bit);
-    }
-}
-
-// Copies the bits of the second to the first, by their spans or by their slices, and tells whether
-// both lie in their memories and have as many bits.
-fn is_copied<R: BitRegister, O: BitOrder<R>, S: BitRegister, P: BitOrder<S>>(
-    name: &str,
-    span: BitSpan<R, O>,
-    memory: &mut [R],
-    there: BitSpan<S, P>,
-    other: &[S],
-) -> bool {
-    if !span.fits(memory.len()) || !there.fits(other.len()) || span.len() != there.len() {
-        return false;
-    }
-    match name {
-        "copy_from" => {
-            span.copy_from(memory, there, other);
-            true
-        }
-        "copy_from_bitslice" => is_copied_by_slices(span, memory, there, other),
-        _ => false,
-    }
-}
-
-// The same by slices.
-fn is_copied_by_slices<R: BitRegister, O: BitOrder<R>, S: BitRegister, P: BitOrder<S>>(
-    span: BitSpan<R, O>,
-    memory: &mut [R],
-    there: BitSpan<S, P>,
-    other: &[S],
-) -> bool {
-    let Some(source) = BitSlice::new(there, other) else {
-        return false;
-    };
-    match BitSliceMut::new(span, memory) {
-        Ok(mut slice) if source.len() == slice.len() => {
-            slice.copy_from_bitslice(source);
-            true
-        }
-        _ => false,
     }
 }

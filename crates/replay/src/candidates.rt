@@ -1,27 +1,26 @@
 //! Candidates for orders, and the first fault of each.
 
+use crate::answer::Answer;
 use bits_text::hilo::HiLo;
 use bits_text::lines::candidate::{BadOpen, BadPart, BadSelect, Constant};
 use bits_text::lines::verify::write_fault;
 use bitvec::mem::BitRegister;
 use bitvec::order::{ByNumbers, ByPosition, Lsb0, Msb0, OrderFault, verify_for_type};
-use std::alloc::{AllocError, Allocator};
 
-/// Writes `ok` for a candidate that is an order of the register, or its first fault, and tells
-/// whether the words name one.
-pub fn write_answer<R: BitRegister, A: Allocator>(
-    text: &mut String<A>,
-    words: &[&str],
-) -> Result<bool, AllocError> {
+/// Writes `ok` for a candidate that is an order of the register, or its first fault; `None` where
+/// the words name none.
+pub fn write_answer<R: BitRegister>(out: &mut Answer, words: &[&str]) -> Option<()> {
     let [candidate] = words else {
-        return Ok(false);
+        return None;
     };
-    match verified::<R>(candidate) {
-        Some(Ok(())) => text.push_str("ok")?,
-        Some(Err(fault)) => write_fault(text, fault)?,
-        None => return Ok(false),
+    match verified::<R>(candidate)? {
+        Ok(()) => out.push("ok"),
+        Err(fault) => {
+            let written = write_fault(&mut out.text, fault);
+            out.note(written);
+        }
     }
-    Ok(true)
+    Some(())
 }
 
 // What the verifier says of the candidate of a name; `None` where there is none.

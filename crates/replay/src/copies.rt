@@ -8,137 +8,107 @@ ghost use Rattle.bitvec.specs.Steps.{RangeIsIn};
 ghost use Rattle.bitvec_ptr.specs.BitPtr.{far_edge};
 ghost use Rattle.bitvec_ptr.specs.WordWriter.{writer_of};
 
-use crate::memories::range_start;
-use crate::pointers::calls_of;
-use bits_text::number::place;
-use bits_text::words::{words_of, write_words};
+use crate::answer::Answer;
+use crate::memories::{Range, range_of, range_start};
+use crate::values::{Value, count_of};
 use bitvec::mem::BitRegister;
 use bitvec::order::{BitOrder, Lsb0, Msb0};
 use bitvec::ptr::single::BitPtr;
 use bitvec::ptr::span::BitSpan;
 use bitvec_ptr::ptr::combine::{And, Combine, Xor};
 use bitvec_ptr::ptr::writer::WordWriter;
-use std::alloc::{AllocError, Allocator};
-use std::fmt::Write as _;
 
-/// Writes the library's answer to a question, and tells whether the words ask one.
+/// Writes the library's answer to a question; `None` where the words ask none.
 ///
 /// The words are an order, the register `u8`, a memory, `rising` or `falling`, and the steps of a
 /// writer of that memory. The answer is that of each step, and the memory in the end.
-pub fn write_answer<'a, A: Allocator>(
-    text: &mut String<&'a A>,
-    alloc: &'a A,
-    words: &[&str],
-) -> Result<bool, AllocError> {
+pub fn write_answer(out: &mut Answer, words: &[&str]) -> Option<()> {
     let [order, register, memory, direction, steps @ ..] = words else {
-        return Ok(false);
+        return None;
     };
     if *register != "u8" || !(*direction == "rising" || *direction == "falling") {
-        return Ok(false);
+        return None;
     }
-    let Some(mut memory) = words_of::<u8, A>(alloc, memory)? else {
-        return Ok(false);
-    };
+    let mut memory = out.memory::<u8>(memory)?;
     let is_rising = *direction == "rising";
-    let steps = calls_of(alloc, steps)?;
-    let are_steps = match *order {
-        "lsb0" => write_steps::<Lsb0, A>(text, alloc, &mut memory, is_rising, steps.trim_end())?,
-        "msb0" => write_steps::<Msb0, A>(text, alloc, &mut memory, is_rising, steps.trim_end())?,
-        _ => false,
-    };
-    text.push_str(" ")?;
-    write_words(text, &memory)?;
-    Ok(are_steps)
+    match *order {
+        "lsb0" => write_steps::<Lsb0>(out, &mut memory, is_rising, steps)?,
+        "msb0" => write_steps::<Msb0>(out, &mut memory, is_rising, steps)?,
+        _ => return None,
+    }
+    out.push(" ");
+    out.words(&memory);
+    Some(())
 }
 
-// Writes the answers of a writer of a memory to steps, and tells whether each is one.
-fn write_steps<'a, O: BitOrder<u8>, A: Allocator>(
-    text: &mut String<&'a A>,
-    alloc: &'a A,
+// Writes the answers of a writer of a memory to steps; `None` where one of them is none.
+fn write_steps<O: BitOrder<u8>>(
+    out: &mut Answer,
     memory: &mut [u8],
     is_rising: bool,
-    steps: &str,
-) -> Result<bool, AllocError> {
+    steps: &[&str],
+) -> Option<()> {
     let mut writer = if is_rising {
         WordWriter::rising(memory)
     } else {
         WordWriter::falling(memory)
     };
-    let mut is_first = true;
-    for step in steps.split(';') {
-        if !is_first {
-            text.push_str(";")?;
-        }
-        is_first = false;
-        let words: Vec<&str, &'a A> = step.split(' ').collect(alloc)?;
-        if !write_step::<O, A>(text, alloc, &mut writer, &words)? {
-            return Ok(false);
-        }
+    let steps = out.joined(steps);
+    for step in steps.trim_end().split(';') {
+        out.begin_item();
+        let words = out.pieces(step, ' ')?;
+        write_step::<O>(out, &mut writer, &words)?;
     }
-    Ok(true)
+    Some(())
 }
 
-// Writes the answer of a writer to a step, and tells whether it is one.
-fn write_step<'a, O: BitOrder<u8>, A: Allocator>(
-    text: &mut String<&'a A>,
-    alloc: &'a A,
+// Writes the answer of a writer to a step; `None` where it is none.
+fn write_step<O: BitOrder<u8>>(
+    out: &mut Answer,
     writer: &mut WordWriter<u8>,
     words: &[&str],
-) -> Result<bool, AllocError> {
-    let done = match words {
+) -> Option<()> {
+    match words {
         ["is_rising"] => {
-            let is_rising = writer.is_rising();
-            write!(text, "{is_rising}")?;
-            return Ok(true);
+            out.value(Value::Truth(writer.is_rising()));
+            return Some(());
         }
-        ["get", k] => return write_word(text, writer, k),
-        ["skip_to", k] => skipped(writer, k),
-        ["within", range @ ..] => copied_within::<O>(writer, range),
-        ["from", order, register, memory, range @ ..] => {
-            copied_from::<O, A>(alloc, writer, (order, register), memory, range)?
+        ["get", k] => {
+            out.value(word_of(writer, count_of(k)?)?);
+            return Some(());
         }
-        [operator, memory, range @ ..] => {
-            combined::<O, A>(alloc, writer, operator, memory, range)?
+        ["skip_to", k] => skipped(writer, count_of(k)?)?,
+        ["within", from, to, count] => { copied_within::<O>(writer, range_of(from, to, count)?)? }
+        ["from", order, register, memory, from, to, count] => {
+            let range = range_of(from, to, count)?;
+            copied_from::<O>(out, writer, (order, register), memory, range)?
         }
-        _ => None,
-    };
-    match done {
-        Some(()) => {
-            write_progress(text, writer)?;
-            Ok(true)
+        [operator, memory, from, to, count] => {
+            let memory = out.memory::<u8>(memory)?;
+            let range = range_of(from, to, count)?;
+            match *operator {
+                "and" => combined_by::<And, O>(writer, &memory, range)?,
+                "xor" => combined_by::<Xor, O>(writer, &memory, range)?,
+                _ => return None,
+            }
         }
-        None => Ok(false),
+        _ => return None,
     }
+    out.values(&[Value::Number(writer.writes()), Value::Number(writer.mark())]);
+    Some(())
 }
 
-// Writes how many words a writer has put, and where its mark stands.
-fn write_progress<A: Allocator>(
-    text: &mut String<A>,
-    writer: &WordWriter<u8>,
-) -> Result<(), AllocError> {
-    let writes = writer.writes();
-    let mark = writer.mark();
-    write!(text, "{writes} {mark}")
-}
-
-// Writes a word of a writer as it is now, and tells whether there is one.
-fn write_word<A: Allocator>(
-    text: &mut String<A>,
-    writer: &WordWriter<u8>,
-    k: &str,
-) -> Result<bool, AllocError> {
-    match k.parse::<usize>() {
-        Ok(k) if k < writer.len() => {
-            write_words(text, &[writer.get(k)])?;
-            Ok(true)
-        }
-        _ => Ok(false),
+// A word of a writer as it is now; `None` where there is none.
+fn word_of(writer: &WordWriter<u8>, k: usize) -> Option<Value> {
+    if k < writer.len() {
+        Some(Value::Word(u128::from(writer.get(k))))
+    } else {
+        None
     }
 }
 
 // Moves the mark of a writer to a word on its way.
-fn skipped(writer: &mut WordWriter<u8>, k: &str) -> Option<()> {
-    let k = k.parse::<usize>().ok()?;
+fn skipped(writer: &mut WordWriter<u8>, k: usize) -> Option<()> {
     let is_on_its_way = if writer.is_rising() {
         writer.mark() <= k && k <= writer.len()
     } else {
@@ -175,16 +145,12 @@ fn stands_at<R: BitRegister, O>(writer: &WordWriter<R>, to: BitPtr<R, O>, count:
     }
 }
 
-// Copies bits within the memory of a writer; `None` where the words say no two ranges in it, or
-// where the writer stands elsewhere or goes the other way.
-fn copied_within<O: BitOrder<u8>>(writer: &mut WordWriter<u8>, words: &[&str]) -> Option<()> {
-    let [from, to, count] = words else {
-        return None;
-    };
-    let count = place(count)?;
-    let from = range_start::<u8, O>(writer.len(), from, count)?;
-    let to = range_start::<u8, O>(writer.len(), to, count)?;
-    let count = count as usize;
+// Copies bits within the memory of a writer; `None` where a range passes it, or where the writer
+// stands elsewhere or goes the other way.
+fn copied_within<O: BitOrder<u8>>(writer: &mut WordWriter<u8>, range: Range) -> Option<()> {
+    let from = range_start::<u8, O>(writer.len(), range.from, range.count)?;
+    let to = range_start::<u8, O>(writer.len(), range.to, range.count)?;
+    let count = range.count as usize;
     if !stands_at(writer, to, count) || (count > 0 && writer.is_rising() != (to <= from)) {
         return None;
     }
@@ -193,49 +159,30 @@ fn copied_within<O: BitOrder<u8>>(writer: &mut WordWriter<u8>, words: &[&str]) -
 }
 
 // Copies bits of a memory of an order and a register to those of the writer.
-fn copied_from<P: BitOrder<u8>, A: Allocator>(
-    alloc: &A,
+fn copied_from<P: BitOrder<u8>>(
+    out: &mut Answer,
     writer: &mut WordWriter<u8>,
     names: (&str, &str),
     memory: &str,
-    words: &[&str],
-) -> Result<Option<()>, AllocError> {
+    range: Range,
+) -> Option<()> {
     match names {
-        ("lsb0", "u8") => copied_from_words::<u8, Lsb0, P, A>(alloc, writer, memory, words),
-        ("msb0", "u16") => copied_from_words::<u16, Msb0, P, A>(alloc, writer, memory, words),
-        ("msb0", "u128") => copied_from_words::<u128, Msb0, P, A>(alloc, writer, memory, words),
-        _ => Ok(None),
+        ("lsb0", "u8") => copied::<u8, Lsb0, P>(writer, &out.memory::<u8>(memory)?, range),
+        ("msb0", "u16") => copied::<u16, Msb0, P>(writer, &out.memory::<u16>(memory)?, range),
+        ("msb0", "u128") => copied::<u128, Msb0, P>(writer, &out.memory::<u128>(memory)?, range),
+        _ => None,
     }
 }
 
-// The same for a register and an order.
-fn copied_from_words<R: BitRegister, O: BitOrder<R>, P: BitOrder<u8>, A: Allocator>(
-    alloc: &A,
-    writer: &mut WordWriter<u8>,
-    memory: &str,
-    words: &[&str],
-) -> Result<Option<()>, AllocError> {
-    let [from, to, count] = words else {
-        return Ok(None);
-    };
-    match words_of::<R, A>(alloc, memory)? {
-        Some(memory) => Ok(copied::<R, O, P>(writer, &memory, from, to, count)),
-        None => Ok(None),
-    }
-}
-
-// Copies bits of a memory to those of the writer, from a place to a place.
+// Copies bits of a memory to those of the writer.
 fn copied<R: BitRegister, O: BitOrder<R>, P: BitOrder<u8>>(
     writer: &mut WordWriter<u8>,
     memory: &[R],
-    from: &str,
-    to: &str,
-    count: &str,
+    range: Range,
 ) -> Option<()> {
-    let count = place(count)?;
-    let from = range_start::<R, O>(memory.len(), from, count)?;
-    let to = range_start::<u8, P>(writer.len(), to, count)?;
-    let count = count as usize;
+    let from = range_start::<R, O>(memory.len(), range.from, range.count)?;
+    let to = range_start::<u8, P>(writer.len(), range.to, range.count)?;
+    let count = range.count as usize;
     if !stands_at(writer, to, count) {
         return None;
     }
@@ -243,39 +190,15 @@ fn copied<R: BitRegister, O: BitOrder<R>, P: BitOrder<u8>>(
     Some(())
 }
 
-// Combines bits of a memory with those of the writer, both of one order, by an operator.
-fn combined<O: BitOrder<u8>, A: Allocator>(
-    alloc: &A,
-    writer: &mut WordWriter<u8>,
-    operator: &str,
-    memory: &str,
-    words: &[&str],
-) -> Result<Option<()>, AllocError> {
-    let [from, to, count] = words else {
-        return Ok(None);
-    };
-    let Some(memory) = words_of::<u8, A>(alloc, memory)? else {
-        return Ok(None);
-    };
-    Ok(match operator {
-        "and" => combined_by::<And, O>(writer, &memory, from, to, count),
-        "xor" => combined_by::<Xor, O>(writer, &memory, from, to, count),
-        _ => None,
-    })
-}
-
-// The same by an operator of a type, from a place to a place.
+// Combines bits of a memory with those of the writer, both of one order.
 fn combined_by<C: Combine, O: BitOrder<u8>>(
     writer: &mut WordWriter<u8>,
     memory: &[u8],
-    from: &str,
-    to: &str,
-    count: &str,
+    range: Range,
 ) -> Option<()> {
-    let count = place(count)?;
-    let from = range_start::<u8, O>(memory.len(), from, count)?;
-    let to = range_start::<u8, O>(writer.len(), to, count)?;
-    let count = count as usize;
+    let from = range_start::<u8, O>(memory.len(), range.from, range.count)?;
+    let to = range_start::<u8, O>(writer.len(), range.to, range.count)?;
+    let count = range.count as usize;
     if !stands_at(writer, to, count) {
         return None;
     }

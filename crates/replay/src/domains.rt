@@ -4,103 +4,136 @@ ghost use Rattle.std.specs.Prelude.{length};
 ghost use Rattle.bitvec.specs.BitSpan.{span_of};
 ghost use Rattle.bitvec.specs.Span.{Fits};
 
+use crate::answer::Answer;
 use crate::spans::span_at;
-use bits_text::words::words_of;
+use crate::values::named;
+use bitvec::domain::Domain;
 use bitvec::mem::BitRegister;
 use bitvec::order::BitOrder;
 use bitvec::ptr::span::BitSpan;
-use std::alloc::{AllocError, Allocator};
+use std::fmt::{self, Write as _};
 
 mod edits;
 mod items;
 mod made;
 mod partial;
-mod shown;
 
-/// Writes the answer to a question of a domain, and tells whether the words ask one.
+/// Writes the answer to a question of a domain; `None` where the words ask none.
 ///
 /// The kinds are `domain`, `back`, `mixed`, `bit_domain`, `domain_mut` and `text` of a span's
 /// domain, `partial` of one part of a word, `region` of a region that is made of a span's parts and
 /// other words, and `default` of the domains of no span.
-pub fn write_answer<'a, R: BitRegister, O: BitOrder<R>, A: Allocator>(
-    text: &mut String<&'a A>,
-    alloc: &'a A,
+pub fn write_answer<R: BitRegister, O: BitOrder<R>>(
+    out: &mut Answer,
     kind: &str,
     words: &[&str],
-) -> Result<bool, AllocError> {
+) -> Option<()> {
     let [memory, details @ ..] = words else {
-        return Ok(false);
+        return None;
     };
     if kind == "default" {
-        return made::write_default::<R, O, &'a A>(text, memory);
+        let (head, body, tail) = made::shape::<R, O>(memory)?;
+        out.values(&[head, body, tail]);
+        return Some(());
     }
-    match words_of::<R, A>(alloc, memory)? {
-        Some(memory) if kind == "region" => {
-            made::write_region::<R, O, A>(text, alloc, &memory, details)
+    let mut memory = out.memory::<R>(memory)?;
+    match (kind, details) {
+        ("region", [start, len, body, pattern]) => {
+            let body = out.memory::<R>(body)?;
+            made::write_region(out, span_at::<R, O>(start, len)?, &memory, &body, pattern)
         }
-        Some(mut memory) if kind == "partial" => {
-            partial::write_answer::<R, O, &'a A>(text, &mut memory, details)
+        ("partial", [head, tail, edits @ ..]) => {
+            partial::write_answer::<R, O>(out, &mut memory, head, tail, edits)
         }
-        Some(mut memory) => write_of_span::<R, O, &'a A>(text, kind, &mut memory, details),
-        None => Ok(false),
+        (_, [start, len, details @ ..]) => {
+            write_of_span(
+                out,
+                kind,
+                span_at::<R, O>(start, len)?,
+                &mut memory,
+                details,
+            )
+        }
+        _ => None,
     }
 }
 
-// Writes the answer to a question of a span in a memory, and tells whether there is one.
-fn write_of_span<R: BitRegister, O: BitOrder<R>, A: Allocator>(
-    text: &mut String<A>,
-    kind: &str,
-    memory: &mut [R],
-    words: &[&str],
-) -> Result<bool, AllocError> {
-    let [start, len, details @ ..] = words else {
-        return Ok(false);
-    };
-    let Some(span) = span_at::<R, O>(start, len) else {
-        return Ok(false);
-    };
-    if !span.fits(memory.len()) {
-        return Ok(false);
-    }
-    write_of_domain(text, kind, span, memory, details)
-}
-
-// Writes the answer to a question of the domain of a span, and tells whether there is one.
-fn write_of_domain<R: BitRegister, O: BitOrder<R>, A: Allocator>(
-    text: &mut String<A>,
+// Writes the answer to a question of a span in a memory; `None` where it does not fit it, or there
+// is none.
+fn write_of_span<R: BitRegister, O: BitOrder<R>>(
+    out: &mut Answer,
     kind: &str,
     span: BitSpan<R, O>,
     memory: &mut [R],
     details: &[&str],
-) -> Result<bool, AllocError>
-    requires { Fits R.BITS (span_of span) (length memory.old) }
-{
-    match details {
-        [] => write_items(text, kind, span, memory),
-        [pattern] if kind == "mixed" => items::write_mixed(text, span.domain(memory), pattern),
-        [form] if kind == "text" => shown::write_shown(text, span.domain(memory), form),
-        [name, argument] if kind == "domain_mut" => {
-            edits::write_edited(text, span, memory, name, argument)
+) -> Option<()> {
+    if !span.fits(memory.len()) {
+        return None;
+    }
+    match (kind, details) {
+        ("domain", []) => items::write_parts(out, span, memory),
+        ("back", []) => items::write_back(out, span.domain(memory)),
+        ("bit_domain", []) => items::write_bits(out, span, memory),
+        ("mixed", [pattern]) => items::write_mixed(out, span.domain(memory), pattern),
+        ("text", [form]) => write_shown(out, span.domain(memory), form),
+        ("domain_mut", [name, argument]) => {
+            edits::write_edited(out, span, memory, edits::Edit::of_name(name, argument)?)
         }
-        _ => Ok(false),
+        _ => None,
     }
 }
 
-// Writes the parts of a domain, its items from the back on or its bits, and tells whether the kind
-// asks one of them.
-fn write_items<R: BitRegister, O: BitOrder<R>, A: Allocator>(
-    text: &mut String<A>,
-    kind: &str,
-    span: BitSpan<R, O>,
-    memory: &[R],
-) -> Result<bool, AllocError>
-    requires { Fits R.BITS (span_of span) (length memory.now) }
-{
-    match kind {
-        "domain" => items::write_parts(text, span, memory)?,
-        "back" => items::write_back(text, span.domain(memory))?,
-        "bit_domain" => items::write_bits(text, span, memory)?,
-        _ => return Ok(false),
+// A form of text.
+#[derive(Clone, Copy, Drop)]
+enum Form {
+    Decimal,
+    Binary,
+    Octal,
+    LowerHex,
+    UpperHex,
+}
+
+const FORMS: [(&str, Form); 5] = [
+    ("d", Form::Decimal),
+    ("b", Form::Binary),
+    ("o", Form::Octal),
+    ("x", Form::LowerHex),
+    ("X", Form::UpperHex),
+];
+
+// A domain in a form, for format texts.
+#[derive(Drop)]
+struct Shown<'a, R: BitRegister, O> {
+    domain: Domain<'a, R, O>,
+    form: Form,
+}
+
+impl<'a, R: BitRegister, O: BitOrder<R>> fmt::Display for Shown<'a, R, O> {
+    fn fmt<W: fmt::Write>(&self, f: &mut fmt::Formatter<W>) -> fmt::Result {
+        match self.form {
+            Form::Decimal => fmt::Display::fmt(&self.domain, f),
+            Form::Binary => fmt::Binary::fmt(&self.domain, f),
+            Form::Octal => fmt::Octal::fmt(&self.domain, f),
+            Form::LowerHex => fmt::LowerHex::fmt(&self.domain, f),
+            Form::UpperHex => fmt::UpperHex::fmt(&self.domain, f),
+        }
     }
-    Ok(true)
+}
+
+// Writes a domain in the form of a name, and under a width, which it does not follow, where the
+// name begins with one, as `>20x`; `None` where there is no such form.
+fn write_shown<R: BitRegister, O: BitOrder<R>>(
+    out: &mut Answer,
+    domain: Domain<R, O>,
+    name: &str,
+) -> Option<()> {
+    let wide = name.strip_prefix(">20");
+    let form = named(&FORMS, wide.unwrap_or(name))?;
+    let shown = Shown { domain, form };
+    let written = match wide {
+        Some(_) => write!(out.text, "{shown:>20}"),
+        None => write!(out.text, "{shown}"),
+    };
+    out.note(written);
+    Some(())
 }

@@ -3,7 +3,8 @@
 //! A line asks one public call: its kind, the words of the question, and the answer behind ` -> `.
 //! The answers of the Rust crate's own code came in older forms, and keep these.
 
-use std::alloc::{AllocError, Allocator};
+use crate::values::named;
+use std::alloc::{AllocError, Global};
 
 /// What a line asks of.
 #[derive(Clone, Copy, Drop)]
@@ -46,11 +47,11 @@ pub enum Topic {
 
 /// A line: what is asked, and the answer.
 #[derive(Drop)]
-pub struct Line<'t, A: Allocator> {
+pub struct Line<'t, 'a> {
     /// What it asks of.
     pub topic: Topic,
     /// The words of the question, after its kind.
-    pub question: Vec<&'t str, A>,
+    pub question: Vec<&'t str, &'a Global>,
     /// The answer's text.
     pub answer: &'t str,
 }
@@ -76,71 +77,139 @@ impl Form {
     }
 }
 
-// What the lines of a kind ask of, and their form; `None` where there is no such kind.
-fn topic_and_form_of(kind: &str) -> Option<(Topic, Form)> {
-    let found = match kind {
-        "next" | "prev" => (Topic::Index, words_of_both(2)),
-        "offset" | "span" | "end_span" | "elements" => (Topic::Index, words_of_both(3)),
-        "mask" => (Topic::Masks, words_of_both(4)),
-        "index_text" => (
+// What the lines of a kind ask of, and their form.
+const KINDS: [(&str, (Topic, Form)); 46] = [
+    (
+        "next",
+        (
+            Topic::Index,
+            Form::Words {
+                asked: 2,
+                before: 2,
+            },
+        ),
+    ),
+    (
+        "prev",
+        (
+            Topic::Index,
+            Form::Words {
+                asked: 2,
+                before: 2,
+            },
+        ),
+    ),
+    (
+        "offset",
+        (
+            Topic::Index,
+            Form::Words {
+                asked: 3,
+                before: 3,
+            },
+        ),
+    ),
+    (
+        "span",
+        (
+            Topic::Index,
+            Form::Words {
+                asked: 3,
+                before: 3,
+            },
+        ),
+    ),
+    (
+        "end_span",
+        (
+            Topic::Index,
+            Form::Words {
+                asked: 3,
+                before: 3,
+            },
+        ),
+    ),
+    (
+        "elements",
+        (
+            Topic::Index,
+            Form::Words {
+                asked: 3,
+                before: 3,
+            },
+        ),
+    ),
+    (
+        "mask",
+        (
+            Topic::Masks,
+            Form::Words {
+                asked: 4,
+                before: 4,
+            },
+        ),
+    ),
+    (
+        "index_text",
+        (
             Topic::Index,
             Form::Words {
                 asked: 2,
                 before: 1,
             },
         ),
-        "domain" | "back" | "mixed" | "bit_domain" | "text" => {
-            (Topic::Domains, Form::Between(" : "))
-        }
-        _ => (topic_of(kind)?, Form::Between(" -> ")),
-    };
-    Some(found)
-}
+    ),
+    ("domain", (Topic::Domains, Form::Between(" : "))),
+    ("back", (Topic::Domains, Form::Between(" : "))),
+    ("mixed", (Topic::Domains, Form::Between(" : "))),
+    ("bit_domain", (Topic::Domains, Form::Between(" : "))),
+    ("text", (Topic::Domains, Form::Between(" : "))),
+    ("numeral", (Topic::Numerals, Form::Between(" -> "))),
+    ("BitRegister", (Topic::Registers, Form::Between(" -> "))),
+    ("BitIdx", (Topic::Types, Form::Between(" -> "))),
+    ("BitEnd", (Topic::Types, Form::Between(" -> "))),
+    ("BitPos", (Topic::Types, Form::Between(" -> "))),
+    ("BitSel", (Topic::Types, Form::Between(" -> "))),
+    ("BitMask", (Topic::Types, Form::Between(" -> "))),
+    ("BitOrder", (Topic::Orders, Form::Between(" -> "))),
+    ("verify", (Topic::Candidates, Form::Between(" -> "))),
+    ("span_new", (Topic::Pointers, Form::Between(" -> "))),
+    ("step", (Topic::Pointers, Form::Between(" -> "))),
+    ("offset_from", (Topic::Pointers, Form::Between(" -> "))),
+    ("range", (Topic::Pointers, Form::Between(" -> "))),
+    ("BitPtr", (Topic::Pointers, Form::Between(" -> "))),
+    ("BitPtrRange", (Topic::Pointers, Form::Between(" -> "))),
+    ("read", (Topic::Memories, Form::Between(" -> "))),
+    ("write", (Topic::Memories, Form::Between(" -> "))),
+    ("replace", (Topic::Memories, Form::Between(" -> "))),
+    ("swap", (Topic::Memories, Form::Between(" -> "))),
+    ("copy", (Topic::Memories, Form::Between(" -> "))),
+    ("swap2", (Topic::Pairs, Form::Between(" -> "))),
+    ("copy2", (Topic::Pairs, Form::Between(" -> "))),
+    ("copy_through", (Topic::Copies, Form::Between(" -> "))),
+    ("combine_through", (Topic::Copies, Form::Between(" -> "))),
+    ("combine", (Topic::Combinations, Form::Between(" -> "))),
+    ("BitSpan", (Topic::Spans, Form::Between(" -> "))),
+    ("domain_mut", (Topic::Domains, Form::Between(" -> "))),
+    ("partial", (Topic::Domains, Form::Between(" -> "))),
+    ("region", (Topic::Domains, Form::Between(" -> "))),
+    ("default", (Topic::Domains, Form::Between(" -> "))),
+    ("bits", (Topic::Program, Form::Between(" -> "))),
+    ("BitSlice", (Topic::Slices, Form::Between(" -> "))),
+    ("BitField", (Topic::Numbers, Form::Between(" -> "))),
+];
 
-// What the lines of a kind ask of whose answer stands behind an arrow; `None` where there is no such
-// kind.
-fn topic_of(kind: &str) -> Option<Topic> {
-    match kind {
-        "numeral" => Some(Topic::Numerals),
-        "BitRegister" => Some(Topic::Registers),
-        "BitIdx" | "BitEnd" | "BitPos" | "BitSel" | "BitMask" => Some(Topic::Types),
-        "BitOrder" => Some(Topic::Orders),
-        "verify" => Some(Topic::Candidates),
-        "span_new" | "step" | "offset_from" | "range" | "BitPtr" | "BitPtrRange" => {
-            Some(Topic::Pointers)
-        }
-        "read" | "write" | "replace" | "swap" | "copy" => Some(Topic::Memories),
-        "swap2" | "copy2" => Some(Topic::Pairs),
-        "copy_through" | "combine_through" => Some(Topic::Copies),
-        "combine" => Some(Topic::Combinations),
-        "BitSpan" => Some(Topic::Spans),
-        "domain_mut" | "partial" | "region" | "default" => Some(Topic::Domains),
-        "bits" => Some(Topic::Program),
-        "BitSlice" => Some(Topic::Slices),
-        "BitField" => Some(Topic::Numbers),
-        _ => None,
-    }
-}
-
-// The form of a line whose answer begins behind its question's `asked` words.
-fn words_of_both(asked: usize) -> Form {
-    Form::Words {
-        asked,
-        before: asked,
-    }
-}
-
-impl<'t, 'a, A: Allocator> Line<'t, &'a A> {
+impl<'t, 'a> Line<'t, 'a> {
     /// The line of a kind with this text after it; `None` where there is no such kind, or where the
     /// text has no answer.
-    pub fn of(alloc: &'a A, kind: &str, text: &'t str) -> Result<Option<Self>, AllocError> {
-        let Some((topic, form)) = topic_and_form_of(kind) else {
+    pub fn of(alloc: &'a Global, kind: &str, text: &'t str) -> Result<Option<Self>, AllocError> {
+        let Some((topic, form)) = named(&KINDS, kind) else {
             return Ok(None);
         };
         let Some((question, answer)) = form.parts(text) else {
             return Ok(None);
         };
-        let mut question: Vec<&'t str, &'a A> = question.split(' ').collect(alloc)?;
+        let mut question: Vec<&'t str, &'a Global> = question.split(' ').collect(alloc)?;
         if let Form::Words { asked, .. } = form {
             question.truncate(asked);
         }

@@ -7,6 +7,7 @@
 //! that lie in `data/`.
 #![tactic(auto)]
 
+mod answer;
 mod beside;
 mod candidates;
 mod combinations;
@@ -14,7 +15,6 @@ mod copies;
 mod domains;
 mod index;
 mod line;
-mod lists;
 mod memories;
 mod numbers;
 mod numerals;
@@ -25,7 +25,6 @@ mod program;
 mod question;
 mod registers;
 mod report;
-mod shown;
 mod slices;
 mod spans;
 mod types;

@@ -7,113 +7,142 @@ ghost use Rattle.bitvec.specs.BitPtr.{ptr_of};
 ghost use Rattle.bitvec.specs.Place.{place_of, region_max_bits};
 ghost use Rattle.bitvec.specs.Steps.{IsIn, RangeIsIn, AreApart};
 
+use crate::answer::Answer;
+use crate::values::{bit_value, is_one, named};
 use bits_text::number::place;
 use bits_text::places::pointer_at;
-use bits_text::words::{words_of, write_words};
 use bitvec::mem::BitRegister;
 use bitvec::order::BitOrder;
 use bitvec::ptr::single::BitPtr;
 use bitvec::ptr::span::BitSpan;
-use std::alloc::{AllocError, Allocator};
-use std::fmt::Write as _;
 
-/// Writes the answer to a question of a memory, and tells whether the words ask one.
+/// Writes the answer to a question of a memory; `None` where the words ask none.
 ///
 /// The kinds are `read`, `write`, `replace`, `swap` and `copy`; a copy may name its call last.
-pub fn write_answer<'a, R: BitRegister, O: BitOrder<R>, A: Allocator>(
-    text: &mut String<&'a A>,
-    alloc: &'a A,
+pub fn write_answer<R: BitRegister, O: BitOrder<R>>(
+    out: &mut Answer,
     kind: &str,
     words: &[&str],
-) -> Result<bool, AllocError> {
+) -> Option<()> {
     let [memory, details @ ..] = words else {
-        return Ok(false);
+        return None;
     };
-    match words_of::<R, A>(alloc, memory)? {
-        Some(mut memory) => {
-            let outcome = done::<R, O>(kind, details, &mut memory);
-            write_outcome(text, outcome, &memory)
-        }
-        None => Ok(false),
+    let mut memory = out.memory::<R>(memory)?;
+    let access = access_of(kind, details)?;
+    let bit = done::<R, O>(access, &mut memory)?;
+    if bit.is_some() {
+        out.value(bit_value(bit));
     }
+    match access {
+        Access::Read(_) => {}
+        Access::Replace(..) => {
+            out.push(" ");
+            out.words(&memory);
+        }
+        _ => out.words(&memory),
+    }
+    Some(())
 }
 
-// Whether a bit is one; `None` where the text is no bit.
-fn is_one(bit: &str) -> Option<bool> {
-    match bit {
-        "0" => Some(false),
-        "1" => Some(true),
+// Ways to copy within a memory.
+#[derive(Clone, Copy)]
+enum Copying {
+    Within,
+    FromWithin,
+    Nonoverlapping,
+}
+
+const COPYINGS: [(&str, Copying); 3] = [
+    ("copy_within", Copying::Within),
+    ("copy_from_within", Copying::FromWithin),
+    ("copy_within_nonoverlapping", Copying::Nonoverlapping),
+];
+
+// An access to a memory, at places.
+#[derive(Clone, Copy)]
+enum Access {
+    Read(u64),
+    Write(u64, bool),
+    Replace(u64, bool),
+    Swap(u64, u64),
+    Copy(Copying, Range),
+}
+
+/// Two places and a length.
+#[derive(Clone, Copy)]
+pub struct Range {
+    pub from: u64,
+    pub to: u64,
+    pub count: u64,
+}
+
+/// The range of three texts.
+pub fn range_of(from: &str, to: &str, count: &str) -> Option<Range> {
+    Some(Range {
+        from: place(from)?,
+        to: place(to)?,
+        count: place(count)?,
+    })
+}
+
+// The access that the words of a kind ask.
+fn access_of(kind: &str, words: &[&str]) -> Option<Access> {
+    match (kind, words) {
+        ("read", [at]) => Some(Access::Read(place(at)?)),
+        ("write", [at, bit]) => Some(Access::Write(place(at)?, is_one(bit)?)),
+        ("replace", [at, bit]) => Some(Access::Replace(place(at)?, is_one(bit)?)),
+        ("swap", [one, two]) => Some(Access::Swap(place(one)?, place(two)?)),
+        ("copy", [from, to, count]) => {
+            Some(Access::Copy(Copying::Within, range_of(from, to, count)?))
+        }
+        ("copy", [from, to, count, name]) => {
+            Some(Access::Copy(named(&COPYINGS, name)?, range_of(from, to, count)?))
+        }
         _ => None,
     }
 }
 
-// What an access answers: the bit that it read, or the memory that it left, or both.
-enum Outcome {
-    Bit(bool),
-    Memory,
-    BitAndMemory(bool),
-}
-
-// Writes what an access answers, where there is one, and tells whether there is.
-fn write_outcome<R: BitRegister, A: Allocator>(
-    text: &mut String<A>,
-    outcome: Option<Outcome>,
-    memory: &[R],
-) -> Result<bool, AllocError> {
-    match outcome {
-        Some(Outcome::Bit(bit)) => write!(text, "{}", u8::from(bit))?,
-        Some(Outcome::Memory) => write_words(text, memory)?,
-        Some(Outcome::BitAndMemory(bit)) => {
-            write!(text, "{} ", u8::from(bit))?;
-            write_words(text, memory)?;
-        }
-        None => return Ok(false),
-    }
-    Ok(true)
-}
-
-// Does the access of a kind; `None` where the words say none, or where one of its places is past
-// the memory.
-fn done<R: BitRegister, O: BitOrder<R>>(
-    kind: &str,
-    words: &[&str],
-    memory: &mut [R],
-) -> Option<Outcome> {
-    match words {
-        [at] if kind == "read" => {
+// Does an access, and gives the bit that it read; `None` where one of its places is past the
+// memory.
+fn done<R: BitRegister, O: BitOrder<R>>(access: Access, memory: &mut [R]) -> Option<Option<bool>> {
+    match access {
+        Access::Read(at) => {
             let pointer = pointer_in::<R, O>(memory.len(), at)?;
-            Some(Outcome::Bit(pointer.read(memory)))
+            return Some(Some(pointer.read(memory)));
         }
-        [at, with] => done_at::<R, O>(kind, at, with, memory),
-        [from, to, count] if kind == "copy" => {
-            copied::<R, O>("copy_within", from, to, place(count)?, memory)
+        Access::Write(at, bit) => pointer_in::<R, O>(memory.len(), at)?.write(memory, bit),
+        Access::Replace(at, bit) => {
+            let pointer = pointer_in::<R, O>(memory.len(), at)?;
+            return Some(Some(pointer.replace(memory, bit)));
         }
-        [from, to, count, name] if kind == "copy" => {
-            copied::<R, O>(name, from, to, place(count)?, memory)
+        Access::Swap(one, two) => {
+            let one = pointer_in::<R, O>(memory.len(), one)?;
+            let two = pointer_in::<R, O>(memory.len(), two)?;
+            one.swap_within(memory, two);
         }
-        _ => None,
+        Access::Copy(copying, range) => copied::<R, O>(copying, range, memory)?,
     }
+    Some(None)
 }
 
-// Copies `count` bits from a place on to those from another place on, by the call of a name.
+// Copies bits from a place on to those from another place on.
 fn copied<R: BitRegister, O: BitOrder<R>>(
-    name: &str,
-    from: &str,
-    to: &str,
-    count: u64,
+    copying: Copying,
+    range: Range,
     memory: &mut [R],
-) -> Option<Outcome> {
-    let from = range_start::<R, O>(memory.len(), from, count)?;
-    let to = range_start::<R, O>(memory.len(), to, count)?;
-    match name {
-        "copy_within" => from.copy_within(memory, to, count as usize),
-        "copy_from_within" => to.copy_from_within(memory, from, count as usize),
-        "copy_within_nonoverlapping" if are_apart(from, to, count as usize) => {
-            from.copy_within_nonoverlapping(memory, to, count as usize)
+) -> Option<()> {
+    let from = range_start::<R, O>(memory.len(), range.from, range.count)?;
+    let to = range_start::<R, O>(memory.len(), range.to, range.count)?;
+    let count = range.count as usize;
+    match copying {
+        Copying::Within => from.copy_within(memory, to, count),
+        Copying::FromWithin => to.copy_from_within(memory, from, count),
+        Copying::Nonoverlapping if are_apart(from, to, count) => {
+            from.copy_within_nonoverlapping(memory, to, count)
         }
-        _ => return None,
+        Copying::Nonoverlapping => return None,
     }
-    Some(Outcome::Memory)
+    Some(())
 }
 
 // Whether `count` bits from two pointers on are two spans that have no bit in common.
@@ -134,34 +163,11 @@ fn are_apart<R: BitRegister, O>(from: BitPtr<R, O>, to: BitPtr<R, O>, count: usi
     here.is_disjoint(&there)
 }
 
-// Does the access of a kind at a place, with a bit or with another place.
-fn done_at<R: BitRegister, O: BitOrder<R>>(
-    kind: &str,
-    at: &str,
-    with: &str,
-    memory: &mut [R],
-) -> Option<Outcome> {
-    let pointer = pointer_in::<R, O>(memory.len(), at)?;
-    match kind {
-        "write" => {
-            pointer.write(memory, is_one(with)?);
-            Some(Outcome::Memory)
-        }
-        "replace" => Some(Outcome::BitAndMemory(pointer.replace(memory, is_one(with)?))),
-        "swap" => {
-            let other = pointer_in::<R, O>(memory.len(), with)?;
-            pointer.swap_within(memory, other);
-            Some(Outcome::Memory)
-        }
-        _ => None,
-    }
-}
-
-/// The pointer to the place of a text in a memory of `words` words, or `None` where it is past it.
-pub fn pointer_in<R: BitRegister, O>(words: usize, at: &str) -> Option<BitPtr<R, O>>
+/// The pointer to a place in a memory of `words` words, or `None` where it is past it.
+pub fn pointer_in<R: BitRegister, O>(words: usize, at: u64) -> Option<BitPtr<R, O>>
     ensures { IfSome result (λ pointer. IsIn (ptr_of pointer) words) }
 {
-    let pointer = pointer_at::<R, O>(place(at)?);
+    let pointer = pointer_at::<R, O>(at);
     if pointer.is_in(words) {
         Some(pointer)
     } else {
@@ -169,16 +175,9 @@ pub fn pointer_in<R: BitRegister, O>(words: usize, at: &str) -> Option<BitPtr<R,
     }
 }
 
-/// The pointer to the first place of a range, from a text, in a memory of `words` words, or `None`
-/// where the range passes it.
-pub fn range_start<R: BitRegister, O>(words: usize, at: &str, count: u64) -> Option<BitPtr<R, O>>
-    ensures { IfSome result (λ pointer. RangeIsIn R.BITS (ptr_of pointer) words count) }
-{
-    range_at(words, place(at)?, count)
-}
-
-/// The same from a place.
-pub fn range_at<R: BitRegister, O>(words: usize, at: u64, count: u64) -> Option<BitPtr<R, O>>
+/// The pointer to the first place of a range in a memory of `words` words, or `None` where the
+/// range passes it.
+pub fn range_start<R: BitRegister, O>(words: usize, at: u64, count: u64) -> Option<BitPtr<R, O>>
     ensures { IfSome result (λ pointer. RangeIsIn R.BITS (ptr_of pointer) words count) }
 {
     let pointer = pointer_at::<R, O>(at);

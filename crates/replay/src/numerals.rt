@@ -2,26 +2,28 @@
 
 ghost use Rattle.std.specs.Prelude.{◌≤◌};
 
+use crate::answer::Answer;
+use crate::values::{count_of, small};
 use bits_text::number::number;
 use bitvec_mem::numeral::write_numeral;
-use std::alloc::{AllocError, Allocator};
 use std::fmt::{self, Write as _};
 
-/// Writes the library's answer to a question, and tells whether the words ask one.
+/// Writes the library's answer to a question; `None` where the words ask none.
 ///
 /// The words are the number, the base, the case of its letters and the least count of digits, and
 /// where a format with flags asks, `flags`.
-pub fn write_answer<A: Allocator>(
-    text: &mut String<A>,
-    words: &[&str],
-) -> Result<bool, AllocError> {
+pub fn write_answer(out: &mut Answer, words: &[&str]) -> Option<()> {
     let [n, base, case, least, flags @ ..] = words else {
-        return Ok(false);
+        return None;
     };
-    match numeral_of(n, base, case, least) {
-        Some(numeral) => write_shown(text, numeral, flags),
-        None => Ok(false),
-    }
+    let numeral = numeral_of(n, base, case, least)?;
+    let written = match flags {
+        [] => write!(out.text, "{numeral}"),
+        [word] if *word == "flags" => write!(out.text, "{numeral:+090.1}"),
+        _ => return None,
+    };
+    out.note(written);
+    Some(())
 }
 
 // A number to be written in a base.
@@ -45,8 +47,8 @@ impl fmt::Display for Numeral {
 // The numeral of these texts; `None` where there is none of them.
 fn numeral_of(n: &str, base: &str, case: &str, least: &str) -> Option<Numeral> {
     let n = number(n, 10, u128::MAX)?;
-    let base = base.parse::<u8>().ok()?;
-    let least = least.parse::<usize>().ok()?;
+    let base = small(base)?;
+    let least = count_of(least)?;
     let upper = match case {
         "lower" => false,
         "upper" => true,
@@ -61,18 +63,4 @@ fn numeral_of(n: &str, base: &str, case: &str, least: &str) -> Option<Numeral> {
         upper,
         least,
     })
-}
-
-// Writes a numeral plainly or with flags, and tells whether the words ask one of the two.
-fn write_shown<A: Allocator>(
-    text: &mut String<A>,
-    numeral: Numeral,
-    flags: &[&str],
-) -> Result<bool, AllocError> {
-    match flags {
-        [] => write!(text, "{numeral}")?,
-        [word] if *word == "flags" => write!(text, "{numeral:+090.1}")?,
-        _ => return Ok(false),
-    }
-    Ok(true)
 }

@@ -1,125 +1,112 @@
 //! Pointers to bits, their ranges, and the refusals of spans.
 
+use crate::answer::Answer;
 use crate::index::index_at;
-use crate::shown::write_two;
+use crate::values::{Value, count_of, named, signed};
 use bitvec::index::BitIdx;
 use bitvec::mem::BitRegister;
 use bitvec::order::Lsb0;
 use bitvec::ptr::range::{BitPtrRange, EmptyRange};
 use bitvec::ptr::single::BitPtr;
 use bitvec::ptr::span::{BitSpan, BitSpanError};
-use std::alloc::{AllocError, Allocator};
-use std::fmt::Write as _;
 use std::ops::{Bound, Range};
 
 mod calls;
 
-/// Writes the library's answer to a question of a kind, and tells whether it is one.
+/// Writes the library's answer to a question of a kind; `None` where it is none.
 ///
 /// A range is named by the place of its start and its length, or, as `BitPtrRange`, by its ends,
 /// each a word and a bit.
-pub fn write_answer<'a, R: BitRegister, A: Allocator>(
-    text: &mut String<&'a A>,
-    alloc: &'a A,
-    kind: &str,
-    words: &[&str],
-) -> Result<bool, AllocError> {
+pub fn write_answer<R: BitRegister>(out: &mut Answer, kind: &str, words: &[&str]) -> Option<()> {
     match kind {
-        "BitPtr" => calls::write_answer::<R, A>(text, alloc, words),
-        "range" => write_range_of_places::<R, A>(text, alloc, words),
-        "BitPtrRange" => write_range_of_ends::<R, A>(text, alloc, words),
-        _ => write_of_two_words::<R, &'a A>(text, kind, words),
+        "BitPtr" => calls::write_answer::<R>(out, words),
+        "range" => {
+            let [start, count, steps @ ..] = words else {
+                return None;
+            };
+            let range = range_of(bit_at::<R>(start)?, count_of(count)?)?;
+            write_range(out, range, Shown::Places, steps)
+        }
+        "BitPtrRange" => write_range_of_ends::<R>(out, words),
+        _ => {
+            let [word, bit, details @ ..] = words else {
+                return None;
+            };
+            let first = pointer::<R>(word, bit)?;
+            match details {
+                [word, bit] if kind == "offset_from" => {
+                    write_distance(out, first, pointer(word, bit)?)?
+                }
+                _ => out.value(value_of(kind, first, details)?),
+            }
+            Some(())
+        }
     }
 }
 
-// Writes the answer to a question whose first two words are a pointer.
-fn write_of_two_words<R: BitRegister, A: Allocator>(
-    text: &mut String<A>,
-    kind: &str,
-    words: &[&str],
-) -> Result<bool, AllocError> {
-    let [word, bit, details @ ..] = words else {
-        return Ok(false);
-    };
-    match pointer::<R>(word, bit) {
-        Some(first) => write_of_pointer(text, kind, first, details),
-        None => Ok(false),
-    }
-}
-
-// Writes the answer to a question of a pointer, and tells whether there is one.
-fn write_of_pointer<R: BitRegister, A: Allocator>(
-    text: &mut String<A>,
-    kind: &str,
-    first: BitPtr<R, Lsb0>,
-    details: &[&str],
-) -> Result<bool, AllocError> {
+// What a pointer answers to a question of a kind: whether there is a span, or the pointer after a
+// step.
+fn value_of<R: BitRegister>(kind: &str, first: BitPtr<R, Lsb0>, details: &[&str]) -> Option<Value> {
     match details {
-        [len] if kind == "span_new" => write_span(text, first, len),
-        [name, count] if kind == "step" => write_two(text, stepped(first, name, count)),
-        [word, bit] if kind == "offset_from" => write_distance(text, first, pointer(word, bit)),
-        _ => Ok(false),
+        [len] if kind == "span_new" => {
+            Some(Value::Name(match BitSpan::from_bitptr(first, count_of(len)?) {
+                Ok(_) => "ok",
+                Err(BitSpanError::TooLong(_)) => "too_long",
+                Err(BitSpanError::TooHigh(..)) => "too_high",
+            }))
+        }
+        [name, count] if kind == "step" => {
+            Some(pointer_value(stepped(first, named(&STEPS, name)?, count)?, Shown::Parts))
+        }
+        _ => None,
     }
-}
-
-// Writes whether there is a span, or why there is none.
-fn write_span<R: BitRegister, A: Allocator>(
-    text: &mut String<A>,
-    first: BitPtr<R, Lsb0>,
-    len: &str,
-) -> Result<bool, AllocError> {
-    let Ok(len) = len.parse::<usize>() else {
-        return Ok(false);
-    };
-    text.push_str(match BitSpan::from_bitptr(first, len) {
-        Ok(_) => "ok",
-        Err(BitSpanError::TooLong(_)) => "too_long",
-        Err(BitSpanError::TooHigh(..)) => "too_high",
-    })?;
-    Ok(true)
 }
 
 /// The pointer to a bit of a word.
 pub fn pointer<R: BitRegister>(word: &str, bit: &str) -> Option<BitPtr<R, Lsb0>> {
-    let word = word.parse::<isize>().ok()?;
-    Some(BitPtr::new(word, index_at(bit)?))
+    Some(BitPtr::new(signed(word)?, index_at(bit)?))
 }
 
-// The word and the bit of the pointer after a step.
-fn stepped<R: BitRegister>(start: BitPtr<R, Lsb0>, name: &str, count: &str) -> Option<(isize, u8)> {
-    let stepped = match name {
-        "offset" | "wrapping_offset" => signed_step(start, name, count.parse::<isize>().ok()?)?,
-        _ => counted_step(start, name, count.parse::<usize>().ok()?)?,
-    };
-    let (word, bit) = stepped.raw_parts();
-    Some((word, bit.into_inner()))
+// A step of a pointer.
+#[derive(Clone, Copy)]
+enum Step {
+    Offset,
+    WrappingOffset,
+    Add,
+    Sub,
+    WrappingAdd,
+    WrappingSub,
 }
 
-// The pointer after a step by a number of bits that may be negative.
-fn signed_step<R: BitRegister>(
+const STEPS: [(&str, Step); 6] = [
+    ("offset", Step::Offset),
+    ("wrapping_offset", Step::WrappingOffset),
+    ("add", Step::Add),
+    ("sub", Step::Sub),
+    ("wrapping_add", Step::WrappingAdd),
+    ("wrapping_sub", Step::WrappingSub),
+];
+
+// The pointer after a step by a number of bits; `None` where the step may not be taken.
+fn stepped<R: BitRegister>(
     start: BitPtr<R, Lsb0>,
-    name: &str,
-    count: isize,
+    step: Step,
+    count: &str,
 ) -> Option<BitPtr<R, Lsb0>> {
-    match name {
-        "wrapping_offset" => Some(start.wrapping_offset(count)),
-        "offset" if start.can_offset(count) => Some(start.offset(count)),
-        _ => None,
-    }
-}
-
-// The pointer after a step by a number of bits on or back.
-fn counted_step<R: BitRegister>(
-    start: BitPtr<R, Lsb0>,
-    name: &str,
-    count: usize,
-) -> Option<BitPtr<R, Lsb0>> {
-    match name {
-        "wrapping_add" => Some(start.wrapping_add(count)),
-        "wrapping_sub" => Some(start.wrapping_sub(count)),
-        "add" => added(start, count),
-        "sub" => subtracted(start, count),
-        _ => None,
+    match step {
+        Step::WrappingOffset => Some(start.wrapping_offset(signed(count)?)),
+        Step::WrappingAdd => Some(start.wrapping_add(count_of(count)?)),
+        Step::WrappingSub => Some(start.wrapping_sub(count_of(count)?)),
+        Step::Offset => {
+            let by = signed(count)?;
+            if start.can_offset(by) {
+                Some(start.offset(by))
+            } else {
+                None
+            }
+        }
+        Step::Add => added(start, count_of(count)?),
+        Step::Sub => subtracted(start, count_of(count)?),
     }
 }
 
@@ -143,134 +130,82 @@ fn subtracted<R: BitRegister>(start: BitPtr<R, Lsb0>, count: usize) -> Option<Bi
     }
 }
 
-// Writes the distance from an origin, and how the two pointers compare; tells whether there is a
-// distance.
-fn write_distance<R: BitRegister, A: Allocator>(
-    text: &mut String<A>,
+// Writes the distance from an origin, and how the two pointers compare.
+fn write_distance<R: BitRegister>(
+    out: &mut Answer,
     pointer: BitPtr<R, Lsb0>,
-    origin: Option<BitPtr<R, Lsb0>>,
-) -> Result<bool, AllocError> {
-    match origin {
-        Some(origin) if pointer.can_offset_from(origin) => {
-            let distance = pointer.offset_from(origin);
-            let ordering = pointer.cmp(&origin);
-            write!(text, "{distance} {ordering:?}")?;
-            Ok(true)
-        }
-        _ => Ok(false),
+    origin: BitPtr<R, Lsb0>,
+) -> Option<()> {
+    if !pointer.can_offset_from(origin) {
+        return None;
     }
+    let distance = pointer.offset_from(origin) as i128;
+    out.values(&[
+        Value::Signed(distance),
+        Value::Comparison(pointer.cmp(&origin)),
+    ]);
+    Some(())
 }
 
 // How the pointers of a range are written: by their places, or by word and bit.
-#[derive(Clone, Copy, PartialEq)]
+#[derive(Clone, Copy)]
 enum Shown {
     Places,
     Parts,
 }
 
-// Writes the answers of the range of `count` bits from a place on.
-fn write_range_of_places<'a, R: BitRegister, A: Allocator>(
-    text: &mut String<&'a A>,
-    alloc: &'a A,
-    words: &[&str],
-) -> Result<bool, AllocError> {
-    let [start, count, steps @ ..] = words else {
-        return Ok(false);
-    };
-    write_range::<R, A>(text, alloc, range_of(start, count), Shown::Places, steps)
-}
-
 // Writes the answers of the range between two pointers, or of one that has a name.
-fn write_range_of_ends<'a, R: BitRegister, A: Allocator>(
-    text: &mut String<&'a A>,
-    alloc: &'a A,
-    words: &[&str],
-) -> Result<bool, AllocError> {
-    let (range, steps): (Option<BitPtrRange<R, Lsb0>>, &[&str]) = match words {
-        [name, steps @ ..] if *name == "EMPTY" => (Some(BitPtrRange::EMPTY), steps),
-        [name, steps @ ..] if *name == "default" => (Some(BitPtrRange::default()), steps),
-        [from, first, upto, past, steps @ ..] => (range_between(from, first, upto, past), steps),
-        _ => return Ok(false),
+fn write_range_of_ends<R: BitRegister>(out: &mut Answer, words: &[&str]) -> Option<()> {
+    let (range, steps): (BitPtrRange<R, Lsb0>, &[&str]) = match words {
+        [name, steps @ ..] if *name == "EMPTY" => (BitPtrRange::EMPTY, steps),
+        [name, steps @ ..] if *name == "default" => (BitPtrRange::default(), steps),
+        [from, first, upto, past, steps @ ..] => {
+            (
+                range_between(pointer(from, first)?..pointer(upto, past)?)?,
+                steps,
+            )
+        }
+        _ => return None,
     };
-    write_range::<R, A>(text, alloc, range, Shown::Parts, steps)
+    write_range(out, range, Shown::Parts, steps)
 }
 
-// Writes the answers of a range to its calls, and its two ends after them; tells whether each is an
-// answer.
-fn write_range<'a, R: BitRegister, A: Allocator>(
-    text: &mut String<&'a A>,
-    alloc: &'a A,
-    range: Option<BitPtrRange<R, Lsb0>>,
+// Writes the answers of a range to its calls, and its two ends after them; `None` where one of them
+// is no call.
+fn write_range<R: BitRegister>(
+    out: &mut Answer,
+    range: BitPtrRange<R, Lsb0>,
     shown: Shown,
     steps: &[&str],
-) -> Result<bool, AllocError> {
-    let Some(mut range) = range else {
-        return Ok(false);
-    };
-    let calls = calls_of(alloc, steps)?;
-    if !write_answers(text, &mut range, shown, calls.trim_end())? {
-        return Ok(false);
+) -> Option<()> {
+    let mut range = range;
+    let calls = out.joined(steps);
+    for call in calls.trim_end().split(';') {
+        out.begin_item();
+        let answer = range_answer(&mut range, shown, call)?;
+        write_range_answer(out, answer);
     }
-    text.push_str(" ")?;
-    write_ends(text, range.start(), range.end(), shown)?;
-    Ok(true)
+    out.push(" ");
+    write_range_answer(out, ends_answer(range.start()..range.end(), shown));
+    Some(())
 }
 
-/// The text of calls, with a space after each word.
-pub fn calls_of<'a, A: Allocator>(
-    alloc: &'a A,
-    words: &[&str],
-) -> Result<String<&'a A>, AllocError> {
-    let mut calls = String::new(alloc);
-    for word in words {
-        write!(calls, "{word} ")?;
+// The range of `count` bits from a pointer on.
+fn range_of<R: BitRegister>(start: BitPtr<R, Lsb0>, count: usize) -> Option<BitPtrRange<R, Lsb0>> {
+    if start.can_offset(isize::try_from(count).ok()?) {
+        Some(start.range(count))
+    } else {
+        None
     }
-    Ok(calls)
 }
 
-// Writes a range's answers to calls, and tells whether each is one.
-fn write_answers<R: BitRegister, A: Allocator>(
-    text: &mut String<A>,
-    range: &mut BitPtrRange<R, Lsb0>,
-    shown: Shown,
-    calls: &str,
-) -> Result<bool, AllocError> {
-    let mut is_first = true;
-    for call in calls.split(';') {
-        if !is_first {
-            text.push_str(";")?;
-        }
-        is_first = false;
-        let Some(answer) = range_answer(range, shown, call) else {
-            return Ok(false);
-        };
-        write_range_answer(text, answer, shown)?;
+// The range between two pointers.
+fn range_between<R: BitRegister>(ends: Range<BitPtr<R, Lsb0>>) -> Option<BitPtrRange<R, Lsb0>> {
+    if BitPtrRange::can_range(&ends) {
+        Some(BitPtrRange::from_range(ends))
+    } else {
+        None
     }
-    Ok(true)
-}
-
-// The range of `count` bits from a place on.
-fn range_of<R: BitRegister>(start: &str, count: &str) -> Option<BitPtrRange<R, Lsb0>> {
-    let start = bit_at(start)?;
-    let count = count.parse::<usize>().ok()?;
-    if !start.can_offset(isize::try_from(count).ok()?) {
-        return None;
-    }
-    Some(start.range(count))
-}
-
-// The range from a bit of a word to another.
-fn range_between<R: BitRegister>(
-    from: &str,
-    first: &str,
-    upto: &str,
-    past: &str,
-) -> Option<BitPtrRange<R, Lsb0>> {
-    let ends = pointer(from, first)?..pointer(upto, past)?;
-    if !BitPtrRange::can_range(&ends) {
-        return None;
-    }
-    Some(BitPtrRange::from_range(ends))
 }
 
 // The pointer to the bit at a place, which may be before the first word.
@@ -289,53 +224,109 @@ fn place_of<R: BitRegister>(pointer: BitPtr<R, Lsb0>) -> i128 {
 }
 
 // What a range answers to a call.
-enum RangeAnswer<R: BitRegister> {
-    Pointer(BitPtr<R, Lsb0>),
-    NoPointer,
-    Number(usize),
-    Truth(bool),
-    Included(BitPtr<R, Lsb0>),
-    Excluded(BitPtr<R, Lsb0>),
-    Ends(BitPtr<R, Lsb0>, BitPtr<R, Lsb0>),
+#[derive(Clone, Copy)]
+enum RangeAnswer {
+    One(Value),
+    Included(Value),
+    Excluded(Value),
+    Ends(Value, Value),
 }
+
+// Writes what a range answers.
+fn write_range_answer(out: &mut Answer, answer: RangeAnswer) {
+    match answer {
+        RangeAnswer::One(value) => out.value(value),
+        RangeAnswer::Included(value) => {
+            out.push("Included ");
+            out.value(value);
+        }
+        RangeAnswer::Excluded(value) => {
+            out.push("Excluded ");
+            out.value(value);
+        }
+        RangeAnswer::Ends(start, end) => {
+            out.value(start);
+            out.push("..");
+            out.value(end);
+        }
+    }
+}
+
+// What is asked of a range.
+#[derive(Clone, Copy)]
+enum RangeCall {
+    Next,
+    NextBack,
+    Nth,
+    NthBack,
+    Len,
+    IsEmpty,
+    StartBound,
+    EndBound,
+    IntoRange,
+    Into,
+}
+
+const RANGE_CALLS: [(&str, RangeCall); 10] = [
+    ("next", RangeCall::Next),
+    ("next_back", RangeCall::NextBack),
+    ("nth", RangeCall::Nth),
+    ("nth_back", RangeCall::NthBack),
+    ("len", RangeCall::Len),
+    ("is_empty", RangeCall::IsEmpty),
+    ("start_bound", RangeCall::StartBound),
+    ("end_bound", RangeCall::EndBound),
+    ("into_range", RangeCall::IntoRange),
+    ("into", RangeCall::Into),
+];
 
 // A range's answer to a call; `None` where it is no call.
 fn range_answer<R: BitRegister>(
     range: &mut BitPtrRange<R, Lsb0>,
     shown: Shown,
-    call: &str,
-) -> Option<RangeAnswer<R>> {
-    match call {
-        "next" => Some(pointer_answer(range.next())),
-        "next_back" => Some(pointer_answer(range.next_back())),
-        "len" => Some(RangeAnswer::Number(range.len())),
-        "is_empty" => Some(RangeAnswer::Truth(range.is_empty())),
-        "start_bound" => bound_answer(range.start_bound()),
-        "end_bound" => bound_answer(range.end_bound()),
-        "into_range" => Some(ends_answer(range.clone().ok()?.into_range())),
-        "into" => Some(ends_answer(range.clone().ok()?.into())),
-        _ => {
-            let (name, number) = call.split_once(' ')?;
-            numbered_answer(range, shown, name, number)
-        }
+    text: &str,
+) -> Option<RangeAnswer> {
+    let (name, rest) = text.split_once(' ').unwrap_or((text, "0"));
+    if name == "contains" {
+        let pointer = shown_pointer(shown, rest)?;
+        return Some(RangeAnswer::One(Value::Truth(range.contains(&pointer))));
+    }
+    let call = named(&RANGE_CALLS, name)?;
+    match moved(range, call, count_of(rest)?) {
+        Some(pointer) => Some(RangeAnswer::One(pointer_or_missing(pointer, shown))),
+        None => still_answer(range, call, shown),
     }
 }
 
-// A range's answer to a call with a number or a pointer; `None` where it is no call.
-fn numbered_answer<R: BitRegister>(
+// The pointer that a range gives to a call that takes one or more; `None` where the call takes
+// none.
+fn moved<R: BitRegister>(
     range: &mut BitPtrRange<R, Lsb0>,
-    shown: Shown,
-    name: &str,
-    number: &str,
-) -> Option<RangeAnswer<R>> {
-    if name == "contains" {
-        let pointer = shown_pointer(shown, number)?;
-        return Some(RangeAnswer::Truth(range.contains(&pointer)));
+    call: RangeCall,
+    n: usize,
+) -> Option<Option<BitPtr<R, Lsb0>>> {
+    match call {
+        RangeCall::Next => Some(range.next()),
+        RangeCall::NextBack => Some(range.next_back()),
+        RangeCall::Nth => Some(range.nth(n)),
+        RangeCall::NthBack => Some(range.nth_back(n)),
+        _ => None,
     }
-    let n = number.parse::<usize>().ok()?;
-    match name {
-        "nth" => Some(pointer_answer(range.nth(n))),
-        "nth_back" => Some(pointer_answer(range.nth_back(n))),
+}
+
+// A range's answer to a call that changes nothing of it.
+fn still_answer<R: BitRegister>(
+    range: &BitPtrRange<R, Lsb0>,
+    call: RangeCall,
+    shown: Shown,
+) -> Option<RangeAnswer> {
+    match call {
+        RangeCall::Len => Some(RangeAnswer::One(Value::Number(range.len()))),
+        RangeCall::IsEmpty => Some(RangeAnswer::One(Value::Truth(range.is_empty()))),
+        RangeCall::StartBound => bound_answer(range.start_bound(), shown),
+        RangeCall::EndBound => bound_answer(range.end_bound(), shown),
+        RangeCall::IntoRange => Some(ends_answer(range.clone().ok()?.into_range(), shown)),
+        RangeCall::Into => Some(ends_answer(range.clone().ok()?.into(), shown)),
         _ => None,
     }
 }
@@ -351,78 +342,44 @@ fn shown_pointer<R: BitRegister>(shown: Shown, text: &str) -> Option<BitPtr<R, L
     }
 }
 
+// A pointer by its place, or by word and bit.
+fn pointer_value<R: BitRegister>(pointer: BitPtr<R, Lsb0>, shown: Shown) -> Value {
+    match shown {
+        Shown::Places => Value::Signed(place_of(pointer)),
+        Shown::Parts => parts_value(pointer),
+    }
+}
+
+/// A pointer by word and bit.
+pub fn parts_value<R: BitRegister>(pointer: BitPtr<R, Lsb0>) -> Value {
+    let (word, bit) = pointer.raw_parts();
+    Value::Bit(word, bit.into_inner())
+}
+
 // A pointer, where there is one.
-fn pointer_answer<R: BitRegister>(pointer: Option<BitPtr<R, Lsb0>>) -> RangeAnswer<R> {
+fn pointer_or_missing<R: BitRegister>(pointer: Option<BitPtr<R, Lsb0>>, shown: Shown) -> Value {
     match pointer {
-        Some(pointer) => RangeAnswer::Pointer(pointer),
-        None => RangeAnswer::NoPointer,
+        Some(pointer) => pointer_value(pointer, shown),
+        None => Value::Missing,
     }
 }
 
 // A bound, where it is at a pointer.
-fn bound_answer<R: BitRegister>(bound: Bound<&BitPtr<R, Lsb0>>) -> Option<RangeAnswer<R>> {
+fn bound_answer<R: BitRegister>(
+    bound: Bound<&BitPtr<R, Lsb0>>,
+    shown: Shown,
+) -> Option<RangeAnswer> {
     match bound {
-        Bound::Included(pointer) => Some(RangeAnswer::Included(*pointer)),
-        Bound::Excluded(pointer) => Some(RangeAnswer::Excluded(*pointer)),
+        Bound::Included(pointer) => Some(RangeAnswer::Included(pointer_value(*pointer, shown))),
+        Bound::Excluded(pointer) => Some(RangeAnswer::Excluded(pointer_value(*pointer, shown))),
         Bound::Unbounded => None,
     }
 }
 
 // The two ends of a range of the standard library.
-fn ends_answer<R: BitRegister>(ends: Range<BitPtr<R, Lsb0>>) -> RangeAnswer<R> {
-    RangeAnswer::Ends(ends.start, ends.end)
-}
-
-// Writes what a range answers, and `-` where there is no pointer.
-fn write_range_answer<R: BitRegister, A: Allocator>(
-    text: &mut String<A>,
-    answer: RangeAnswer<R>,
-    shown: Shown,
-) -> Result<(), AllocError> {
-    match answer {
-        RangeAnswer::Pointer(pointer) => write_pointer(text, pointer, shown),
-        RangeAnswer::NoPointer => text.push_str("-"),
-        RangeAnswer::Number(n) => write!(text, "{n}"),
-        RangeAnswer::Truth(is_so) => write!(text, "{is_so}"),
-        RangeAnswer::Included(pointer) => {
-            text.push_str("Included ")?;
-            write_pointer(text, pointer, shown)
-        }
-        RangeAnswer::Excluded(pointer) => {
-            text.push_str("Excluded ")?;
-            write_pointer(text, pointer, shown)
-        }
-        RangeAnswer::Ends(start, end) => write_ends(text, start, end, shown),
-    }
-}
-
-// Writes two ends with two dots between them.
-fn write_ends<R: BitRegister, A: Allocator>(
-    text: &mut String<A>,
-    start: BitPtr<R, Lsb0>,
-    end: BitPtr<R, Lsb0>,
-    shown: Shown,
-) -> Result<(), AllocError> {
-    write_pointer(text, start, shown)?;
-    text.push_str("..")?;
-    write_pointer(text, end, shown)
-}
-
-// Writes a pointer by its place, or by word and bit.
-fn write_pointer<R: BitRegister, A: Allocator>(
-    text: &mut String<A>,
-    pointer: BitPtr<R, Lsb0>,
-    shown: Shown,
-) -> Result<(), AllocError> {
-    match shown {
-        Shown::Places => {
-            let place = place_of(pointer);
-            write!(text, "{place}")
-        }
-        Shown::Parts => {
-            let (word, bit) = pointer.raw_parts();
-            let bit = bit.into_inner();
-            write!(text, "{word} {bit}")
-        }
-    }
+fn ends_answer<R: BitRegister>(ends: Range<BitPtr<R, Lsb0>>, shown: Shown) -> RangeAnswer {
+    RangeAnswer::Ends(
+        pointer_value(ends.start, shown),
+        pointer_value(ends.end, shown),
+    )
 }

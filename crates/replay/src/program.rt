@@ -1,33 +1,33 @@
 //! The lines of the program `bits`.
 
+use crate::answer::Answer;
 use bits_text::lines;
 use bits_text::lines::fault::Fault;
-use std::alloc::{AllocError, Allocator};
+use std::alloc::{AllocError, Global};
 
-/// Writes the answer of the program `bits` to its arguments, and tells so.
+/// Writes the answer of the program `bits` to its arguments.
 ///
 /// The lines of an answer have `;` between them. A question of one empty word is a call with no
 /// arguments; elsewhere an empty word is an empty argument.
-pub fn write_answer<'a, A: Allocator>(
-    text: &mut String<&'a A>,
-    alloc: &'a A,
-    words: &[&str],
-) -> Result<bool, AllocError> {
-    let args = arguments(alloc, words)?;
-    match lines::text(alloc, &args) {
-        Ok(answer) => write_lines(text, answer.as_str())?,
-        Err(Fault::Usage) => text.push_str("usage")?,
-        Err(Fault::Line(line)) => write_lines(text, line.as_str())?,
-        Err(Fault::OutOfMemory) => return Err(AllocError),
+pub fn write_answer(out: &mut Answer, words: &[&str]) -> Option<()> {
+    let Ok(args) = arguments(out.alloc, words) else {
+        out.note(Err(AllocError));
+        return None;
+    };
+    match lines::text(out.alloc, &args) {
+        Ok(answer) => write_lines(out, answer.as_str()),
+        Err(Fault::Usage) => out.push("usage"),
+        Err(Fault::Line(line)) => write_lines(out, line.as_str()),
+        Err(Fault::OutOfMemory) => out.note(Err(AllocError)),
     }
-    Ok(true)
+    Some(())
 }
 
 // The words as the arguments of a call.
-fn arguments<'a, A: Allocator>(
-    alloc: &'a A,
+fn arguments<'a>(
+    alloc: &'a Global,
     words: &[&str],
-) -> Result<Vec<String<&'a A>, &'a A>, AllocError> {
+) -> Result<Vec<String<&'a Global>, &'a Global>, AllocError> {
     let mut args = Vec::new(alloc);
     if let [""] = words {
         return Ok(args);
@@ -39,14 +39,9 @@ fn arguments<'a, A: Allocator>(
 }
 
 // Writes lines behind one another, with `;` between them.
-fn write_lines<A: Allocator>(text: &mut String<A>, answer: &str) -> Result<(), AllocError> {
-    let mut is_first = true;
-    for line in answer.lines() {
-        if !is_first {
-            text.push_str(";")?;
-        }
-        text.push_str(line)?;
-        is_first = false;
+fn write_lines(out: &mut Answer, lines: &str) {
+    for line in lines.lines() {
+        out.begin_item();
+        out.push(line);
     }
-    Ok(())
 }

@@ -2,7 +2,7 @@
 
 use crate::line::Line;
 use crate::question::answer;
-use std::alloc::{AllocError, Allocator};
+use std::alloc::{AllocError, Global};
 use std::fmt::Write as _;
 
 // How many lines of a kind there are, and in how many of them the answers are the same.
@@ -15,18 +15,18 @@ struct Tally<'t> {
 
 /// The text of a replay of a file, and its counts.
 #[derive(Drop)]
-pub struct Report<'t, 'a, A: Allocator> {
-    tallies: Vec<Tally<'t>, &'a A>,
-    text: String<&'a A>,
+pub struct Report<'t, 'a> {
+    tallies: Vec<Tally<'t>, &'a Global>,
+    text: String<&'a Global>,
     agree: u64,
     all: u64,
 }
 
-impl<'t, 'a, A: Allocator> Report<'t, 'a, A> {
+impl<'t, 'a> Report<'t, 'a> {
     /// The report on the lines of a text, and the library's answers to the same questions.
     ///
     /// An empty line is none, and one that begins with `#` says where those after it come from.
-    pub fn of(alloc: &'a A, lines: &'t str) -> Result<Self, AllocError> {
+    pub fn of(alloc: &'a Global, lines: &'t str) -> Result<Self, AllocError> {
         let mut report = Report {
             tallies: Vec::new(alloc),
             text: String::new(alloc),
@@ -88,9 +88,9 @@ impl<'t, 'a, A: Allocator> Report<'t, 'a, A> {
 
 // Asks the question of a line. Where the answer is another than the line's, writes the line and the
 // answer, and tells whether they are the same.
-fn write_difference<'a, A: Allocator>(
-    text: &mut String<&'a A>,
-    alloc: &'a A,
+fn write_difference<'a>(
+    text: &mut String<&'a Global>,
+    alloc: &'a Global,
     kind: &str,
     rest: &str,
 ) -> Result<bool, AllocError> {
@@ -107,12 +107,12 @@ fn write_difference<'a, A: Allocator>(
 }
 
 // Writes a line and the library's answer, where that is another than the line's.
-fn write_other_answer<A: Allocator>(
-    text: &mut String<A>,
+fn write_other_answer(
+    text: &mut String<&Global>,
     kind: &str,
     rest: &str,
     theirs: &str,
-    ours: Option<String<A>>,
+    ours: Option<String<&Global>>,
 ) -> Result<bool, AllocError> {
     match ours {
         Some(ours) if ours.as_str() == theirs => return Ok(true),
@@ -123,8 +123,8 @@ fn write_other_answer<A: Allocator>(
 }
 
 // Writes a line, and the library's answer.
-fn write_ours<A: Allocator>(
-    text: &mut String<A>,
+fn write_ours(
+    text: &mut String<&Global>,
     kind: &str,
     rest: &str,
     ours: &str,

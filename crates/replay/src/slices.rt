@@ -2,110 +2,102 @@
 //!
 //! A slice that does not lie in its memory is `none`.
 
+use crate::answer::Answer;
 use crate::beside;
 use crate::spans::span_at;
-use bits_text::words::{words_of, write_words};
+use crate::values::{named, numbers};
 use bitvec::mem::BitRegister;
 use bitvec::order::BitOrder;
 use bitvec::ptr::span::BitSpan;
 use bitvec_slice::slice::{BitSlice, BitSliceMut};
-use std::alloc::{AllocError, Allocator};
 
 mod edits;
+mod pieces;
 mod reads;
 mod texts;
 
-/// Writes the library's answer to a question, and tells whether the words ask one.
-pub fn write_answer<'a, R: BitRegister, O: BitOrder<R>, A: Allocator>(
-    text: &mut String<&'a A>,
-    alloc: &'a A,
+/// Writes the library's answer to a question; `None` where the words ask none.
+pub fn write_answer<R: BitRegister, O: BitOrder<R>>(
+    out: &mut Answer,
     words: &[&str],
-) -> Result<bool, AllocError> {
-    let [memory, start, len, details @ ..] = words else {
-        return Ok(false);
-    };
-    let Some(span) = span_at::<R, O>(start, len) else {
-        return Ok(false);
+) -> Option<()> {
+    let [memory, start, len, name, details @ ..] = words else {
+        return None;
     };
     match details {
-        [name, each] if *each == "each" => write_moves(text, alloc, memory, span, name),
-        [_, _, _, _, _, _] => beside::write_answer::<R, O, A>(text, alloc, words),
-        _ => match words_of::<R, A>(alloc, memory)? {
-            Some(mut memory) => write_of_slice::<R, O, &'a A>(text, span, &mut memory, details),
-            None => Ok(false),
-        },
+        [_, _, _, _, _] => beside::write_answer::<R, O>(out, words),
+        [each] if *each == "each" => {
+            let span = span_at::<R, O>(start, len)?;
+            write_moves(out, memory, span, named(&edits::MOVES, name)?)
+        }
+        _ => {
+            let span = span_at::<R, O>(start, len)?;
+            let mut memory = out.memory::<R>(memory)?;
+            write_of_slice(out, span, &mut memory, name, details)
+        }
     }
 }
 
-// Writes the answer to a question of one slice, and tells whether there is one.
-fn write_of_slice<R: BitRegister, O: BitOrder<R>, A: Allocator>(
-    text: &mut String<A>,
+// Writes the answer to a question of one slice: what one for reading reads, or, with no such call,
+// what one for writing does.
+fn write_of_slice<R: BitRegister, O: BitOrder<R>>(
+    out: &mut Answer,
     span: BitSpan<R, O>,
     memory: &mut [R],
-    words: &[&str],
-) -> Result<bool, AllocError> {
+    name: &str,
+    details: &[&str],
+) -> Option<()> {
     let Some(slice) = BitSlice::new(span, memory) else {
-        text.push_str("none")?;
-        return Ok(true);
+        out.push("none");
+        return Some(());
     };
-    if reads::write_answer(text, slice, words)? || texts::write_answer(text, slice, words)? {
-        return Ok(true);
+    if let Some(read) = named(&reads::READS, name) {
+        out.value(reads::value_of(slice, read, numbers(details)?));
+        return Some(());
     }
-    if let [name] = words {
-        if *name == "reads" {
-            reads::write_reads(text, slice)?;
-            text.push_str(";")?;
-        }
+    if let Some(list) = named(&reads::LISTS, name) {
+        return reads::write_list_of(out, slice, list, details);
     }
-    write_edited(text, span, memory, words)
-}
-
-// Writes the memory after an edit of a slice, or what a slice for writing reads behind what one for
-// reading did; tells whether there is such a call.
-fn write_edited<R: BitRegister, O: BitOrder<R>, A: Allocator>(
-    text: &mut String<A>,
-    span: BitSpan<R, O>,
-    memory: &mut [R],
-    words: &[&str],
-) -> Result<bool, AllocError> {
+    if let Some(cut) = named(&pieces::CUTS, name) {
+        return pieces::write_pieces(out, slice, cut, details);
+    }
+    if name == "reads" {
+        reads::write_reads(out, slice);
+        out.push(";");
+    }
     let Ok(mut slice) = BitSliceMut::new(span, memory) else {
-        return Ok(false);
+        return None;
     };
-    if let [name] = words {
-        if *name == "reads" {
-            reads::write_reads(text, slice.as_bitslice())?;
-            return Ok(true);
+    match details {
+        [] if name == "reads" => {
+            reads::write_reads(out, slice.as_bitslice());
+            return Some(());
         }
+        [text] if name == "copy_from_text" => texts::write_read(out, &mut slice, text)?,
+        _ => edits::write_before(out, &mut slice, name, numbers(details)?)?,
     }
-    let is_done = texts::write_read(text, &mut slice, words)?
-        || edits::write_edited(text, &mut slice, words)?;
     drop(slice);
-    if is_done {
-        write_words(text, memory)?;
-    }
-    Ok(is_done)
+    out.words(memory);
+    Some(())
 }
 
 // Writes a memory after a move of a slice's bits by no place, after one by one place, and so on up
-// to their number, each from the memory as it was; tells whether there is such a move.
-fn write_moves<'a, R: BitRegister, O: BitOrder<R>, A: Allocator>(
-    text: &mut String<&'a A>,
-    alloc: &'a A,
+// to their number, each from the memory as it was.
+fn write_moves<R: BitRegister, O: BitOrder<R>>(
+    out: &mut Answer,
     memory: &str,
     span: BitSpan<R, O>,
-    name: &str,
-) -> Result<bool, AllocError> {
-    for by in 0..span.len() + 1 {
-        let Some(mut words) = words_of::<R, A>(alloc, memory)? else {
-            return Ok(false);
+    by: edits::Move,
+) -> Option<()> {
+    for n in 0..span.len().saturating_add(1) {
+        let mut words = out.memory::<R>(memory)?;
+        let Ok(mut slice) = BitSliceMut::new(span, &mut words) else {
+            return None;
         };
-        if !edits::is_moved(span, &mut words, name, by) {
-            return Ok(false);
-        }
-        if by > 0 {
-            text.push_str(";")?;
-        }
-        write_words(text, &words)?;
+        edits::moved(&mut slice, by, n)?;
+        drop(slice);
+        out.begin_item();
+        out.words(&words);
     }
-    Ok(true)
+    Some(())
 }

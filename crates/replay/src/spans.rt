@@ -2,104 +2,75 @@
 //!
 //! A span begins at a place of the memory, or at a bit of a word, as `-1:9`.
 
+use crate::answer::Answer;
 use crate::beside;
 use crate::index::index_at;
-use bits_text::number::place;
+use crate::values::{count_of, named, signed};
 use bits_text::places::pointer_at;
-use bits_text::words::words_of;
 use bitvec::mem::BitRegister;
 use bitvec::order::BitOrder;
 use bitvec::ptr::single::BitPtr;
 use bitvec::ptr::span::BitSpan;
-use std::alloc::{AllocError, Allocator};
 
 mod edits;
 mod facts;
 mod parts;
 mod reads;
-mod shown;
 mod values;
 
-/// Writes the library's answer to a question, and tells whether the words ask one.
-pub fn write_answer<'a, R: BitRegister, O: BitOrder<R>, A: Allocator>(
-    text: &mut String<&'a A>,
-    alloc: &'a A,
+/// Writes the library's answer to a question; `None` where the words ask none.
+pub fn write_answer<R: BitRegister, O: BitOrder<R>>(
+    out: &mut Answer,
     words: &[&str],
-) -> Result<bool, AllocError> {
+) -> Option<()> {
     match words {
-        [name] => values::write_value::<R, &'a A>(text, name),
-        [case, number, form] => values::write_error::<R, &'a A>(text, case, number, form),
-        [_, _, _, _, _, _, _, _, _] => beside::write_answer::<R, O, A>(text, alloc, words),
-        [memory, start, len, details @ ..] => {
-            if facts::write_answer::<R, &'a A>(text, start, len, details)? {
-                return Ok(true);
+        [name] => values::write_value::<R>(out, name),
+        [case, number, form] => values::write_error::<R>(out, case, number, form),
+        [_, _, _, _, _, _, _, _, _] => beside::write_answer::<R, O>(out, words),
+        [memory, start, len, name, details @ ..] => match named(&facts::FACTS, name) {
+            Some(fact) => facts::write_answer::<R>(out, start, len, fact, details),
+            None => {
+                let mut memory = out.memory::<R>(memory)?;
+                let span = span_at::<R, O>(start, len)?;
+                write_through(out, span, &mut memory, name, details)
             }
-            match words_of::<R, A>(alloc, memory)? {
-                Some(mut memory) => match span_at::<R, O>(start, len) {
-                    Some(span) => write_through(text, alloc, span, &mut memory, details),
-                    None => Ok(false),
-                },
-                None => Ok(false),
-            }
-        }
-        _ => Ok(false),
+        },
+        _ => None,
     }
 }
 
-// Writes the answer to a question of what a span reads or writes in a memory, and tells whether it
-// fits it and there is one.
-fn write_through<'a, R: BitRegister, O: BitOrder<R>, A: Allocator>(
-    text: &mut String<&'a A>,
-    alloc: &'a A,
+// Writes the answer to a question of what a span reads or writes in a memory; `None` where it does
+// not fit it, or there is none.
+fn write_through<R: BitRegister, O: BitOrder<R>>(
+    out: &mut Answer,
     span: BitSpan<R, O>,
     memory: &mut [R],
-    words: &[&str],
-) -> Result<bool, AllocError> {
+    name: &str,
+    details: &[&str],
+) -> Option<()> {
     if !span.fits(memory.len()) {
-        return Ok(false);
+        return None;
     }
-    if let [name] = words {
-        if *name == "is_shown" {
-            return shown::write_shown(text, alloc, span, memory);
-        }
+    if let Some(read) = named(&reads::READS, name) {
+        return reads::write_answer(out, span, memory, read, details);
     }
-    if reads::write_answer(text, span, memory, words)? {
-        return Ok(true);
+    if let Some(part) = named(&parts::PARTS, name) {
+        return parts::write_answer(out, span, memory, part, details);
     }
-    if parts::write_answer(text, span, memory, words)? {
-        return Ok(true);
-    }
-    edits::write_answer(text, alloc, span, memory, words)
+    edits::write_answer(out, span, memory, named(&edits::EDITS, name)?, details)?;
+    out.words(memory);
+    Some(())
 }
 
 /// The span of `len` bits from a place on, or from a bit of a word on; `None` where there is none.
 pub fn span_at<R: BitRegister, O>(start: &str, len: &str) -> Option<BitSpan<R, O>> {
-    let start = pointer_of(start)?;
-    let len = place(len)?;
-    BitSpan::from_bitptr(start, len as usize).ok()
+    BitSpan::from_bitptr(pointer_of(start)?, count_of(len)?).ok()
 }
 
 // The pointer to the bit at a place, or to a bit of a word.
 fn pointer_of<R: BitRegister, O>(text: &str) -> Option<BitPtr<R, O>> {
     match text.split_once(':') {
-        Some((word, bit)) => {
-            let word = word.parse::<isize>().ok()?;
-            Some(BitPtr::new(word, index_at(bit)?))
-        }
-        None => Some(pointer_at(place(text)?)),
-    }
-}
-
-// The number of a text.
-fn count_of(text: &str) -> Option<usize> {
-    text.parse::<usize>().ok()
-}
-
-/// Whether a bit is one; `None` where the text is no bit.
-pub fn is_one(bit: &str) -> Option<bool> {
-    match bit {
-        "0" => Some(false),
-        "1" => Some(true),
-        _ => None,
+        Some((word, bit)) => Some(BitPtr::new(signed(word)?, index_at(bit)?)),
+        None => Some(pointer_at(count_of(text)? as u64)),
     }
 }

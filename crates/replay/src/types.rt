@@ -1,147 +1,157 @@
 //! Index types: what makes them, their numbers, ranges and texts; and masks as sets.
 
+use crate::answer::Answer;
 use crate::index::index_at;
-use crate::values::{self, Value, number_value, word_at, word_value};
+use crate::values::{Value, named, number_value, small, word_at, word_value};
+use bits_text::number::number;
 use bitvec::index::{BitEnd, BitIdx, BitPos, BitSel, Limits};
 use bitvec::mem::BitRegister;
-use std::alloc::{AllocError, Allocator};
 
-mod formats;
 mod masks;
 mod ranges;
+pub mod shown;
 
-/// Writes the library's answer to a question of a kind, and tells whether the words ask one.
+use shown::{Name, Shown, write_shown};
+
+// What is asked of an index type.
+#[derive(Clone, Copy)]
+enum Call {
+    Min,
+    Max,
+    Default,
+    New,
+    NewUnchecked,
+    Error,
+    Select,
+    Mask,
+}
+
+const CALLS: [(&str, Call); 8] = [
+    ("MIN", Call::Min),
+    ("MAX", Call::Max),
+    ("default", Call::Default),
+    ("new", Call::New),
+    ("new_unchecked", Call::NewUnchecked),
+    ("error", Call::Error),
+    ("select", Call::Select),
+    ("mask", Call::Mask),
+];
+
+/// Writes the library's answer to a question of a kind; `None` where the words ask none.
 ///
-/// The kinds are `BitIdx`, `BitEnd`, `BitPos`, `BitSel` and `BitMask`. The words are a call and what
-/// it is asked of: words in hexadecimal, other numbers in decimal.
-pub fn write_answer<R: BitRegister, A: Allocator>(
-    text: &mut String<A>,
-    kind: &str,
-    words: &[&str],
-) -> Result<bool, AllocError> {
+/// The kinds are `BitIdx`, `BitEnd`, `BitPos`, `BitSel` and `BitMask`. The words are a call and
+/// what it is asked of: words in hexadecimal, other numbers in decimal.
+pub fn write_answer<R: BitRegister>(out: &mut Answer, kind: &str, words: &[&str]) -> Option<()> {
     match words {
         [call, value, format] if *call == "format" => {
-            formats::write_answer::<R, A>(text, kind, value, format)
+            write_shown(out, &shown_of::<R>(kind, value)?, format)?
         }
-        [call, details @ ..] if call.starts_with("range") => {
-            ranges::write_answer::<R, A>(text, kind, call, details)
-        }
-        _ => values::write_answer(text, value_of::<R>(kind, words)),
-    }
-}
-
-// What a call answers; `None` where the words are no call.
-fn value_of<R: BitRegister>(kind: &str, words: &[&str]) -> Option<Value> {
-    match kind {
-        "BitIdx" => value_of_index::<R>(words),
-        "BitEnd" => value_of_end::<R>(words),
-        "BitPos" => value_of_position::<R>(words),
-        "BitSel" => value_of_selector::<R>(words),
-        "BitMask" => masks::value_of::<R>(words),
-        _ => None,
-    }
-}
-
-// The value of a type that a call without arguments names.
-fn named<T: Limits + Default>(call: &str) -> Option<T> {
-    match call {
-        "MIN" => Some(T::MIN),
-        "MAX" => Some(T::MAX),
-        "default" => Some(T::default()),
-        _ => None,
-    }
-}
-
-// What a call answers of indices.
-fn value_of_index<R: BitRegister>(words: &[&str]) -> Option<Value> {
-    match words {
-        [call] => {
-            let index: BitIdx<R> = named(call)?;
-            Some(number_value(index.into_inner()))
-        }
-        [call, n] => made_index::<R>(call, n.parse::<u8>().ok()?),
         [call, one, other] if *call == "cmp" => {
             let (one, other): (BitIdx<R>, BitIdx<R>) = (index_at(one)?, index_at(other)?);
-            Some(Value::Comparison(one.cmp(&other)))
+            out.value(Value::Comparison(one.cmp(&other)));
         }
+        [call, details @ ..] if call.starts_with("range") => {
+            ranges::write_answer::<R>(out, kind, call, details)?
+        }
+        _ if kind == "BitMask" => out.value(masks::value_of::<R>(words)?),
+        [call] => out.value(value_of::<R>(kind, named(&CALLS, call)?, "0")?),
+        [call, n] => out.value(value_of::<R>(kind, named(&CALLS, call)?, n)?),
+        _ => return None,
+    }
+    Some(())
+}
+
+// The value whose text is asked: of a selector or a mask by its digits in hexadecimal, of an index
+// by its number, and of that number's error where it is none.
+fn shown_of<R: BitRegister>(kind: &str, value: &str) -> Option<Shown<R>> {
+    match kind {
+        "BitSel" => Shown::of(Name::Selector, number(value, 16, u128::MAX)?),
+        "BitMask" => Shown::of(Name::Mask, number(value, 16, u128::MAX)?),
+        "BitEnd" => Shown::of(Name::End, u128::from(small(value)?)),
+        "BitPos" => Shown::of(Name::Position, u128::from(small(value)?)),
+        _ => {
+            let n = u128::from(small(value)?);
+            let index = Shown::of(Name::Index, n);
+            if index.is_some() {
+                index
+            } else {
+                Shown::of(Name::Error, n)
+            }
+        }
+    }
+}
+
+// What a call answers of a type, with a number.
+fn value_of<R: BitRegister>(kind: &str, call: Call, n: &str) -> Option<Value> {
+    match kind {
+        "BitIdx" => of_index::<R>(call, small(n)?),
+        "BitEnd" => of_end::<R>(call, small(n)?),
+        "BitPos" => of_position::<R>(call, small(n)?),
+        "BitSel" => of_selector::<R>(call, word_at(n)?),
         _ => None,
     }
 }
 
-// The index that a call makes of a number, or that there is none.
-fn made_index<R: BitRegister>(call: &str, n: u8) -> Option<Value> {
-    match (call, BitIdx::<R>::new(n)) {
-        ("new", Ok(index)) => Some(number_value(index.into_inner())),
-        ("new", Err(_)) => Some(Value::Missing),
-        ("new_unchecked", Ok(_)) => {
-            Some(number_value(BitIdx::<R>::new_unchecked(n).into_inner()))
-        }
-        ("error", Err(error)) => Some(number_value(error.into_inner())),
-        _ => None,
-    }
+// What a call answers of an index or a number that may be none.
+fn of_index<R: BitRegister>(call: Call, n: u8) -> Option<Value> {
+    let number = match call {
+        Call::Min => BitIdx::<R>::MIN.into_inner(),
+        Call::Max => BitIdx::<R>::MAX.into_inner(),
+        Call::Default => BitIdx::<R>::default().into_inner(),
+        Call::Error => BitIdx::<R>::new(n).err()?.into_inner(),
+        _ => match (call, BitIdx::<R>::new(n)) {
+            (Call::New, Ok(index)) => index.into_inner(),
+            (Call::New, Err(_)) => return Some(Value::Missing),
+            (Call::NewUnchecked, Ok(_)) => BitIdx::<R>::new_unchecked(n).into_inner(),
+            _ => return None,
+        },
+    };
+    Some(number_value(number))
 }
 
-// What a call answers of ends.
-fn value_of_end<R: BitRegister>(words: &[&str]) -> Option<Value> {
-    match words {
-        [call] => {
-            let end: BitEnd<R> = named(call)?;
-            Some(number_value(end.into_inner()))
-        }
-        [call, n] => made_end::<R>(call, n.parse::<u8>().ok()?),
-        _ => None,
-    }
+// What a call answers of an end or a number that may be none.
+fn of_end<R: BitRegister>(call: Call, n: u8) -> Option<Value> {
+    let number = match call {
+        Call::Min => BitEnd::<R>::MIN.into_inner(),
+        Call::Max => BitEnd::<R>::MAX.into_inner(),
+        Call::Default => BitEnd::<R>::default().into_inner(),
+        _ => match (call, BitEnd::<R>::new(n)) {
+            (Call::New, Some(end)) => end.into_inner(),
+            (Call::New, None) => return Some(Value::Missing),
+            (Call::NewUnchecked, Some(_)) => BitEnd::<R>::new_unchecked(n).into_inner(),
+            _ => return None,
+        },
+    };
+    Some(number_value(number))
 }
 
-// The end that a call makes of a number, or that there is none.
-fn made_end<R: BitRegister>(call: &str, n: u8) -> Option<Value> {
-    match (call, BitEnd::<R>::new(n)) {
-        ("new", Some(end)) => Some(number_value(end.into_inner())),
-        ("new", None) => Some(Value::Missing),
-        ("new_unchecked", Some(_)) => {
-            Some(number_value(BitEnd::<R>::new_unchecked(n).into_inner()))
-        }
-        _ => None,
-    }
-}
-
-// What a call answers of positions.
-fn value_of_position<R: BitRegister>(words: &[&str]) -> Option<Value> {
-    match words {
-        [call] => {
-            let position: BitPos<R> = named(call)?;
-            Some(number_value(position.into_inner()))
-        }
-        [call, n] => made_position::<R>(call, n.parse::<u8>().ok()?),
-        _ => None,
-    }
-}
-
-// The position that a call makes of a number, or its selector or mask, or that there is none.
-fn made_position<R: BitRegister>(call: &str, n: u8) -> Option<Value> {
-    match (call, BitPos::<R>::new(n)) {
-        ("new", Some(position)) => Some(number_value(position.into_inner())),
-        ("new", None) => Some(Value::Missing),
-        ("new_unchecked", Some(_)) => {
-            Some(number_value(BitPos::<R>::new_unchecked(n).into_inner()))
-        }
-        ("select", Some(position)) => Some(word_value(position.select().into_inner())),
-        ("mask", Some(position)) => Some(word_value(position.mask().into_inner())),
-        _ => None,
-    }
+// What a call answers of a position or a number that may be none, or its selector or mask.
+fn of_position<R: BitRegister>(call: Call, n: u8) -> Option<Value> {
+    let number = match call {
+        Call::Min => BitPos::<R>::MIN.into_inner(),
+        Call::Max => BitPos::<R>::MAX.into_inner(),
+        Call::Default => BitPos::<R>::default().into_inner(),
+        _ => match (call, BitPos::<R>::new(n)) {
+            (Call::New, Some(position)) => position.into_inner(),
+            (Call::New, None) => return Some(Value::Missing),
+            (Call::NewUnchecked, Some(_)) => BitPos::<R>::new_unchecked(n).into_inner(),
+            (Call::Select, Some(position)) => {
+                return Some(word_value(position.select().into_inner()));
+            }
+            (Call::Mask, Some(position)) => return Some(word_value(position.mask().into_inner())),
+            _ => return None,
+        },
+    };
+    Some(number_value(number))
 }
 
 // The selector that a call makes of a word, or its mask, or that there is none.
-fn value_of_selector<R: BitRegister>(words: &[&str]) -> Option<Value> {
-    let [call, word] = words else {
-        return None;
-    };
-    let word: R = word_at(word)?;
-    match (*call, BitSel::new(word)) {
-        ("new", Some(selector)) => Some(word_value(selector.into_inner())),
-        ("new", None) => Some(Value::Missing),
-        ("new_unchecked", Some(_)) => Some(word_value(BitSel::new_unchecked(word).into_inner())),
-        ("mask", Some(selector)) => Some(word_value(selector.mask().into_inner())),
+fn of_selector<R: BitRegister>(call: Call, word: R) -> Option<Value> {
+    match (call, BitSel::new(word)) {
+        (Call::New, Some(selector)) => Some(word_value(selector.into_inner())),
+        (Call::New, None) => Some(Value::Missing),
+        (Call::NewUnchecked, Some(_)) => Some(word_value(BitSel::new_unchecked(word).into_inner())),
+        (Call::Mask, Some(selector)) => Some(word_value(selector.mask().into_inner())),
         _ => None,
     }
 }

@@ -4,14 +4,12 @@ ghost use Rattle.std.specs.Prelude.{length};
 ghost use Rattle.bitvec.specs.BitSpan.{span_of};
 ghost use Rattle.bitvec.specs.Span.{Fits};
 
-use crate::lists::{end_list, write_value};
-use bits_text::number::number;
-use bits_text::words::write_words;
+use crate::answer::Answer;
+use crate::values::{word_at, word_value};
 use bitvec::domain::{DomainMut, PartialElementMut};
 use bitvec::mem::BitRegister;
 use bitvec::order::BitOrder;
 use bitvec::ptr::span::BitSpan;
-use std::alloc::{AllocError, Allocator};
 
 // An edit of some bits of a word.
 #[derive(Clone, Copy)]
@@ -26,10 +24,7 @@ impl<R: BitRegister> Edit<R> {
     // The edit of a name; the argument counts for `store` alone.
     pub(super) fn of_name(name: &str, argument: &str) -> Option<Self> {
         match name {
-            "store" => {
-                let value = number(argument, 16, u128::MAX)?;
-                Some(Edit::Store(R::from_u128(value)?))
-            }
+            "store" => Some(Edit::Store(word_at(argument)?)),
             "set" => Some(Edit::Set),
             "clear" => Some(Edit::Clear),
             "invert" => Some(Edit::Invert),
@@ -58,60 +53,49 @@ impl<R: BitRegister> Edit<R> {
     }
 }
 
-// Writes the values before the edit of a name, and the memory after it; tells whether there is such
-// an edit.
-pub(super) fn write_edited<R: BitRegister, O: BitOrder<R>, A: Allocator>(
-    text: &mut String<A>,
-    span: BitSpan<R, O>,
-    memory: &mut [R],
-    name: &str,
-    argument: &str,
-) -> Result<bool, AllocError>
-    requires { Fits R.BITS (span_of span) (length memory.old) }
-{
-    let Some(edit) = Edit::of_name(name, argument) else {
-        return Ok(false);
-    };
-    edit_parts(text, span, memory, edit)?;
-    end_list(text)?;
-    text.push_str(" ")?;
-    write_words(text, memory)?;
-    Ok(true)
-}
-
-// Edits each part and each whole word of a span, and writes the values before.
-fn edit_parts<R: BitRegister, O: BitOrder<R>, A: Allocator>(
-    text: &mut String<A>,
+// Writes the values before an edit, and the memory after it.
+pub(super) fn write_edited<R: BitRegister, O: BitOrder<R>>(
+    out: &mut Answer,
     span: BitSpan<R, O>,
     memory: &mut [R],
     edit: Edit<R>,
-) -> Result<(), AllocError>
+) -> Option<()>
+    requires { Fits R.BITS (span_of span) (length memory.old) }
+{
+    edit_parts(out, span, memory, edit);
+    out.end_list();
+    out.push(" ");
+    out.words(memory);
+    Some(())
+}
+
+// Edits each part and each whole word of a span, and writes the values before.
+fn edit_parts<R: BitRegister, O: BitOrder<R>>(
+    out: &mut Answer,
+    span: BitSpan<R, O>,
+    memory: &mut [R],
+    edit: Edit<R>,
+)
     requires { Fits R.BITS (span_of span) (length memory.old) }
 {
     match span.domain_mut(memory) {
-        DomainMut::Enclave(mut part) => write_value(text, edit.edit_part(&mut part)),
+        DomainMut::Enclave(mut part) => out.item(&[word_value(edit.edit_part(&mut part))]),
         DomainMut::Region { head, body, tail } => {
             if let Some(mut part) = head {
-                write_value(text, edit.edit_part(&mut part))?;
+                out.item(&[word_value(edit.edit_part(&mut part))]);
             }
-            edit_words(text, body, edit)?;
-            match tail {
-                Some(mut part) => write_value(text, edit.edit_part(&mut part)),
-                None => Ok(()),
+            edit_words(out, body, edit);
+            if let Some(mut part) = tail {
+                out.item(&[word_value(edit.edit_part(&mut part))]);
             }
         }
     }
 }
 
 // Edits each of some whole words, and writes the words before.
-fn edit_words<R: BitRegister, A: Allocator>(
-    text: &mut String<A>,
-    words: &mut [R],
-    edit: Edit<R>,
-) -> Result<(), AllocError> {
+fn edit_words<R: BitRegister>(out: &mut Answer, words: &mut [R], edit: Edit<R>) {
     for word in words.iter_mut() {
-        write_value(text, *word)?;
+        out.item(&[word_value(*word)]);
         *word = edit.of_word(*word);
     }
-    Ok(())
 }

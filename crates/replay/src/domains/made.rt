@@ -1,110 +1,71 @@
 //! Domains that no span has: of parts and words of one's own, and of nothing.
 
+use crate::answer::Answer;
 use crate::domains::items;
-use crate::spans::span_at;
-use bits_text::words::words_of;
+use crate::values::Value;
 use bitvec::domain::{BitDomain, BitDomainMut, Domain, DomainMut};
 use bitvec::mem::BitRegister;
 use bitvec::order::BitOrder;
-use std::alloc::{AllocError, Allocator};
-use std::fmt::Write as _;
+use bitvec::ptr::span::BitSpan;
 
 // Writes the items of a region whose head and whose tail are both the head of a span, round other
-// words, from the front and from the back as a pattern's letters say; tells whether there is such a
+// words, from the front and from the back as a pattern's letters say; `None` where there is no such
 // region.
-pub(super) fn write_region<'a, R: BitRegister, O: BitOrder<R>, A: Allocator>(
-    text: &mut String<&'a A>,
-    alloc: &'a A,
+pub(super) fn write_region<R: BitRegister, O: BitOrder<R>>(
+    out: &mut Answer,
+    span: BitSpan<R, O>,
     memory: &[R],
-    words: &[&str],
-) -> Result<bool, AllocError> {
-    let [start, len, body, pattern] = words else {
-        return Ok(false);
-    };
-    let Some(body) = words_of::<R, A>(alloc, body)? else {
-        return Ok(false);
-    };
-    let Some(span) = span_at::<R, O>(start, len) else {
-        return Ok(false);
-    };
+    body: &[R],
+    pattern: &str,
+) -> Option<()> {
     if !span.fits(memory.len()) {
-        return Ok(false);
+        return None;
     }
-    let Some((head, _, _)) = span.domain(memory).region() else {
-        return Ok(false);
-    };
+    let (head, _, _) = span.domain(memory).region()?;
     let domain = Domain::Region {
         head,
-        body: &body,
+        body,
         tail: head,
     };
-    items::write_mixed(text, domain, pattern)
+    items::write_mixed(out, domain, pattern)
 }
 
-// Writes which parts the domain of a name has by default: whether there is a head, how many whole
-// words, and whether there is a tail, or how many bits are in each of the three; tells whether there
-// is such a domain.
-pub(super) fn write_default<R: BitRegister, O: BitOrder<R>, A: Allocator>(
-    text: &mut String<A>,
-    name: &str,
-) -> Result<bool, AllocError> {
+// Which parts the domain of a name has by default: whether there is a head, how many whole words,
+// and whether there is a tail, or how many bits are in each of the three.
+pub(super) fn shape<R: BitRegister, O: BitOrder<R>>(name: &str) -> Option<(Value, Value, Value)> {
     match name {
-        "Domain" => write_shape(text, shape::<R, O>()),
-        "DomainMut" => write_shape(text, shape_mut::<R, O>()),
-        "BitDomain" => write_lens(text, lens::<R, O>()),
-        "BitDomainMut" => write_lens(text, lens_mut::<R, O>()),
-        _ => Ok(false),
+        "Domain" => {
+            let (head, body, tail) = Domain::<R, O>::default().region()?;
+            Some(parts(head.is_some(), body.len(), tail.is_some()))
+        }
+        "DomainMut" => {
+            let (head, body, tail) = DomainMut::<R, O>::default().region()?;
+            Some(parts(head.is_some(), body.len(), tail.is_some()))
+        }
+        "BitDomain" => {
+            let (head, body, tail) = BitDomain::<R, O>::default().region()?;
+            Some(lens(head.len(), body.len(), tail.len()))
+        }
+        "BitDomainMut" => {
+            let (head, body, tail) = BitDomainMut::<R, O>::default().region()?;
+            Some(lens(head.len(), body.len(), tail.len()))
+        }
+        _ => None,
     }
 }
 
-// Writes a shape, and tells whether there is one.
-fn write_shape<A: Allocator>(
-    text: &mut String<A>,
-    shape: Option<(bool, usize, bool)>,
-) -> Result<bool, AllocError> {
-    let Some((has_head, words, has_tail)) = shape else {
-        return Ok(false);
-    };
-    write!(text, "{has_head} {words} {has_tail}")?;
-    Ok(true)
+fn parts(has_head: bool, words: usize, has_tail: bool) -> (Value, Value, Value) {
+    (
+        Value::Truth(has_head),
+        Value::Number(words),
+        Value::Truth(has_tail),
+    )
 }
 
-// Writes three lengths, and tells whether there are any.
-fn write_lens<A: Allocator>(
-    text: &mut String<A>,
-    lens: Option<(usize, usize, usize)>,
-) -> Result<bool, AllocError> {
-    let Some((head, body, tail)) = lens else {
-        return Ok(false);
-    };
-    write!(text, "{head} {body} {tail}")?;
-    Ok(true)
-}
-
-// Which parts the domain of no span has.
-fn shape<R: BitRegister, O: BitOrder<R>>() -> Option<(bool, usize, bool)> {
-    let none: Domain<R, O> = Domain::default();
-    let (head, body, tail) = none.region()?;
-    Some((head.is_some(), body.len(), tail.is_some()))
-}
-
-// The same of that for writing.
-fn shape_mut<R: BitRegister, O: BitOrder<R>>() -> Option<(bool, usize, bool)> {
-    let none: DomainMut<R, O> = DomainMut::default();
-    let (head, body, tail) = none.region()?;
-    Some((head.is_some(), body.len(), tail.is_some()))
-}
-
-// The lengths of the parts of the bits of no span.
-fn lens<R: BitRegister, O: BitOrder<R>>() -> Option<(usize, usize, usize)> {
-    let none: BitDomain<R, O> = BitDomain::default();
-    let (head, body, tail) = none.region()?;
-    Some((head.len(), body.len(), tail.len()))
-}
-
-// The same of those for writing.
-fn lens_mut<R: BitRegister, O: BitOrder<R>>() -> Option<(usize, usize, usize)> {
-    let none: BitDomainMut<R, O> = BitDomainMut::default();
-    let (head, body, tail) = none.region()?;
-    Some((head.len(), body.len(), tail.len()))
+fn lens(head: usize, body: usize, tail: usize) -> (Value, Value, Value) {
+    (
+        Value::Number(head),
+        Value::Number(body),
+        Value::Number(tail),
+    )
 }

@@ -1,64 +1,48 @@
 //! One part of one word, read or edited.
 
+use crate::answer::Answer;
 use crate::domains::edits::Edit;
-use crate::lists::write_value;
-use bits_text::number::number;
-use bits_text::words::write_words;
+use crate::values::{small, word_value};
 use bitvec::domain::{Domain, PartialElementMut};
 use bitvec::index::BitIdx;
 use bitvec::mem::BitRegister;
 use bitvec::order::BitOrder;
 use bitvec::ptr::span::BitSpan;
-use std::alloc::{AllocError, Allocator};
 
-// Writes the value before each edit of the part of a word from a head to before a tail, and the word
-// after them; tells whether there are such a part and such edits.
-pub(super) fn write_answer<R: BitRegister, O: BitOrder<R>, A: Allocator>(
-    text: &mut String<A>,
+// Writes the value before each edit of the part of a word from a head to before a tail, each a name
+// and an argument, and the word after them. A span of no bits has no part, so no edit changes one.
+pub(super) fn write_answer<R: BitRegister, O: BitOrder<R>>(
+    out: &mut Answer,
     memory: &mut [R],
-    words: &[&str],
-) -> Result<bool, AllocError> {
-    let [head, tail, details @ ..] = words else {
-        return Ok(false);
-    };
-    let Some(span) = span_between::<R, O>(head, tail) else {
-        return Ok(false);
-    };
-    let is_edited = match details {
-        [edit, argument] => write_old(text, old_value(span, memory, edit, argument))?,
-        _ => write_in_turn(text, span, memory, details)?,
-    };
-    if is_edited {
-        text.push_str(" ")?;
-        write_words(text, memory)?;
+    head: &str,
+    tail: &str,
+    edits: &[&str],
+) -> Option<()> {
+    let span = span_between::<R, O>(small(head)?, small(tail)?)?;
+    if !span.fits(memory.len()) {
+        return None;
     }
-    Ok(is_edited)
-}
-
-// Writes a value before an edit, and tells whether there is one.
-fn write_old<R: BitRegister, A: Allocator>(
-    text: &mut String<A>,
-    old: Option<R>,
-) -> Result<bool, AllocError> {
-    match old {
-        Some(old) => {
-            write_value(text, old)?;
-            Ok(true)
+    match edits {
+        [_, _] if span.is_empty() => out.value(word_value(joined(span.domain(memory)))),
+        [load, _] if *load == "load" && !span.is_empty() => {
+            out.value(word_value(span.part(memory, 0).load_value()))
         }
-        None => Ok(false),
+        _ => write_in_turn(out, span, memory, edits)?,
     }
+    out.push(" ");
+    out.words(memory);
+    Some(())
 }
 
-// Makes edits of one part in turn, each a name and an argument, and writes the value before each;
-// tells whether there are such a part and such edits.
-fn write_in_turn<R: BitRegister, O: BitOrder<R>, A: Allocator>(
-    text: &mut String<A>,
+// Makes edits of one part in turn, and writes the value before each.
+fn write_in_turn<R: BitRegister, O: BitOrder<R>>(
+    out: &mut Answer,
     span: BitSpan<R, O>,
     memory: &mut [R],
     edits: &[&str],
-) -> Result<bool, AllocError> {
+) -> Option<()> {
     if !span.fits(memory.len()) || span.is_empty() {
-        return Ok(false);
+        return None;
     }
     let mut part = span.part_mut(memory, 0);
     let mut name = "";
@@ -67,12 +51,10 @@ fn write_in_turn<R: BitRegister, O: BitOrder<R>, A: Allocator>(
             name = word;
             continue;
         }
-        if !write_old(text, old_of(&mut part, name, word))? {
-            return Ok(false);
-        }
+        out.item(&[word_value(old_of(&mut part, name, word)?)]);
         name = "";
     }
-    Ok(name == "")
+    Some(())
 }
 
 // The value of a part, which an edit changes then.
@@ -88,37 +70,11 @@ fn old_of<R: BitRegister, O: BitOrder<R>>(
 }
 
 // The span of the bits of a memory's first word from a head to before a tail.
-fn span_between<R: BitRegister, O>(head: &str, tail: &str) -> Option<BitSpan<R, O>> {
-    let head = number(head, 10, u128::from(R::BITS))? as u8;
-    let tail = number(tail, 10, u128::from(R::BITS))? as u8;
-    if tail < head {
+fn span_between<R: BitRegister, O>(head: u8, tail: u8) -> Option<BitSpan<R, O>> {
+    if tail < head || tail > R::BITS {
         return None;
     }
-    let first = BitIdx::new(head).ok()?;
-    BitSpan::new(0, first, usize::from(tail - head)).ok()
-}
-
-// The value of a span's part of a word, which an edit changes then; `None` where the span is past
-// the memory, or where the edit has no such name. A span of no bits has no part, so no edit changes
-// one.
-fn old_value<R: BitRegister, O: BitOrder<R>>(
-    span: BitSpan<R, O>,
-    memory: &mut [R],
-    edit: &str,
-    argument: &str,
-) -> Option<R> {
-    if !span.fits(memory.len()) {
-        return None;
-    }
-    if span.is_empty() {
-        return Some(joined(span.domain(memory)));
-    }
-    if edit == "load" {
-        return Some(span.part(memory, 0).load_value());
-    }
-    let edit = Edit::<R>::of_name(edit, argument)?;
-    let mut part = span.part_mut(memory, 0);
-    Some(edit.edit_part(&mut part))
+    BitSpan::new(0, BitIdx::new(head).ok()?, usize::from(tail - head)).ok()
 }
 
 // The digits of all items of a domain, and zero where it has none.

@@ -1,93 +1,107 @@
 //! Questions of signed numbers in slices, and their answers in decimal.
 
+use crate::numbers::End;
+use crate::values::{Value, named};
 use bitvec::mem::BitRegister;
 use bitvec_slice::field::{Sequential, SignedNumber};
 use bitvec_slice::slice::{BitSlice, BitSliceMut};
-use std::alloc::{AllocError, Allocator};
-use std::fmt::Write as _;
 
-// Writes the signed number that a slice is as one of a type, and tells whether there is one.
-pub(super) fn write_loaded<R: BitRegister, O: Sequential<R>, A: Allocator>(
-    text: &mut String<A>,
-    slice: BitSlice<R, O>,
-    name: &str,
-    kind: &str,
-) -> Result<bool, AllocError> {
-    match loaded(slice, name, kind) {
-        Some(number) => {
-            write!(text, "{number}")?;
-            Ok(true)
-        }
-        None => Ok(false),
-    }
+const LOADS: [(&str, End); 2] = [
+    ("load_signed_le", End::Little),
+    ("load_signed_be", End::Big),
+];
+
+const STORES: [(&str, End); 2] = [
+    ("store_signed_le", End::Little),
+    ("store_signed_be", End::Big),
+];
+
+// The type of a number.
+#[derive(Clone, Copy)]
+enum Kind {
+    I8,
+    I16,
+    I32,
+    I64,
+    Isize,
+    I128,
 }
 
+const KINDS: [(&str, Kind); 6] = [
+    ("i8", Kind::I8),
+    ("i16", Kind::I16),
+    ("i32", Kind::I32),
+    ("i64", Kind::I64),
+    ("isize", Kind::Isize),
+    ("i128", Kind::I128),
+];
+
 // The signed number that a slice is as one of a type.
-fn loaded<R: BitRegister, O: Sequential<R>>(
+pub(super) fn value_of<R: BitRegister, O: Sequential<R>>(
     slice: BitSlice<R, O>,
     name: &str,
     kind: &str,
-) -> Option<i128> {
-    match kind {
-        "i8" => loaded_as::<R, O, i8>(slice, name),
-        "i16" => loaded_as::<R, O, i16>(slice, name),
-        "i32" => loaded_as::<R, O, i32>(slice, name),
-        "i64" => loaded_as::<R, O, i64>(slice, name),
-        "isize" => loaded_as::<R, O, isize>(slice, name),
-        "i128" => loaded_as::<R, O, i128>(slice, name),
-        _ => None,
-    }
+) -> Option<Value> {
+    let end = named(&LOADS, name)?;
+    let number = match named(&KINDS, kind)? {
+        Kind::I8 => loaded_as::<R, O, i8>(slice, end)?,
+        Kind::I16 => loaded_as::<R, O, i16>(slice, end)?,
+        Kind::I32 => loaded_as::<R, O, i32>(slice, end)?,
+        Kind::I64 => loaded_as::<R, O, i64>(slice, end)?,
+        Kind::Isize => loaded_as::<R, O, isize>(slice, end)?,
+        Kind::I128 => loaded_as::<R, O, i128>(slice, end)?,
+    };
+    Some(Value::Signed(number))
 }
 
 // The same for a type; `None` where the slice has more bits than it.
 fn loaded_as<R: BitRegister, O: Sequential<R>, N: SignedNumber>(
     slice: BitSlice<R, O>,
-    name: &str,
+    end: End,
 ) -> Option<i128> {
     if slice.len() > usize::from(N::BITS) {
         return None;
     }
-    match name {
-        "load_signed_le" => Some(slice.load_signed_le::<N>().to_i128()),
-        "load_signed_be" => Some(slice.load_signed_be::<N>().to_i128()),
-        _ => None,
-    }
+    let number = match end {
+        End::Little => slice.load_signed_le::<N>(),
+        End::Big => slice.load_signed_be::<N>(),
+    };
+    Some(number.to_i128())
 }
 
-// Stores a signed number of a type, and tells whether there is such a call.
-pub(super) fn is_stored<R: BitRegister, O: Sequential<R>>(
+// Stores the signed number of a text; `None` where it is none of the type, or where there is no
+// such call.
+pub(super) fn stored_text<R: BitRegister, O: Sequential<R>>(
     slice: &mut BitSliceMut<R, O>,
     name: &str,
     kind: &str,
-    value: i128,
-) -> bool {
-    match kind {
-        "i8" => is_stored_as(slice, name, i8::from_i128(value)),
-        "i16" => is_stored_as(slice, name, i16::from_i128(value)),
-        "i32" => is_stored_as(slice, name, i32::from_i128(value)),
-        "i64" => is_stored_as(slice, name, i64::from_i128(value)),
-        "isize" => is_stored_as(slice, name, isize::from_i128(value)),
-        "i128" => is_stored_as(slice, name, i128::from_i128(value)),
-        _ => false,
+    value: &str,
+) -> Option<()> {
+    let end = named(&STORES, name)?;
+    let value = value.parse::<i128>().ok()?;
+    match named(&KINDS, kind)? {
+        Kind::I8 => stored_as::<R, O, i8>(slice, end, value),
+        Kind::I16 => stored_as::<R, O, i16>(slice, end, value),
+        Kind::I32 => stored_as::<R, O, i32>(slice, end, value),
+        Kind::I64 => stored_as::<R, O, i64>(slice, end, value),
+        Kind::Isize => stored_as::<R, O, isize>(slice, end, value),
+        Kind::I128 => stored_as::<R, O, i128>(slice, end, value),
     }
 }
 
 // The same for a type.
-fn is_stored_as<R: BitRegister, O: Sequential<R>, N: SignedNumber>(
+fn stored_as<R: BitRegister, O: Sequential<R>, N: SignedNumber>(
     slice: &mut BitSliceMut<R, O>,
-    name: &str,
-    value: Option<N>,
-) -> bool {
-    let Some(value) = value else {
-        return false;
-    };
+    end: End,
+    value: i128,
+) -> Option<()> {
+    let value = N::from_i128(value)?;
     if slice.len() > usize::from(N::BITS) {
-        return false;
+        return None;
     }
-    match name {
-        "store_signed_le" => slice.store_signed_le(value),
-        "store_signed_be" => slice.store_signed_be(value),
-        _ => return false,
+    match end {
+        End::Little => slice.store_signed_le(value),
+        End::Big => slice.store_signed_be(value),
     }
-    true
+    Some(())
 }

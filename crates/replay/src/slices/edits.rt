@@ -1,176 +1,150 @@
 //! What slices write.
 
-ghost use Rattle.std.specs.Prelude.{◌≤◌};
-ghost use Rattle.bitvec_slice.specs.BitSliceMut.{lent_len};
-
-use crate::spans::is_one;
+use crate::answer::Answer;
+use crate::values::{digit_value, named};
 use bitvec::mem::BitRegister;
 use bitvec::order::BitOrder;
-use bitvec::ptr::span::BitSpan;
 use bitvec_slice::slice::BitSliceMut;
-use std::alloc::{AllocError, Allocator};
 
-// Edits a slice, writes the bit before it and a space where the call gives that, and tells whether
-// there is such an edit.
-pub(super) fn write_edited<R: BitRegister, O: BitOrder<R>, A: Allocator>(
-    text: &mut String<A>,
-    slice: &mut BitSliceMut<R, O>,
-    words: &[&str],
-) -> Result<bool, AllocError> {
-    match words {
-        [name, i, bit] if *name == "replace" => write_replaced(text, slice, i, bit),
-        [name] if *name == "reverse" => {
-            slice.reverse();
-            Ok(true)
-        }
-        [name, with] => Ok(is_edited(slice, name, with)),
-        [name, i, with] => Ok(is_changed(slice, name, i, with)),
-        [name, from, to, with] => match (number_of(from), number_of(to)) {
-            (Some(from), Some(to)) if from <= to && to <= slice.len() => {
-                Ok(is_edited_between(slice, name, from, to, with))
-            }
-            _ => Ok(false),
-        },
-        _ => Ok(false),
-    }
+// A move of all bits of a slice by a number.
+#[derive(Clone, Copy)]
+pub(super) enum Move {
+    RotateLeft,
+    RotateRight,
+    ShiftLeft,
+    ShiftRight,
+    CopyToFront,
+    CopyToBack,
 }
 
-// The number of a text.
-fn number_of(text: &str) -> Option<usize> {
-    text.parse::<usize>().ok()
+pub(super) const MOVES: [(&str, Move); 6] = [
+    ("rotate_left", Move::RotateLeft),
+    ("rotate_right", Move::RotateRight),
+    ("shift_left", Move::ShiftLeft),
+    ("shift_right", Move::ShiftRight),
+    ("copy_to_front", Move::CopyToFront),
+    ("copy_to_back", Move::CopyToBack),
+];
+
+// Another edit of a slice.
+#[derive(Clone, Copy)]
+enum Edit {
+    Set,
+    Swap,
+    Fill,
+    FillRange,
+    CopyWithin,
+    Reverse,
 }
 
-// Replaces a bit, writes the bit before and a space, and tells whether the slice has it.
-fn write_replaced<R: BitRegister, O: BitOrder<R>, A: Allocator>(
-    text: &mut String<A>,
-    slice: &mut BitSliceMut<R, O>,
-    i: &str,
-    bit: &str,
-) -> Result<bool, AllocError> {
-    match (number_of(i), is_one(bit)) {
-        (Some(i), Some(bit)) if i < slice.len() => {
-            let before = slice.replace(i, bit);
-            text.push_str(if before { "1 " } else { "0 " })?;
-            Ok(true)
-        }
-        _ => Ok(false),
-    }
-}
+const EDITS: [(&str, Edit); 6] = [
+    ("set", Edit::Set),
+    ("swap", Edit::Swap),
+    ("fill", Edit::Fill),
+    ("fill_range", Edit::FillRange),
+    ("copy_within", Edit::CopyWithin),
+    ("reverse", Edit::Reverse),
+];
 
-// Fills a slice with a bit, or moves its bits by a number, and tells whether the call is one of
-// these.
-fn is_edited<R: BitRegister, O: BitOrder<R>>(
+// Edits a slice, and writes the bit before it and a space where the call gives that; `None` where
+// there is no such edit.
+pub(super) fn write_before<R: BitRegister, O: BitOrder<R>>(
+    out: &mut Answer,
     slice: &mut BitSliceMut<R, O>,
     name: &str,
-    with: &str,
-) -> bool {
-    if name == "fill" {
-        return match is_one(with) {
-            Some(bit) => {
-                slice.fill(bit);
-                true
-            }
-            None => false,
-        };
+    n: [usize; 3],
+) -> Option<()> {
+    if let Some(by) = named(&MOVES, name) {
+        return moved(slice, by, n[0]);
     }
-    match number_of(with) {
-        Some(by) if by <= slice.len() => moves(slice, name, by),
-        _ => false,
+    if name == "replace" {
+        out.value(digit_value(replaced(slice, n[0], bit_of(n[1])?)?));
+        out.push(" ");
+        return Some(());
+    }
+    let edit = named(&EDITS, name)?;
+    match edit {
+        Edit::FillRange | Edit::CopyWithin => edited_between(slice, edit, n),
+        _ => edited(slice, edit, n),
     }
 }
 
-// Moves the bits of a slice by a number, and tells whether the call does.
-fn moves<R: BitRegister, O: BitOrder<R>>(
+// The bit that a number is.
+fn bit_of(n: usize) -> Option<bool> {
+    match n {
+        0 => Some(false),
+        1 => Some(true),
+        _ => None,
+    }
+}
+
+// Replaces a bit, and gives the bit before.
+fn replaced<R: BitRegister, O: BitOrder<R>>(
     slice: &mut BitSliceMut<R, O>,
-    name: &str,
-    by: usize,
-) -> bool
-    requires { by ≤ lent_len slice.old }
-{
+    i: usize,
+    bit: bool,
+) -> Option<bool> {
+    if i < slice.len() {
+        Some(slice.replace(i, bit))
+    } else {
+        None
+    }
+}
+
+// Moves the bits of a slice by a number of places, which are at most as many.
+pub(super) fn moved<R: BitRegister, O: BitOrder<R>>(
+    slice: &mut BitSliceMut<R, O>,
+    by: Move,
+    n: usize,
+) -> Option<()> {
     let len = slice.len();
-    match name {
-        "rotate_left" => slice.rotate_left(by),
-        "rotate_right" => slice.rotate_right(by),
-        "shift_left" => slice.shift_left(by),
-        "shift_right" => slice.shift_right(by),
-        "copy_to_front" => slice.copy_within(by..len, 0),
-        "copy_to_back" => slice.copy_within(0..len - by, by),
-        _ => return false,
+    if n > len {
+        return None;
     }
-    true
+    match by {
+        Move::RotateLeft => slice.rotate_left(n),
+        Move::RotateRight => slice.rotate_right(n),
+        Move::ShiftLeft => slice.shift_left(n),
+        Move::ShiftRight => slice.shift_right(n),
+        Move::CopyToFront => slice.copy_within(n..len, 0),
+        Move::CopyToBack => slice.copy_within(0..len - n, n),
+    }
+    Some(())
 }
 
-// Writes a bit, or exchanges it with another, and tells whether the slice has it.
-fn is_changed<R: BitRegister, O: BitOrder<R>>(
+// Edits single bits of a slice, or all.
+fn edited<R: BitRegister, O: BitOrder<R>>(
     slice: &mut BitSliceMut<R, O>,
-    name: &str,
-    i: &str,
-    with: &str,
-) -> bool {
-    let Some(i) = number_of(i) else {
-        return false;
-    };
-    if i >= slice.len() {
-        return false;
+    edit: Edit,
+    n: [usize; 3],
+) -> Option<()> {
+    let [i, with, _] = n;
+    let len = slice.len();
+    match edit {
+        Edit::Set if i < len => slice.set(i, bit_of(with)?),
+        Edit::Swap if i < len && with < len => slice.swap(i, with),
+        Edit::Fill => slice.fill(bit_of(i)?),
+        Edit::Reverse => slice.reverse(),
+        _ => return None,
     }
-    if name == "set" {
-        return match is_one(with) {
-            Some(bit) => {
-                slice.set(i, bit);
-                true
-            }
-            None => false,
-        };
-    }
-    match number_of(with) {
-        Some(j) if name == "swap" && j < slice.len() => {
-            slice.swap(i, j);
-            true
-        }
-        _ => false,
-    }
+    Some(())
 }
 
-// Fills the bits from one to before another, or copies them, and tells whether the call is one of
-// these.
-fn is_edited_between<R: BitRegister, O: BitOrder<R>>(
+// Edits the bits of a slice from one to before another.
+fn edited_between<R: BitRegister, O: BitOrder<R>>(
     slice: &mut BitSliceMut<R, O>,
-    name: &str,
-    from: usize,
-    to: usize,
-    with: &str,
-) -> bool
-    requires ordered { from ≤ to }
-    requires inside { to ≤ lent_len slice.old }
-{
-    if name == "fill_range" {
-        return match is_one(with) {
-            Some(bit) => {
-                slice.fill_range(from, to, bit);
-                true
-            }
-            None => false,
-        };
+    edit: Edit,
+    n: [usize; 3],
+) -> Option<()> {
+    let [from, to, with] = n;
+    let len = slice.len();
+    if from > to || to > len {
+        return None;
     }
-    match number_of(with) {
-        Some(at) if name == "copy_within" && at <= slice.len() - (to - from) => {
-            slice.copy_within(from..to, at);
-            true
-        }
-        _ => false,
+    match edit {
+        Edit::FillRange => slice.fill_range(from, to, bit_of(with)?),
+        Edit::CopyWithin if with <= len - (to - from) => slice.copy_within(from..to, with),
+        _ => return None,
     }
-}
-
-// Moves the bits of a span's slice by a number, and tells whether the slice lies in the memory and
-// the call moves bits.
-pub(super) fn is_moved<R: BitRegister, O: BitOrder<R>>(
-    span: BitSpan<R, O>,
-    memory: &mut [R],
-    name: &str,
-    by: usize,
-) -> bool {
-    match BitSliceMut::new(span, memory) {
-        Ok(mut slice) if by <= slice.len() => moves(&mut slice, name, by),
-        _ => false,
-    }
+    Some(())
 }

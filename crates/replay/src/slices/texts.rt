@@ -1,54 +1,51 @@
 //! Slices as texts.
 
-use crate::shown::AsBinary;
+use crate::answer::Answer;
 use bitvec::mem::BitRegister;
 use bitvec::order::BitOrder;
 use bitvec_slice::slice::{BitSlice, BitSliceMut, TextError};
-use std::alloc::{AllocError, Allocator};
-use std::fmt::Write as _;
+use std::fmt::{self, Display, Write as _};
 
-// Writes the digits of a slice, the same as `{:b}` has them, and its list; tells whether that is
-// asked.
-pub(super) fn write_answer<R: BitRegister, O: BitOrder<R>, A: Allocator>(
-    text: &mut String<A>,
-    slice: BitSlice<R, O>,
-    words: &[&str],
-) -> Result<bool, AllocError> {
-    match words {
-        [name] if *name == "texts" => {
-            let binary = AsBinary(&slice);
-            write!(text, "<{slice}> <{binary}> {slice:?}")?;
-            Ok(true)
-        }
-        _ => Ok(false),
+// A slice as its `Binary` shows it, since a format takes that of numbers alone.
+#[derive(Drop)]
+struct AsBinary<'a, T>(&'a T);
+
+impl<T: fmt::Binary> Display for AsBinary<'_, T> {
+    fn fmt<W: fmt::Write>(&self, f: &mut fmt::Formatter<W>) -> fmt::Result {
+        fmt::Binary::fmt(self.0, f)
     }
+}
+
+// Writes the digits of a slice, the same as `{:b}` has them, and its list.
+pub(super) fn write_texts<R: BitRegister, O: BitOrder<R>>(
+    out: &mut Answer,
+    slice: &BitSlice<R, O>,
+) {
+    let binary = AsBinary(slice);
+    let written = write!(out.text, "<{slice}> <{binary}> {slice:?}");
+    out.note(written);
 }
 
 // Reads the bits of a slice from a text in angle brackets, and writes why it is refused and a space
-// where it is; tells whether that is asked.
-pub(super) fn write_read<R: BitRegister, O: BitOrder<R>, A: Allocator>(
-    text: &mut String<A>,
+// where it is; `None` where there are no such brackets.
+pub(super) fn write_read<R: BitRegister, O: BitOrder<R>>(
+    out: &mut Answer,
     slice: &mut BitSliceMut<R, O>,
-    words: &[&str],
-) -> Result<bool, AllocError> {
-    let [name, from] = words else {
-        return Ok(false);
-    };
-    if *name != "copy_from_text" {
-        return Ok(false);
-    }
-    let Some(digits) = digits_in(from) else {
-        return Ok(false);
-    };
+    text: &str,
+) -> Option<()> {
+    let digits = text.strip_prefix('<')?.strip_suffix('>')?;
     match slice.copy_from_text(digits) {
         Ok(()) => {}
-        Err(TextError::NotADigit(at)) => write!(text, "not_a_digit {at} ")?,
-        Err(TextError::OtherLength(digits)) => write!(text, "other_length {digits} ")?,
+        Err(error) => write_refusal(out, error),
     }
-    Ok(true)
+    Some(())
 }
 
-// The text in angle brackets.
-fn digits_in(text: &str) -> Option<&str> {
-    text.strip_prefix('<')?.strip_suffix('>')
+// Writes why a text is refused, and a space.
+fn write_refusal(out: &mut Answer, error: TextError) {
+    let written = match error {
+        TextError::NotADigit(at) => write!(out.text, "not_a_digit {at} "),
+        TextError::OtherLength(digits) => write!(out.text, "other_length {digits} "),
+    };
+    out.note(written);
 }

@@ -4,101 +4,100 @@ ghost use Rattle.std.specs.Prelude.{length};
 ghost use Rattle.bitvec.specs.BitSpan.{span_of};
 ghost use Rattle.bitvec.specs.Span.{Fits};
 
-use crate::spans::reads::digit_of;
-use crate::spans::{count_of, is_one};
-use bits_text::words::write_words;
+use crate::answer::Answer;
+use crate::values::{count_of, digit_value, is_one};
 use bitvec::mem::BitRegister;
 use bitvec::order::BitOrder;
 use bitvec::ptr::span::BitSpan;
-use std::alloc::{AllocError, Allocator};
+use std::alloc::{AllocError, Global};
 
-// Writes the memory after an edit through a span, behind the bit before it where the call gives
-// that; tells whether there is such an edit.
-pub(super) fn write_answer<'a, R: BitRegister, O: BitOrder<R>, A: Allocator>(
-    text: &mut String<&'a A>,
-    alloc: &'a A,
-    span: BitSpan<R, O>,
-    memory: &mut [R],
-    words: &[&str],
-) -> Result<bool, AllocError>
-    requires { Fits R.BITS (span_of span) (length memory.old) }
-{
-    let is_done = match words {
-        [name, list] if *name == "write_bits" => written(alloc, span, memory, list)?,
-        [name, bit] => is_filled(span, memory, name, is_one(bit)),
-        [name, index, with] if *name == "replace" => {
-            write_replaced(text, span, memory, count_of(index), is_one(with))?
-        }
-        [name, index, with] => is_changed(span, memory, name, count_of(index), with),
-        [name, from, to, count] if *name == "copy_within" => {
-            is_copied(span, memory, count_of(from), count_of(to), count_of(count))
-        }
-        _ => false,
-    };
-    if is_done {
-        write_words(text, memory)?;
-    }
-    Ok(is_done)
+// What a span writes.
+#[derive(Clone, Copy)]
+pub(super) enum Edit {
+    WriteBits,
+    Fill,
+    WriteEach,
+    Replace,
+    Write,
+    Swap,
+    CopyWithin,
 }
 
-// Writes a list of bits, given by their digits, and tells whether the span has as many bits.
-fn written<'a, R: BitRegister, O: BitOrder<R>, A: Allocator>(
-    alloc: &'a A,
+pub(super) const EDITS: [(&str, Edit); 7] = [
+    ("write_bits", Edit::WriteBits),
+    ("fill", Edit::Fill),
+    ("write_each", Edit::WriteEach),
+    ("replace", Edit::Replace),
+    ("write", Edit::Write),
+    ("swap", Edit::Swap),
+    ("copy_within", Edit::CopyWithin),
+];
+
+// Edits a memory through a span, and writes the bit before it and a space where the call gives
+// that; `None` where there is no such edit.
+pub(super) fn write_answer<R: BitRegister, O: BitOrder<R>>(
+    out: &mut Answer,
+    span: BitSpan<R, O>,
+    memory: &mut [R],
+    edit: Edit,
+    words: &[&str],
+) -> Option<()>
+    requires { Fits R.BITS (span_of span) (length memory.old) }
+{
+    match (edit, words) {
+        (Edit::WriteBits, [list]) => write_bits(out, span, memory, list)?,
+        (Edit::Fill, [bit]) => span.fill(memory, is_one(bit)?),
+        (Edit::WriteEach, [bit]) => write_each(span, memory, is_one(bit)?),
+        (Edit::Replace, [index, bit]) => {
+            let before = replaced(span, memory, count_of(index)?, is_one(bit)?)?;
+            out.value(digit_value(before));
+            out.push(" ");
+        }
+        (Edit::Write, [index, bit]) => written(span, memory, count_of(index)?, is_one(bit)?)?,
+        (Edit::Swap, [one, two]) => swapped(span, memory, count_of(one)?, count_of(two)?)?,
+        (Edit::CopyWithin, [from, to, count]) => {
+            copied(
+                span,
+                memory,
+                count_of(from)?,
+                count_of(to)?,
+                count_of(count)?,
+            )?
+        }
+        _ => return None,
+    }
+    Some(())
+}
+
+// Writes a list of bits, given by their digits; `None` where the span has not as many bits.
+fn write_bits<R: BitRegister, O: BitOrder<R>>(
+    out: &mut Answer,
     span: BitSpan<R, O>,
     memory: &mut [R],
     list: &str,
-) -> Result<bool, AllocError>
+) -> Option<()>
     requires { Fits R.BITS (span_of span) (length memory.old) }
 {
-    match bits_of(alloc, list)? {
-        Some(bits) if bits.len() == span.len() => {
-            span.write_bits(memory, &bits);
-            Ok(true)
-        }
-        _ => Ok(false),
+    let Ok(bits) = bits_of(out.alloc, list) else {
+        out.note(Err(AllocError));
+        return None;
+    };
+    if bits.len() != span.len() {
+        return None;
     }
+    span.write_bits(memory, &bits);
+    Some(())
 }
 
 // The bits of a text of their digits, or of `-` for none.
-fn bits_of<'a, A: Allocator>(
-    alloc: &'a A,
-    list: &str,
-) -> Result<Option<Vec<bool, &'a A>>, AllocError> {
+fn bits_of<'a>(alloc: &'a Global, list: &str) -> Result<Vec<bool, &'a Global>, AllocError> {
     let mut bits = Vec::new(alloc);
-    if list == "-" {
-        return Ok(Some(bits));
-    }
-    for digit in list.chars() {
-        match digit {
-            '0' => bits.push(false)?,
-            '1' => bits.push(true)?,
-            _ => return Ok(None),
+    if list != "-" {
+        for digit in list.chars() {
+            bits.push(digit == '1')?;
         }
     }
-    Ok(Some(bits))
-}
-
-// Makes each bit of a span the same, at once or one by one by the pointer to it, and tells whether
-// the call is one of these.
-fn is_filled<R: BitRegister, O: BitOrder<R>>(
-    span: BitSpan<R, O>,
-    memory: &mut [R],
-    name: &str,
-    bit: Option<bool>,
-) -> bool
-    requires { Fits R.BITS (span_of span) (length memory.old) }
-{
-    match bit {
-        Some(bit) if name == "fill" => {
-            span.fill(memory, bit);
-            true
-        }
-        Some(bit) if name == "write_each" => {
-            write_each(span, memory, bit);
-            true
-        }
-        _ => false,
-    }
+    Ok(bits)
 }
 
 // Writes each bit of a span by the pointer to it.
@@ -110,77 +109,68 @@ fn write_each<R: BitRegister, O: BitOrder<R>>(span: BitSpan<R, O>, memory: &mut 
     }
 }
 
-// Replaces a bit, writes the bit before and a space, and tells whether the span has it.
-fn write_replaced<R: BitRegister, O: BitOrder<R>, A: Allocator>(
-    text: &mut String<A>,
+// Replaces a bit, and gives the bit before; `None` where the span has it not.
+fn replaced<R: BitRegister, O: BitOrder<R>>(
     span: BitSpan<R, O>,
     memory: &mut [R],
-    index: Option<usize>,
-    bit: Option<bool>,
-) -> Result<bool, AllocError>
+    i: usize,
+    bit: bool,
+) -> Option<bool>
     requires { Fits R.BITS (span_of span) (length memory.old) }
 {
-    match (index, bit) {
-        (Some(i), Some(bit)) if i < span.len() => {
-            text.push_str(digit_of(span.replace(memory, i, bit)))?;
-            text.push_str(" ")?;
-            Ok(true)
-        }
-        _ => Ok(false),
+    if i < span.len() {
+        Some(span.replace(memory, i, bit))
+    } else {
+        None
     }
 }
 
-// Writes a bit, or exchanges it with another, and tells whether the span has it.
-fn is_changed<R: BitRegister, O: BitOrder<R>>(
+// Writes a bit.
+fn written<R: BitRegister, O: BitOrder<R>>(
     span: BitSpan<R, O>,
     memory: &mut [R],
-    name: &str,
-    index: Option<usize>,
-    with: &str,
-) -> bool
+    i: usize,
+    bit: bool,
+) -> Option<()>
     requires { Fits R.BITS (span_of span) (length memory.old) }
 {
-    let Some(i) = index else {
-        return false;
-    };
     if i >= span.len() {
-        return false;
+        return None;
     }
-    if name == "write" {
-        return match is_one(with) {
-            Some(bit) => {
-                span.write(memory, i, bit);
-                true
-            }
-            None => false,
-        };
-    }
-    match count_of(with) {
-        Some(j) if name == "swap" && j < span.len() => {
-            span.swap(memory, i, j);
-            true
-        }
-        _ => false,
-    }
+    span.write(memory, i, bit);
+    Some(())
 }
 
-// Copies bits inside a span, and tells whether both ranges end within it.
-fn is_copied<R: BitRegister, O: BitOrder<R>>(
+// Exchanges two bits.
+fn swapped<R: BitRegister, O: BitOrder<R>>(
     span: BitSpan<R, O>,
     memory: &mut [R],
-    from: Option<usize>,
-    to: Option<usize>,
-    count: Option<usize>,
-) -> bool
+    i: usize,
+    j: usize,
+) -> Option<()>
     requires { Fits R.BITS (span_of span) (length memory.old) }
 {
-    let (Some(from), Some(to), Some(count)) = (from, to, count) else {
-        return false;
-    };
+    if i >= span.len() || j >= span.len() {
+        return None;
+    }
+    span.swap(memory, i, j);
+    Some(())
+}
+
+// Copies bits inside a span; `None` where a range does not end within it.
+fn copied<R: BitRegister, O: BitOrder<R>>(
+    span: BitSpan<R, O>,
+    memory: &mut [R],
+    from: usize,
+    to: usize,
+    count: usize,
+) -> Option<()>
+    requires { Fits R.BITS (span_of span) (length memory.old) }
+{
     let len = span.len();
     if count > len || from > len - count || to > len - count {
-        return false;
+        return None;
     }
     span.copy_within(memory, from, to, count);
-    true
+    Some(())
 }

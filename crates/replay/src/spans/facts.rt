@@ -1,178 +1,158 @@
 //! What a span is, which no memory and no order changes.
 
-use crate::spans::{count_of, pointer_of, span_at};
+use crate::answer::Answer;
+use crate::pointers::parts_value;
+use crate::spans::{pointer_of, span_at};
+use crate::values::{Value, count_of, number_value};
 use bitvec::mem::BitRegister;
 use bitvec::order::Lsb0;
 use bitvec::ptr::span::{BitSpan, BitSpanError};
-use std::alloc::{AllocError, Allocator};
-use std::fmt::Write as _;
 
-// Writes the answer to a question of a span alone, and tells whether there is one.
-pub(super) fn write_answer<R: BitRegister, A: Allocator>(
-    text: &mut String<A>,
-    start: &str,
-    len: &str,
-    words: &[&str],
-) -> Result<bool, AllocError> {
-    if let [name] = words {
-        if write_made::<R, A>(text, start, len, name)? {
-            return Ok(true);
-        }
-    }
-    let Some(span) = span_at::<R, Lsb0>(start, len) else {
-        return Ok(false);
-    };
-    match words {
-        [name] => write_own(text, span, name),
-        [name, number] => match count_of(number) {
-            Some(n) => write_of_number(text, span, name, n),
-            None => Ok(false),
-        },
-        [name, one, other] => write_of_two(text, span, name, one, other),
-        _ => Ok(false),
-    }
+// What is asked of a span alone.
+#[derive(Clone, Copy)]
+pub(super) enum Fact {
+    New,
+    FromBitptr,
+    At,
+    Elements,
+    Tail,
+    Len,
+    IsEmpty,
+    RawParts,
+    ToBitptr,
+    ToBitptrRange,
+    Fits,
+    SplitAt,
+    Range,
+    IsDisjoint,
+    Equals,
 }
 
-// Writes the span that a call makes, or why it makes none, and tells whether there is such a call.
-fn write_made<R: BitRegister, A: Allocator>(
-    text: &mut String<A>,
+pub(super) const FACTS: [(&str, Fact); 15] = [
+    ("new", Fact::New),
+    ("from_bitptr", Fact::FromBitptr),
+    ("at", Fact::At),
+    ("elements", Fact::Elements),
+    ("tail", Fact::Tail),
+    ("len", Fact::Len),
+    ("is_empty", Fact::IsEmpty),
+    ("raw_parts", Fact::RawParts),
+    ("to_bitptr", Fact::ToBitptr),
+    ("to_bitptr_range", Fact::ToBitptrRange),
+    ("fits", Fact::Fits),
+    ("split_at", Fact::SplitAt),
+    ("range", Fact::Range),
+    ("is_disjoint", Fact::IsDisjoint),
+    ("equals", Fact::Equals),
+];
+
+// Writes the answer to a question of a span alone; `None` where there is none.
+pub(super) fn write_answer<R: BitRegister>(
+    out: &mut Answer,
     start: &str,
     len: &str,
-    name: &str,
-) -> Result<bool, AllocError> {
-    match made::<R>(start, len, name) {
-        Some(Ok(span)) => write_numbers(text, span)?,
-        Some(Err(error)) => write!(text, "{error:?}")?,
-        None => return Ok(false),
+    fact: Fact,
+    words: &[&str],
+) -> Option<()> {
+    if let Fact::New | Fact::FromBitptr | Fact::At = fact {
+        match made::<R>(start, count_of(len)?, fact)? {
+            Ok(span) => out.value(numbers_of(span)),
+            Err(error) => out.debug(&error),
+        }
+        return Some(());
     }
-    Ok(true)
+    let span = span_at::<R, Lsb0>(start, len)?;
+    match (fact, words) {
+        (Fact::ToBitptrRange, []) => out.values(&ends(span)),
+        (_, []) => out.value(own(span, fact)?),
+        (Fact::Fits, [n]) => out.value(Value::Truth(span.fits(count_of(n)?))),
+        (Fact::SplitAt, [n]) => write_halves(out, span, count_of(n)?)?,
+        (Fact::Range, [from, to]) => out.value(part(span, count_of(from)?, count_of(to)?)?),
+        (_, [start, len]) => {
+            let (way, back) = with(span, fact, span_at(start, len)?)?;
+            out.values(&[Value::Truth(way), Value::Truth(back)]);
+        }
+        _ => return None,
+    }
+    Some(())
 }
 
 // The span that a call makes, `new` of a word and a bit, `from_bitptr` or `at` of a place.
 fn made<R: BitRegister>(
     start: &str,
-    len: &str,
-    name: &str,
+    len: usize,
+    fact: Fact,
 ) -> Option<Result<BitSpan<R, Lsb0>, BitSpanError<R>>> {
-    let len = count_of(len)?;
-    match name {
-        "new" => {
+    match fact {
+        Fact::New => {
             let (word, bit) = pointer_of::<R, Lsb0>(start)?.raw_parts();
             Some(BitSpan::new(word, bit, len))
         }
-        "from_bitptr" => Some(BitSpan::from_bitptr(pointer_of(start)?, len)),
-        "at" => Some(BitSpan::at(count_of(start)?, len)),
+        Fact::FromBitptr => Some(BitSpan::from_bitptr(pointer_of(start)?, len)),
+        Fact::At => Some(BitSpan::at(count_of(start)?, len)),
         _ => None,
     }
 }
 
-// Writes the word, the head and the length of a span.
-pub(super) fn write_numbers<R: BitRegister, A: Allocator>(
-    text: &mut String<A>,
-    span: BitSpan<R, Lsb0>,
-) -> Result<(), AllocError> {
+// The word, the head and the length of a span.
+pub(super) fn numbers_of<R: BitRegister>(span: BitSpan<R, Lsb0>) -> Value {
     let (word, head, len) = span.raw_parts();
-    let head = head.into_inner();
-    write!(text, "{word} {head} {len}")
+    Value::Span(word, head.into_inner(), len)
 }
 
-// Writes what a span answers to a call, and tells whether it is one.
-fn write_own<R: BitRegister, A: Allocator>(
-    text: &mut String<A>,
-    span: BitSpan<R, Lsb0>,
-    name: &str,
-) -> Result<bool, AllocError> {
-    let (elements, tail) = (span.elements(), span.tail().into_inner());
-    let (len, is_empty) = (span.len(), span.is_empty());
-    match name {
-        "elements" => write!(text, "{elements}")?,
-        "tail" => write!(text, "{tail}")?,
-        "len" => write!(text, "{len}")?,
-        "is_empty" => write!(text, "{is_empty}")?,
-        "raw_parts" => write_numbers(text, span)?,
-        "to_bitptr" => {
-            let (word, bit) = span.to_bitptr().raw_parts();
-            let bit = bit.into_inner();
-            write!(text, "{word} {bit}")?;
-        }
-        "to_bitptr_range" => write_ends(text, span)?,
-        _ => return Ok(false),
+// What a span answers to a call.
+fn own<R: BitRegister>(span: BitSpan<R, Lsb0>, fact: Fact) -> Option<Value> {
+    match fact {
+        Fact::Elements => Some(Value::Number(span.elements())),
+        Fact::Tail => Some(number_value(span.tail().into_inner())),
+        Fact::Len => Some(Value::Number(span.len())),
+        Fact::IsEmpty => Some(Value::Truth(span.is_empty())),
+        Fact::RawParts => Some(numbers_of(span)),
+        Fact::ToBitptr => Some(parts_value(span.to_bitptr())),
+        _ => None,
     }
-    Ok(true)
 }
 
-// Writes the two ends of a span's range of pointers, and whether its start is the span's pointer.
-fn write_ends<R: BitRegister, A: Allocator>(
-    text: &mut String<A>,
-    span: BitSpan<R, Lsb0>,
-) -> Result<(), AllocError> {
+// The two ends of a span's range of pointers, and whether its start is the span's pointer.
+fn ends<R: BitRegister>(span: BitSpan<R, Lsb0>) -> [Value; 3] {
     let range = span.to_bitptr_range();
     let is_start = range.start() == span.to_bitptr();
-    let (from, first) = range.start().raw_parts();
-    let (to, end) = range.end().raw_parts();
-    let (first, end) = (first.into_inner(), end.into_inner());
-    write!(text, "{from} {first} {to} {end} {is_start}")
+    [
+        parts_value(range.start()),
+        parts_value(range.end()),
+        Value::Truth(is_start),
+    ]
 }
 
-// Writes what a span answers to a call with a number, and tells whether it is one.
-fn write_of_number<R: BitRegister, A: Allocator>(
-    text: &mut String<A>,
-    span: BitSpan<R, Lsb0>,
-    name: &str,
-    n: usize,
-) -> Result<bool, AllocError> {
-    match name {
-        "fits" => {
-            let fits = span.fits(n);
-            write!(text, "{fits}")?;
-        }
-        "split_at" if n <= span.len() => {
-            let (first, second) = span.split_at(n);
-            write_numbers(text, first)?;
-            text.push_str(";")?;
-            write_numbers(text, second)?;
-        }
-        _ => return Ok(false),
+// Writes the spans of a span's first bits and of the others.
+fn write_halves<R: BitRegister>(out: &mut Answer, span: BitSpan<R, Lsb0>, n: usize) -> Option<()> {
+    if n > span.len() {
+        return None;
     }
-    Ok(true)
+    let (first, second) = span.split_at(n);
+    out.item(&[numbers_of(first)]);
+    out.item(&[numbers_of(second)]);
+    Some(())
 }
 
-// Writes what a span answers to a call with another span or with a range, and tells whether it is
-// one.
-fn write_of_two<R: BitRegister, A: Allocator>(
-    text: &mut String<A>,
-    span: BitSpan<R, Lsb0>,
-    name: &str,
-    one: &str,
-    other: &str,
-) -> Result<bool, AllocError> {
-    if name == "range" {
-        return write_range(text, span, count_of(one), count_of(other));
+// The part of a span from one of its bits to before another.
+fn part<R: BitRegister>(span: BitSpan<R, Lsb0>, from: usize, to: usize) -> Option<Value> {
+    if from <= to && to <= span.len() {
+        Some(numbers_of(span.range(from, to)))
+    } else {
+        None
     }
-    let Some(there) = span_at::<R, Lsb0>(one, other) else {
-        return Ok(false);
-    };
-    let (way, back) = match name {
-        "is_disjoint" => (span.is_disjoint(&there), there.is_disjoint(&span)),
-        "equals" => (span == there, there == span),
-        _ => return Ok(false),
-    };
-    write!(text, "{way} {back}")?;
-    Ok(true)
 }
 
-// Writes the part of a span from one of its bits to before another, and tells whether there is one.
-fn write_range<R: BitRegister, A: Allocator>(
-    text: &mut String<A>,
-    span: BitSpan<R, Lsb0>,
-    from: Option<usize>,
-    to: Option<usize>,
-) -> Result<bool, AllocError> {
-    match (from, to) {
-        (Some(from), Some(to)) if from <= to && to <= span.len() => {
-            write_numbers(text, span.range(from, to))?;
-            Ok(true)
-        }
-        _ => Ok(false),
+// What two spans are to each other, asked of the one and of the other.
+fn with<R: BitRegister>(
+    here: BitSpan<R, Lsb0>,
+    fact: Fact,
+    there: BitSpan<R, Lsb0>,
+) -> Option<(bool, bool)> {
+    match fact {
+        Fact::IsDisjoint => Some((here.is_disjoint(&there), there.is_disjoint(&here))),
+        Fact::Equals => Some((here == there, there == here)),
+        _ => None,
     }
 }

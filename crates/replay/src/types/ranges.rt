@@ -1,28 +1,33 @@
 //! The ranges of index types, by the calls that are made of them.
 
+use crate::answer::Answer;
 use crate::index::{end_at, index_at};
-use crate::values::{Value, number_value, word_value, write_value};
+use crate::values::{Value, number_value, word_value};
 use bitvec::index::range::{EndRange, IdxRange, PosRange, SelRange};
 use bitvec::index::{BitEnd, BitIdx, BitPos, BitSel};
 use bitvec::mem::BitRegister;
-use std::alloc::{AllocError, Allocator};
 
-// Writes the answers of a range to its calls, and tells whether each is one.
-pub(super) fn write_answer<R: BitRegister, A: Allocator>(
-    text: &mut String<A>,
+// Writes the answers of a range to its calls; `None` where one of them is no call.
+pub(super) fn write_answer<R: BitRegister>(
+    out: &mut Answer,
     kind: &str,
     name: &str,
     words: &[&str],
-) -> Result<bool, AllocError> {
+) -> Option<()> {
     match (name, words) {
-        ("range_all", calls) => write_answers(text, range_of_all::<R>(kind), calls),
+        ("range_all", calls) => write_answers(out, range_of_all::<R>(kind)?, calls),
         ("range_from", [start, calls @ ..]) if kind == "BitEnd" => {
-            write_answers(text, ends_from::<R>(start), calls)
+            let ends = Range::<R>::Ends(BitEnd::range_from(index_at(start)?));
+            write_answers(out, ends, calls)
         }
         ("range", [start, end, calls @ ..]) if kind == "BitIdx" => {
-            write_answers(text, indices_between::<R>(start, end), calls)
+            write_answers(
+                out,
+                indices_between::<R>(index_at(start)?, end_at(end)?)?,
+                calls,
+            )
         }
-        _ => Ok(false),
+        _ => None,
     }
 }
 
@@ -45,15 +50,8 @@ fn range_of_all<R: BitRegister>(kind: &str) -> Option<Range<R>> {
     }
 }
 
-// The range of the ends from an index on.
-fn ends_from<R: BitRegister>(start: &str) -> Option<Range<R>> {
-    Some(Range::Ends(BitEnd::range_from(index_at(start)?)))
-}
-
 // The range of the indices from one to before an end; `None` where the end is below it.
-fn indices_between<R: BitRegister>(start: &str, end: &str) -> Option<Range<R>> {
-    let start: BitIdx<R> = index_at(start)?;
-    let end: BitEnd<R> = end_at(end)?;
+fn indices_between<R: BitRegister>(start: BitIdx<R>, end: BitEnd<R>) -> Option<Range<R>> {
     if start.into_inner() > end.into_inner() {
         return None;
     }
@@ -123,47 +121,21 @@ impl<R: BitRegister> Range<R> {
     }
 }
 
-// Writes the answers of a range to its calls, of which `count` can only be the last; tells whether
-// there is a range, and whether each is a call of it.
-fn write_answers<R: BitRegister, A: Allocator>(
-    text: &mut String<A>,
-    range: Option<Range<R>>,
-    calls: &[&str],
-) -> Result<bool, AllocError> {
-    let Some(mut range) = range else {
-        return Ok(false);
-    };
-    match calls {
-        [before @ .., last] if *last == "count" => {
-            if !write_each(text, &mut range, before)? {
-                return Ok(false);
-            }
-            if !before.is_empty() {
-                text.push_str(" ")?;
-            }
-            write_value(text, Value::Number(range.count()))?;
-            Ok(true)
-        }
-        _ => write_each(text, &mut range, calls),
-    }
-}
-
-// Writes the answers of a range to calls, and tells whether each is a call of it.
-fn write_each<R: BitRegister, A: Allocator>(
-    text: &mut String<A>,
-    range: &mut Range<R>,
-    calls: &[&str],
-) -> Result<bool, AllocError> {
+// Writes the answers of a range to its calls, of which `count` can only be the last; `None` where
+// one of them is no call of it.
+fn write_answers<R: BitRegister>(out: &mut Answer, range: Range<R>, calls: &[&str]) -> Option<()> {
+    let mut range = range;
     let mut is_first = true;
     for call in calls {
-        let Some(answer) = range.answer(call) else {
-            return Ok(false);
-        };
         if !is_first {
-            text.push_str(" ")?;
+            out.push(" ");
         }
         is_first = false;
-        write_value(text, answer)?;
+        if *call == "count" {
+            out.value(Value::Number(range.count()));
+            return Some(());
+        }
+        out.value(range.answer(call)?);
     }
-    Ok(true)
+    Some(())
 }
