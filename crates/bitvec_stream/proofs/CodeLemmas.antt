@@ -9,7 +9,7 @@ use Rattle.bitvec.specs.Truths.{AllAre}
 use Rattle.bitvec_stream.specs.Golomb.{IsCode}
 use Rattle.bitvec_stream.specs.Numbers.{number_be}
 use Rattle.bitvec_stream.proofs.GolombLemmas.{number_be-first, number_be-one, number_be-none, none-number_be, part_long}
-use Rattle.bitvec_stream.proofs.NumberLemmas.{number_be-below}
+use Rattle.bitvec_slice.proofs.DigitListLemmas.{number_be-below}
 
 -- so many bits are there
 pub code_room : (xs digits : List Bool) → IsCode xs digits → (0 < length digits) × (2 * length digits - 1 ≤ length xs)

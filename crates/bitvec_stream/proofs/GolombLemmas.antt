@@ -13,7 +13,7 @@ use Rattle.bitvec.proofs.DigitLemmas.{digit-mod, digit_above, digit-zero}
 use Rattle.bitvec.proofs.MemoryLemmas.{tabulate-from_elements, get_or-tabulate}
 use Rattle.bitvec_stream.specs.Numbers.{number_be, digits_be}
 use Rattle.bitvec_stream.specs.Golomb.{digit_count, golomb, StartsWith, IsCode}
-use Rattle.bitvec_stream.proofs.NumberLemmas.{length-digits_be, digit-number_be, number_be-below, number_be-back, digits_be-number}
+use Rattle.bitvec_slice.proofs.DigitListLemmas.{length-digits_be, digit-number_be, number_be-below, number_be-back, digits_be-number}
 
 true_is_not_false : true ≡ false → ⊥
 true_is_not_false e = cc

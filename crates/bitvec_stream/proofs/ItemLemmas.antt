@@ -10,7 +10,7 @@ use Rattle.bitvec_stream.specs.Golomb.{golomb, signed_place, StartsWith}
 use Rattle.bitvec_stream.specs.Items.{Way, highest_first, lowest_first, signed_highest_first, signed_lowest_first, exp_golomb, signed_exp_golomb, IsUnsigned, CanBeWritten, written_as, TakesCode, IsReadAs, AreRead, items_bits, WrittenIsRead}
 use Rattle.bitvec_stream.specs.Numbers.{number_le, number_be, digits_le, digits_be}
 use Rattle.bitvec_stream.proofs.GolombLemmas.{one_code}
-use Rattle.bitvec_stream.proofs.NumberLemmas.{length-digits_le, length-digits_be, number_le-back, number_be-back}
+use Rattle.bitvec_slice.proofs.DigitListLemmas.{length-digits_le, length-digits_be, number_le-back, number_be-back}
 use Rattle.bitvec_stream.proofs.SignedGolombLemmas.{one_signed}
 
 -- a two's complement is below its power

@@ -3,7 +3,6 @@ mod DigitRangeLemmas
 pub mod GolombLemmas
 pub mod ItemLemmas
 mod MultipleLemmas
-pub mod NumberLemmas
 mod ReadLemmas
 pub mod SignedGolombLemmas
 mod WindowLemmas

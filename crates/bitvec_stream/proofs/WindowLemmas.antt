@@ -12,7 +12,7 @@ use Rattle.bitvec_slice.proofs.FieldLemmas.{small_from_digits}
 use Rattle.bitvec_stream.specs.Golomb.{golomb, StartsWith}
 use Rattle.bitvec_stream.specs.Numbers.{number_be, digits_be}
 use Rattle.bitvec_stream.proofs.GolombLemmas.{code_found, code_of, number_be-first}
-use Rattle.bitvec_stream.proofs.NumberLemmas.{digit-number_be, number_be-back}
+use Rattle.bitvec_slice.proofs.DigitListLemmas.{digit-number_be, number_be-back}
 
 -- w is the number of the first bits of a list, with its highest one below z zeros, and m the number of its z + 1 digits from
 -- that one on: w without its lowest `down` digits

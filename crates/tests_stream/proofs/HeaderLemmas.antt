@@ -8,7 +8,7 @@ use Rattle.bitvec_stream.specs.Golomb.{golomb, signed_place}
 use Rattle.bitvec_stream.specs.Items.{Way, highest_first, lowest_first, signed_highest_first, exp_golomb, signed_exp_golomb, IsBelow, CanBeWritten, AreRead, items_bits}
 use Rattle.bitvec_stream.specs.Numbers.{digits_le, digits_be}
 use Rattle.bitvec_stream.proofs.ItemLemmas.{written_is_read}
-use Rattle.bitvec_stream.proofs.NumberLemmas.{digits_le-low, digits_be-low}
+use Rattle.bitvec_slice.proofs.DigitListLemmas.{digits_le-low, digits_be-low}
 use Rattle.tests_stream.specs.Header.{header_items, header_ways, header_values}
 use Rattle.tests_stream.specs.declared.header.Header.{Header}
 

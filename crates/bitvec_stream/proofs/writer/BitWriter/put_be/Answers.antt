@@ -2,7 +2,7 @@ use Rattle.std.proofs.Common.{◌≡◌, ◌≤◌, ℕ, ◌+◌, ◌-◌, lengt
 use Rattle.bitvec_slice.specs.BitSliceMut.{lent_words, lent_bits}
 use Rattle.bitvec_slice.specs.Ranges.{with_range}
 use Rattle.bitvec_stream.specs.Numbers.{digits_be}
-use Rattle.bitvec_stream.proofs.NumberLemmas.{length-digits_be}
+use Rattle.bitvec_slice.proofs.DigitListLemmas.{length-digits_be}
 use Rattle.bitvec_stream.proofs.WriterLemmas.{becomes-as, stretch_written}
 use Rattle.bitvec_stream.proofs.writer.BitWriter.put_be.Goals as goal
 

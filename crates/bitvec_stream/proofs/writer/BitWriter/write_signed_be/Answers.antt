@@ -4,7 +4,7 @@ use Rattle.std.specs.Int.{w128}
 use Rattle.bitvec_slice.specs.Signed.{complement_of}
 use Rattle.bitvec_slice.proofs.SignedLemmas.{low_digits}
 use Rattle.bitvec_stream.specs.Numbers.{digits_be}
-use Rattle.bitvec_stream.proofs.NumberLemmas.{digits_be-low}
+use Rattle.bitvec_slice.proofs.DigitListLemmas.{digits_be-low}
 use Rattle.bitvec_stream.proofs.WriterLemmas.{writes-as}
 use Rattle.bitvec_stream.proofs.writer.BitWriter.write_signed_be.Goals as goal
 
