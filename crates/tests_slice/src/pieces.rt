@@ -1,6 +1,6 @@
 //! Pieces of slices, where they lie.
 
-ghost use Rattle.std.specs.Prelude.{◌≡◌, ◌×◌, ◌-◌, ◌<◌, ◌≤◌, ◌↔◌, IsSome, IfSome};
+ghost use Rattle.std.specs.Prelude.{◌-◌, ◌<◌, IfSome};
 ghost use Rattle.bitvec_slice.specs.BitSlice.{slice_len};
 ghost use Rattle.bitvec_slice.specs.PieceIters.{IsRangeOf};
 
