@@ -1,44 +1,156 @@
--- A code that lies in a word's first bits, by the word's number.
-use Rattle.std.proofs.Common.{◌≡◌, ℕ, ◌+◌, ◌-◌, ◌*◌, ◌^◌, ◌<◌, ◌≤◌, Bool, true, false, List, length, take, drop, refl, sym, ap, ◌∙◌, inl, inr, arith, length-drop}
+-- Elements of a list that are kept in a word: how they are loaded, passed over and read.
+use Rattle.std.proofs.Common.{◌≡◌, ℕ, ◌+◌, ◌-◌, ◌*◌, ◌^◌, ◌<◌, ◌≤◌, ◌||◌, Bool, true, false, List, length, take, drop, refl, sym, ap, subst, ◌∙◌, inl, inr, arith, length-drop}
+use Rattle.std.specs.Prelude.{slice_range}
+use Rattle.std.proofs.Math.Bool.{Bool-set}
 use Rattle.std.proofs.lemmas.Bool.{cases_lt}
 use Rattle.std.proofs.lemmas.List.{length-take-le, get_or-take, get_or-drop}
 use Rattle.std.proofs.lemmas.Nat.{pow_pos}
 use Rattle.bitvec.specs.Digit.{digit}
 use Rattle.bitvec.specs.Ones.{IsHighestOne}
 use Rattle.bitvec.specs.Span.{element}
-use Rattle.bitvec.proofs.DigitLemmas.{digit_above}
+use Rattle.bitvec.proofs.DigitLemmas.{digit_above, digit-zero}
 use Rattle.bitvec.proofs.MemoryLemmas.{tabulate-from_elements}
 use Rattle.bitvec_slice.proofs.FieldLemmas.{small_from_digits}
-use Rattle.bitvec_stream.specs.Golomb.{golomb, StartsWith}
+use Rattle.bitvec_stream.specs.Golomb.{golomb, StartsWith, BeginsWithCode}
 use Rattle.bitvec_stream.specs.Numbers.{number_be, digits_be}
+use Rattle.bitvec_stream.specs.Window.{IsWindow}
 use Rattle.bitvec_stream.proofs.GolombLemmas.{code_found, code_of, number_be-first}
 use Rattle.bitvec_slice.proofs.DigitListLemmas.{digit-number_be, number_be-back}
 
--- w is the number of the first bits of a list, with its highest one below z zeros, and m the number of its z + 1 digits from
--- that one on: w without its lowest `down` digits
-pub record IsWindow (xs : List Bool) (bits w z down m : ℕ) : Type 0 where
-  pub long : bits ≤ length xs
-  pub number : w ≡ number_be (take bits xs)
+-- two proofs that a word keeps elements are one
+pub window_same : (bits : ℕ) (xs : List Bool) (place kept w : ℕ) (a b : IsWindow bits xs place kept w) → a ≡ b
+window_same bits xs place kept w a b i = record {
+  shown = λ j h. Bool-set _ _ (a.shown j h) (b.shown j h) i;
+  clean = λ p h. Bool-set _ _ (a.clean p h) (b.clean p h) i;
+}
+
+-- the same at other names of the numbers
+pub window_at : (bits : ℕ) (xs : List Bool) (p q k l w : ℕ) → p ≡ q → k ≡ l → IsWindow bits xs p k w → IsWindow bits xs q l w
+window_at bits xs p q k l w e f is = subst (λ n. IsWindow bits xs n l w) e (subst (λ n. IsWindow bits xs p n w) f is)
+
+-- no elements
+pub window_none : (bits : ℕ) (xs : List Bool) (place w : ℕ) → w ≡ 0 → IsWindow bits xs place 0 w
+window_none bits xs place w zero_is = record {
+  shown = λ j h. absurd (omega (arith, h));
+  clean = λ p h. ap (λ n. digit n p) zero_is ∙ digit-zero p;
+}
+
+-- as many as a word has digits, by their number
+pub window_chunk : (bits width : ℕ) (xs : List Bool) (place c : ℕ) → width ≡ bits → place + bits ≤ length xs → c ≡ number_be (slice_range xs place (place + width)) → IsWindow bits xs place bits c
+window_chunk bits width xs place c whole room is =
+    let ys = take bits (drop place xs) in
+    let count : place + width - place ≡ bits = omega (arith, whole) in
+    let same : slice_range xs place (place + width) ≡ ys = ap (λ n. take n (drop place xs)) count in
+    let many : length ys ≡ bits = length-take-le bits (drop place xs) (omega (arith, room, length-drop place xs)) in
+    record {
+      shown = λ j h.
+          ap (λ n. digit n (bits - 1 - j)) (is ∙ ap number_be same)
+          ∙ ap (λ n. digit (number_be ys) (n - 1 - j)) (sym many)
+          ∙ digit-number_be ys j (omega (arith, h, many))
+          ∙ get_or-take bits (drop place xs) j false h
+          ∙ get_or-drop place xs j false;
+      clean = λ p h. absurd (omega (arith, h));
+    }
+
+-- the first n are passed over: the word's digits move up, and zeros come below them
+pub window_moved : (bits : ℕ) (xs : List Bool) (place kept w n r : ℕ) → IsWindow bits xs place kept w → n ≤ kept → kept ≤ bits
+    → ((p : ℕ) → p < n → digit r p ≡ false) → ((p : ℕ) → n + p < bits → digit r (n + p) ≡ digit w p) → IsWindow bits xs (place + n) (kept - n) r
+window_moved bits xs place kept w n r is less most low moved = record {
+  shown = λ j h.
+      let up : bits - 1 - j ≡ n + (bits - 1 - (n + j)) = omega (arith, h, less, most) in
+      let next : place + (n + j) ≡ place + n + j = omega arith in
+      ap (digit r) up
+      ∙ moved (bits - 1 - (n + j)) (omega (arith, h, less, most))
+      ∙ is.shown (n + j) (omega (arith, h, less))
+      ∙ ap (element xs) next;
+  clean = λ p h. elim (cases_lt p n) [
+    | inl below ↦ low p below
+    | inr from ↦ (
+        let up : p ≡ n + (p - n) = omega (arith, from) in
+        ap (digit r) up ∙ moved (p - n) (omega (arith, h, from, less, most)) ∙ is.clean (p - n) (omega (arith, h, from, less)))
+  ];
+}
+
+-- and so many of a whole word, which are moved by one less and by one
+pub window_after : (bits : ℕ) (xs : List Bool) (place n c d r : ℕ) → IsWindow bits xs place bits c → 0 < n → n ≤ bits
+    → ((p : ℕ) → p < n - 1 → digit d p ≡ false) → ((p : ℕ) → n - 1 + p < bits → digit d (n - 1 + p) ≡ digit c p)
+    → ((p : ℕ) → p < 1 → digit r p ≡ false) → ((p : ℕ) → 1 + p < bits → digit r (1 + p) ≡ digit d p) → IsWindow bits xs (place + n) (bits - n) r
+window_after bits xs place n c d r is some most low moved low_again moved_again =
+    let first = window_moved bits xs place bits c (n - 1) d is (omega (arith, most)) (omega arith) low moved in
+    let second = window_moved bits xs (place + (n - 1)) (bits - (n - 1)) d 1 r first (omega (arith, some, most)) (omega arith) low_again moved_again in
+    window_at bits xs _ (place + n) _ (bits - n) r (omega (arith, some)) (omega (arith, some, most)) second
+
+or_false : (b : Bool) → (b || false) ≡ b
+or_false true = refl
+or_false false = refl
+
+-- the elements that are kept, and behind them those of a whole word, moved down
+pub window_joined : (bits : ℕ) (xs : List Bool) (place next kept w c s r : ℕ) → IsWindow bits xs place kept w → IsWindow bits xs next bits c → next ≡ place + kept → kept < bits
+    → ((p : ℕ) → kept + p < bits → digit s p ≡ digit c (kept + p)) → ((p : ℕ) → p < bits → bits ≤ kept + p → digit s p ≡ false)
+    → ((p : ℕ) → p < bits → digit r p ≡ (digit w p || digit s p)) → IsWindow bits xs place bits r
+window_joined bits xs place next kept w c s r first second behind_is less moved high joined = record {
+  shown = λ j h.
+      joined (bits - 1 - j) (omega (arith, h))
+      ∙ elim (cases_lt j kept) [
+        | inl front ↦ (
+            ap (λ b. digit w (bits - 1 - j) || b) (high (bits - 1 - j) (omega (arith, h)) (omega (arith, front, h)))
+            ∙ or_false (digit w (bits - 1 - j))
+            ∙ first.shown j front)
+        | inr behind ↦ (
+            let place_of : kept + (bits - 1 - j) ≡ bits - 1 - (j - kept) = omega (arith, behind, h) in
+            let index : next + (j - kept) ≡ place + j = omega (arith, behind, behind_is) in
+            ap (λ b. b || digit s (bits - 1 - j)) (first.clean (bits - 1 - j) (omega (arith, behind, h)))
+            ∙ moved (bits - 1 - j) (omega (arith, behind, h, less))
+            ∙ ap (digit c) place_of
+            ∙ second.shown (j - kept) (omega (arith, h, behind))
+            ∙ ap (element xs) index)
+      ];
+  clean = λ p h. absurd (omega (arith, h));
+}
+
+-- the number m of the first `count` elements: w without its lowest `down` digits
+module _ (bits w count down m : ℕ) (room : down + count ≡ bits) (below : m < 2 ^ bits)
+    (moved : (p : ℕ) → down + p < bits → digit m p ≡ digit w (down + p)) (high : (p : ℕ) → p < bits → bits ≤ down + p → digit m p ≡ false) where
+  pub first_small : m < 2 ^ count
+  first_small = small_from_digits m bits count below (λ p h. elim (cases_lt p bits) [
+    | inl inside ↦ high p inside (omega (arith, h, room))
+    | inr above ↦ digit_above m bits p below above
+  ])
+
+  pub first_number : (xs : List Bool) (place kept : ℕ) → IsWindow bits xs place kept w → count ≤ kept → place + kept ≤ length xs → m ≡ number_be (take count (drop place xs))
+  first_number xs place kept is less long =
+      let ys = take count (drop place xs) in
+      let many : length ys ≡ count = length-take-le count (drop place xs) (omega (arith, less, long, length-drop place xs)) in
+      let shown : ys ≡ digits_be count m = tabulate-from_elements ys count (λ j. digit m (count - 1 - j)) false many (λ j h.
+      let up : bits - 1 - j ≡ down + (count - 1 - j) = omega (arith, h, room) in
+      get_or-take count (drop place xs) j false h
+      ∙ get_or-drop place xs j false
+      ∙ sym (is.shown j (omega (arith, h, less)))
+      ∙ ap (digit w) up
+      ∙ sym (moved (count - 1 - j) (omega (arith, h, room)))) in
+      sym (ap number_be shown ∙ number_be-back count m first_small)
+
+-- w has its highest one below z zeros, and m is the number of its z + 1 digits from that one on: w without its lowest
+-- `down` digits
+pub record IsLined (bits w z down m : ℕ) : Type 0 where
   pub room : down + 2 * z + 1 ≡ bits
   pub top : IsHighestOne bits w (bits - 1 - z)
   pub below : m < 2 ^ bits
   pub digits : (q : ℕ) → down + q < bits → digit m q ≡ digit w (down + q)
   pub past : (q : ℕ) → q < bits → bits ≤ down + q → digit m q ≡ false
 
-module _ (xs : List Bool) (bits w z down m : ℕ) (is : IsWindow xs bits w z down m) where
-  bit : (j : ℕ) → j < bits → element xs j ≡ digit w (bits - 1 - j)
-  bit j h =
-      let many = length-take-le bits xs is.long in
-      sym (get_or-take bits xs j false h)
-      ∙ sym (digit-number_be (take bits xs) j (omega (arith, h, many)))
-      ∙ ap (λ n. digit (number_be (take bits xs)) (n - 1 - j)) many
-      ∙ ap (λ n. digit n (bits - 1 - j)) (sym is.number)
+module _ (bits w z down m kept : ℕ) (is : IsLined bits w z down m) (fits : 2 * z + 1 ≤ kept) (xs : List Bool) (place : ℕ) (keeps : IsWindow bits xs place kept w) (long : place + kept ≤ length xs) where
+  bit : (j : ℕ) → j < kept → element (drop place xs) j ≡ digit w (bits - 1 - j)
+  bit j h = get_or-drop place xs j false ∙ sym (keeps.shown j h)
 
   abbrev digits : List Bool
-  digits = take (z + 1) (drop z xs)
+  digits = take (z + 1) (drop z (drop place xs))
+
+  left : kept ≤ length (drop place xs)
+  left = omega (arith, long, length-drop place xs)
 
   many_digits : length digits ≡ z + 1
-  many_digits = length-take-le (z + 1) (drop z xs) (omega (arith, length-drop z xs, is.long, is.room))
+  many_digits = length-take-le (z + 1) (drop z (drop place xs)) (omega (arith, length-drop z (drop place xs), left, fits))
 
   few : m < 2 ^ (z + 1)
   few = small_from_digits m bits (z + 1) is.below (λ q h. elim (cases_lt (down + q) bits) [
@@ -51,19 +163,19 @@ module _ (xs : List Bool) (bits w z down m : ℕ) (is : IsWindow xs bits w z dow
 
   shown : digits ≡ digits_be (z + 1) m
   shown = tabulate-from_elements digits (z + 1) (λ j. digit m (z + 1 - 1 - j)) false many_digits (λ j h.
-      let place : bits - 1 - (z + j) ≡ down + (z + 1 - 1 - j) = omega (arith, h, is.room) in
-      get_or-take (z + 1) (drop z xs) j false h ∙ get_or-drop z xs j false
-      ∙ bit (z + j) (omega (arith, h, is.room))
-      ∙ ap (digit w) place
+      let place_of : bits - 1 - (z + j) ≡ down + (z + 1 - 1 - j) = omega (arith, h, is.room) in
+      get_or-take (z + 1) (drop z (drop place xs)) j false h ∙ get_or-drop z (drop place xs) j false
+      ∙ bit (z + j) (omega (arith, h, fits))
+      ∙ ap (digit w) place_of
       ∙ sym (is.digits (z + 1 - 1 - j) (omega (arith, h, is.room))))
 
-  pub window_code : StartsWith xs (golomb (m - 1)) × (0 < m) × (length (golomb (m - 1)) ≡ 2 * z + 1)
+  pub window_code : BeginsWithCode (drop place xs) m (2 * z + 1)
   window_code =
-      let one : element xs z ≡ true = bit z (omega (arith, is.room)) ∙ is.top.1 in
-      let zeros : (j : ℕ) → j < z → element xs j ≡ false = λ j h. bit j (omega (arith, h, is.room)) ∙ is.top.2 (bits - 1 - j) (omega (arith, h, is.room)) (omega (arith, h, is.room)) in
-      let code = code_found xs digits z one zeros (omega (arith, is.long, is.room)) refl in
+      let one : element (drop place xs) z ≡ true = bit z (omega (arith, fits)) ∙ is.top.1 in
+      let zeros : (j : ℕ) → j < z → element (drop place xs) j ≡ false = λ j h. bit j (omega (arith, h, fits)) ∙ is.top.2 (bits - 1 - j) (omega (arith, h, is.room)) (omega (arith, h, is.room)) in
+      let code = code_found (drop place xs) digits z one zeros (omega (arith, left, fits)) refl in
       let number : number_be digits ≡ m = ap number_be shown ∙ number_be-back (z + 1) m few in
       let first = number_be-first digits code.0 in
       let some : 0 < m = omega (arith, number, first.1, pow_pos (length digits - 1)) in
-      let found = code_of xs digits (m - 1) code (omega (arith, number, some)) in
+      let found = code_of (drop place xs) digits (m - 1) code (omega (arith, number, some)) in
       (found.0, some, found.1 ∙ omega (arith, many_digits))

@@ -1,5 +1,5 @@
 -- Exp-Golomb codes: a number's code tells by its zeros how long it is.
-use Rattle.std.specs.Prelude.{◌≡◌, ℕ, suc, ◌+◌, ◌-◌, ◌*◌, ℤ, pos, negsuc, Bool, true, false, List, ◌++◌, length, take, replicate}
+use Rattle.std.specs.Prelude.{◌≡◌, ℕ, suc, ◌+◌, ◌-◌, ◌*◌, ◌<◌, ℤ, pos, negsuc, Bool, true, false, List, ◌++◌, length, take, replicate}
 use Rattle.std.specs.Int.Digits.{digits_of}
 use Rattle.bitvec.specs.Span.{element}
 use Rattle.bitvec_slice.specs.Signed.{HasDigits}
@@ -20,6 +20,10 @@ StartsWith xs ys = take (length ys) xs ≡ ys
 -- A list begins with a code that has these digits: the first is one, and as many zeros stand before them as there are more.
 abbrev pub IsCode : List Bool → List Bool → Type 0
 IsCode xs digits = (element digits 0 ≡ true) × StartsWith xs (replicate (length digits - 1) false ++ digits)
+
+-- a list begins with the code of one less than a number, which has so many bits
+abbrev pub BeginsWithCode : List Bool → ℕ → ℕ → Type 0
+BeginsWithCode xs above count = StartsWith xs (golomb (above - 1)) × (0 < above) × (length (golomb (above - 1)) ≡ count)
 
 -- The number whose code a signed number has. They go in the order 0, 1, -1, 2, -2 and so on: k has number 2 * k - 1, and
 -- -k has number 2 * k. `negsuc n` is -(n + 1).

@@ -4,5 +4,6 @@ pub mod Items
 pub mod Multiples
 pub mod Reader
 pub mod Refusals
+pub mod Window
 pub mod Writer
 pub use Rattle.bitvec_slice.specs.Numbers

@@ -1,5 +1,5 @@
 -- What a `BitReader` shows.
-use Rattle.std.specs.Prelude.{◌≡◌, ℕ, ◌+◌, Bool, List, drop}
+use Rattle.std.specs.Prelude.{◌≡◌, ℕ, ◌+◌, ◌-◌, Bool, List, drop}
 use Rattle.bitvec_slice.specs.BitSlice.{bits_of}
 use Rattle.bitvec_slice.specs.declared.slice.bit_slice.BitSlice.{BitSlice}
 use Rattle.bitvec_stream.specs.declared.reader.BitReader.{BitReader}
@@ -10,11 +10,11 @@ source reader = reader.slice
 
 -- how many bits of the slice are behind it
 abbrev pub bits_read : {R O : Type 0} {a b c d e f g h i : _} → BitReader R O a b c d e f g h i → ℕ
-bits_read reader = reader.position
+bits_read reader = reader.loaded - reader.kept
 
 -- the bits that are left, in order
 abbrev pub rest : {R O : Type 0} {a b c d e f g h i : _} → BitReader R O a b c d e f g h i → List Bool
-rest reader = drop reader.position (bits_of reader.slice)
+rest reader = drop (reader.loaded - reader.kept) (bits_of reader.slice)
 
 -- A reader has passed over so many bits: those behind them are left, of the same slice.
 abbrev pub Passes : {R O : Type 0} {a b c d e f g h i : _} → (old new : BitReader R O a b c d e f g h i) → ℕ → Type 0

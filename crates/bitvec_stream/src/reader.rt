@@ -1,16 +1,18 @@
 //! A reader of numbers that stand one behind the other in a slice of bits.
 
-ghost use Rattle.std.specs.Prelude.{◌≡◌, ⊤, ◌+◌, ◌<◌, ◌≤◌, ◌%◌, ◌↔◌, IsTrue, IsOk, IfOk};
+ghost use Rattle.std.specs.Prelude.{◌≡◌, ⊤, ◌+◌, ◌-◌, ◌<◌, ◌≤◌, ◌%◌, ◌↔◌, IsTrue, IsOk, IfOk};
 ghost use Rattle.std.specs.Prelude.{MatchResult};
 ghost use Rattle.std.specs.Prelude.{IfErr, length, take};
 ghost use Rattle.bitvec.specs.Span.{element};
 ghost use Rattle.bitvec_slice.specs.BitSlice.{slice_len, bits_of};
 ghost use Rattle.bitvec_stream.specs.Multiples.{to_multiple};
+ghost use Rattle.bitvec_stream.specs.Window.{IsWindow};
 
 mod golomb;
 mod numbers;
 mod signed;
 mod unary;
+mod window;
 
 use crate::error::ReadError;
 use bitvec::mem::BitRegister;
@@ -38,8 +40,15 @@ use std::alloc::AllocError;
 #[derive(Drop)]
 pub struct BitReader<'a, R: BitRegister, O: BitOrder<R>> {
     slice: BitSlice<'a, R, O>,
-    position: usize,
-    pub ghost within: { position ≤ slice_len slice },
+    // How many bits were read, or are kept in the window; and of them, how many are kept.
+    loaded: usize,
+    kept: usize,
+    // The bits that are kept, the first the highest digit.
+    window: R,
+    pub ghost within: { loaded ≤ slice_len slice },
+    pub ghost behind: { kept ≤ loaded },
+    pub ghost few: { kept < R.BITS },
+    pub ghost shown: { IsWindow R.BITS (bits_of slice) (loaded - kept) kept (R.number window) },
 }
 
 impl<'a, R: BitRegister, O: BitOrder<R>> Clone for BitReader<'a, R, O> {
@@ -50,7 +59,9 @@ impl<'a, R: BitRegister, O: BitOrder<R>> Clone for BitReader<'a, R, O> {
     fn clone(&self) -> Result<Self, AllocError> {
         Ok(BitReader {
             slice: self.slice,
-            position: self.position,
+            loaded: self.loaded,
+            kept: self.kept,
+            window: self.window,
         })
     }
 }
@@ -64,7 +75,22 @@ impl<'a, R: BitRegister, O: BitOrder<R>> BitReader<'a, R, O> {
         ensures position { bits_read result ≡ 0 }
         ensures rest { rest result ≡ bits_of slice.entry }
     {
-        BitReader { slice, position: 0 }
+        Self::at(slice, 0)
+    }
+
+    // A reader behind so many bits of a slice.
+    #[inline(always)]
+    fn at(slice: BitSlice<'a, R, O>, position: usize) -> Self
+        requires { position ≤ slice_len slice }
+        ensures source { source result ≡ slice.entry }
+        ensures position { bits_read result ≡ position }
+    {
+        BitReader {
+            slice,
+            loaded: position,
+            kept: 0,
+            window: R::ZERO,
+        }
     }
 
     /// How many bits were read or passed over. Constant time. Not in the Rust crate.
@@ -72,14 +98,14 @@ impl<'a, R: BitRegister, O: BitOrder<R>> BitReader<'a, R, O> {
         ensures value { result ≡ bits_read self.now }
         ensures rest { result + length (rest self.now) ≡ slice_len (source self.now) }
     {
-        self.position
+        self.loaded - self.kept
     }
 
     /// How many bits are left. Constant time. Not in the Rust crate.
     pub fn remaining(&self) -> usize
         ensures { result ≡ length (rest self.now) }
     {
-        self.slice.len() - self.position
+        self.slice.len() - self.position()
     }
 
     /// Whether no bit is left. Constant time. Not in the Rust crate.
@@ -90,11 +116,16 @@ impl<'a, R: BitRegister, O: BitOrder<R>> BitReader<'a, R, O> {
     }
 
     // Passes over so many bits, which are left.
+    #[inline(always)]
     fn pass(&mut self, count: usize)
         requires { count ≤ length (rest self.old) }
         ensures { Passes self.old self.new count }
     {
-        self.position += count;
+        if 0 < count && count <= self.kept {
+            self.pass_kept(count);
+        } else {
+            *self = Self::at(self.slice, self.position() + count);
+        }
     }
 
     /// The next bit. It refuses with `TooFew` exactly where none is left. Constant time. Not in the
@@ -105,10 +136,11 @@ impl<'a, R: BitRegister, O: BitOrder<R>> BitReader<'a, R, O> {
         ensures moved { MatchResult result (λ _. Passes self.old self.new 1)
             (λ error. (error ≡ ReadError.TooFew) × (self.new ≡ self.old)) }
     {
-        if self.slice.len() <= self.position {
+        let position = self.position();
+        if self.slice.len() <= position {
             return Err(ReadError::TooFew);
         }
-        let bit = self.slice.get_unchecked(self.position);
+        let bit = self.slice.get_unchecked(position);
         self.pass(1);
         Ok(bit)
     }
@@ -124,7 +156,7 @@ impl<'a, R: BitRegister, O: BitOrder<R>> BitReader<'a, R, O> {
         if count > self.remaining() {
             return Err(ReadError::TooFew);
         }
-        let (_, rest) = self.slice.split_at(self.position);
+        let (_, rest) = self.slice.split_at(self.position());
         let (part, _) = rest.split_at(count);
         Ok(part)
     }
@@ -183,6 +215,6 @@ impl<'a, R: BitRegister, O: BitOrder<R>> BitReader<'a, R, O> {
         ensures multiple { IfOk result (λ _. bits_read self.new % of ≡ 0) }
         ensures near { IfOk result (λ _. bits_read self.new < bits_read self.old + of) }
     {
-        self.skip((of - self.position % of) % of)
+        self.skip((of - self.position() % of) % of)
     }
 }

@@ -7,5 +7,6 @@ mod codes;
 #[cfg(test)]
 mod examples;
 mod header;
+mod ways;
 #[cfg(test)]
 mod words;

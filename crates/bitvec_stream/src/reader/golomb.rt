@@ -1,20 +1,20 @@
 //! Numbers as Exp-Golomb codes.
 
-ghost use Rattle.std.specs.Prelude.{◌≡◌, ⊤, ◌+◌, ◌*◌, ◌<◌, ◌≤◌, ◌^◌, ℕ, MatchOption, MatchResult};
+ghost use Rattle.std.specs.Prelude.{◌≡◌, ◌+◌, ◌<◌, ◌≤◌, ◌^◌, ℕ, MatchOption, MatchResult};
 ghost use Rattle.std.specs.Prelude.{IsTrue, ◌↔◌, ◌-◌, true, length};
 ghost use Rattle.bitvec.specs.Span.{element};
 ghost use Rattle.bitvec_slice.specs.BitSlice.{bits_of};
 ghost use Rattle.bitvec_stream.specs.Golomb.{golomb, StartsWith, IsCode, signed_place};
 ghost use Rattle.bitvec_stream.specs.Golomb.{IsSignedLacking};
 ghost use Rattle.bitvec_stream.specs.Numbers.{number_be};
+ghost use Rattle.bitvec_stream.specs.Reader.{rest};
 ghost use Rattle.bitvec_stream.specs.Refusals.{IsCodeRefusal};
 
 use crate::error::ReadError;
 use crate::number::load_be;
 use crate::reader::BitReader;
-use bitvec::mem;
 use bitvec::mem::BitRegister;
-use bitvec::order::{BitOrder, Direction, direction_of};
+use bitvec::order::BitOrder;
 use bitvec_slice::field::SignedNumber;
 use bitvec_slice::slice::BitSlice;
 
@@ -93,6 +93,23 @@ fn signed_code_value<R: BitRegister, O: BitOrder<R>, N: SignedNumber>(
     }
 }
 
+// The number whose code a reader's bits begin with, and how long that code is, whatever it is.
+#[inline(never)]
+fn far_code<R: BitRegister, O: BitOrder<R>, N: BitRegister>(
+    reader: BitReader<'_, R, O>,
+) -> Result<(N, usize), ReadError>
+    ensures { MatchResult result
+        (λ it. let code = golomb (N.number it.0)
+        in StartsWith (rest reader.entry) code × (it.1 ≡ length code))
+        (IsCodeRefusal (λ n. 2 ^ N.BITS ≤ n) (rest reader.entry)) }
+{
+    let digits = reader.code()?;
+    match code_value(digits) {
+        Some(value) => Ok((value, 2 * digits.len() - 1)),
+        None => Err(ReadError::TooLarge),
+    }
+}
+
 impl<'a, R: BitRegister, O: BitOrder<R>> BitReader<'a, R, O> {
     ghost use Rattle.bitvec_stream.specs.Reader.{rest, Passes};
 
@@ -104,60 +121,13 @@ impl<'a, R: BitRegister, O: BitOrder<R>> BitReader<'a, R, O> {
     {
         match self.run_of(false) {
             Some(zeros) => {
-                let first = self.position + zeros;
+                let first = self.position() + zeros;
                 match self.slice.get_range(first, first + zeros + 1) {
                     Some(digits) => Ok(digits),
                     None => Err(ReadError::Unended),
                 }
             }
             None => Err(ReadError::Unended),
-        }
-    }
-
-    // Where the code that the bits that are left begin with lies in as many of them as a word has,
-    // and goes by words: how many zeros it begins with, and the number of its digits behind them.
-    #[inline(always)]
-    fn near_code(&self) -> Option<(usize, R)>
-        ensures { MatchOption result ⊤ (λ it. let number = R.number it.1
-            in StartsWith (rest self.now) (golomb (number - 1)) × (0 < number)
-            × (length (golomb (number - 1)) ≡ 2 * it.0 + 1)) }
-    {
-        let width = mem::bits_of::<R>();
-        if self.remaining() < width {
-            return None;
-        }
-        if direction_of::<R, O>() != Direction::Falls {
-            return None;
-        }
-        let window: R = self
-            .slice
-            .load_digits_be(self.position, self.position + width);
-        let top = mem::highest_one(window)?;
-        let zeros = R::BITS - 1 - top;
-        if R::BITS <= 2 * zeros {
-            return None;
-        }
-        let number = window.shr(R::BITS - 1 - 2 * zeros);
-        Some((usize::from(zeros), number))
-    }
-
-    // What `read_exp_golomb` does, whatever the code's length is.
-    #[inline(never)]
-    fn read_far_code<N: BitRegister>(&mut self) -> Result<N, ReadError>
-        ensures value { MatchResult result
-            (λ value. StartsWith (rest self.old) (golomb (N.number value)))
-            (IsCodeRefusal (λ n. 2 ^ N.BITS ≤ n) (rest self.old)) }
-        ensures moved { MatchResult result
-            (λ value. Passes self.old self.new (length (golomb (N.number value))))
-            (λ _. self.new ≡ self.old) }
-    {
-        let digits = self.code()?;
-        match code_value(digits) {
-            Some(value) => {
-                self.pass(2 * digits.len() - 1);
-                Ok(value)
-            }
-            None => Err(ReadError::TooLarge),
         }
     }
 
@@ -181,6 +151,7 @@ impl<'a, R: BitRegister, O: BitOrder<R>> BitReader<'a, R, O> {
     /// assert_eq!(rt; reader.read_exp_golomb::<u8>(), Err(ReadError::Unended));
     /// assert_eq!(rt; reader.remaining(), 4);
     /// ```
+    #[inline(always)]
     pub fn read_exp_golomb<N: BitRegister>(&mut self) -> Result<N, ReadError>
         ensures value { MatchResult result
             (λ value. StartsWith (rest self.old) (golomb (N.number value)))
@@ -189,16 +160,29 @@ impl<'a, R: BitRegister, O: BitOrder<R>> BitReader<'a, R, O> {
             (λ value. Passes self.old self.new (length (golomb (N.number value))))
             (λ _. self.new ≡ self.old) }
     {
-        let Some((zeros, above)) = self.near_code() else {
-            return self.read_far_code();
-        };
-        match N::from_u128(above.to_u128() - 1) {
-            Some(value) => {
-                self.pass(2 * zeros + 1);
-                Ok(value)
-            }
-            None => Err(ReadError::TooLarge),
+        if let Some((count, above)) = self.kept_code() {
+            return match N::from_u128(above.to_u128() - 1) {
+                Some(value) => {
+                    self.pass_kept(count);
+                    Ok(value)
+                }
+                None => Err(ReadError::TooLarge),
+            };
         }
+        if let Some(chunk) = self.chunk() {
+            if let Some((count, above)) = self.joined_code(chunk) {
+                return match N::from_u128(above.to_u128() - 1) {
+                    Some(value) => {
+                        self.pass_into(chunk, count);
+                        Ok(value)
+                    }
+                    None => Err(ReadError::TooLarge),
+                };
+            }
+        }
+        let (value, count) = far_code(Self::at(self.slice, self.position()))?;
+        self.pass(count);
+        Ok(value)
     }
 
     /// The signed number whose Exp-Golomb code the bits that are left begin with, as `se(v)` of

@@ -5,6 +5,8 @@ ghost use Rattle.bitvec_stream.specs.Numbers.{number_le, number_be};
 
 use crate::error::ReadError;
 use crate::reader::BitReader;
+use crate::reader::window::first_digits;
+use bitvec::mem;
 use bitvec::mem::BitRegister;
 use bitvec::order::BitOrder;
 
@@ -16,6 +18,7 @@ impl<'a, R: BitRegister, O: BitOrder<R>> BitReader<'a, R, O> {
     ///
     /// Requires that `count` is at most the width of the number's type: `count <= N::BITS`. Costs
     /// by words. Not in the Rust crate.
+    #[inline(always)]
     pub fn read_be<N: BitRegister>(&mut self, count: usize) -> Result<N, ReadError>
         requires { count ≤ N.BITS }
         ensures accepted { IsOk result ↔ (count ≤ length (rest self.old)) }
@@ -24,6 +27,18 @@ impl<'a, R: BitRegister, O: BitOrder<R>> BitReader<'a, R, O> {
         ensures moved { MatchResult result (λ _. Passes self.old self.new count)
             (λ error. (error ≡ ReadError.TooFew) × (self.new ≡ self.old)) }
     {
+        if 0 < count && count <= self.kept {
+            let value = first_digits(self.window, count);
+            self.pass_kept(count);
+            return Ok(value);
+        }
+        if self.kept < count && count <= mem::bits_of::<R>() {
+            if let Some(chunk) = self.chunk() {
+                let value = first_digits(self.joined(chunk), count);
+                self.pass_into(chunk, count);
+                return Ok(value);
+            }
+        }
         let value = self.peek_be(count)?;
         self.pass(count);
         Ok(value)
@@ -45,6 +60,7 @@ impl<'a, R: BitRegister, O: BitOrder<R>> BitReader<'a, R, O> {
     /// assert_eq!(rt; reader.read_le::<u32>(4), Ok(11));
     /// assert_eq!(rt; reader.read_le::<u32>(3), Err(ReadError::TooFew));
     /// ```
+    #[inline(always)]
     pub fn read_le<N: BitRegister>(&mut self, count: usize) -> Result<N, ReadError>
         requires { count ≤ N.BITS }
         ensures accepted { IsOk result ↔ (count ≤ length (rest self.old)) }
@@ -60,6 +76,7 @@ impl<'a, R: BitRegister, O: BitOrder<R>> BitReader<'a, R, O> {
 
     /// What [`read_be`](BitReader::read_be) gives; the reader stays before the bits. Requires and
     /// costs the same. Not in the Rust crate.
+    #[inline(always)]
     pub fn peek_be<N: BitRegister>(&self, count: usize) -> Result<N, ReadError>
         requires { count ≤ N.BITS }
         ensures accepted { IsOk result ↔ (count ≤ length (rest self.now)) }
@@ -70,12 +87,13 @@ impl<'a, R: BitRegister, O: BitOrder<R>> BitReader<'a, R, O> {
         if self.remaining() < count {
             return Err(ReadError::TooFew);
         }
-        let end = self.position + count;
-        Ok(self.slice.load_digits_be(self.position, end))
+        let position = self.position();
+        Ok(self.slice.load_digits_be(position, position + count))
     }
 
     /// What [`read_le`](BitReader::read_le) gives; the reader stays before the bits. Requires and
     /// costs the same. Not in the Rust crate.
+    #[inline(always)]
     pub fn peek_le<N: BitRegister>(&self, count: usize) -> Result<N, ReadError>
         requires { count ≤ N.BITS }
         ensures accepted { IsOk result ↔ (count ≤ length (rest self.now)) }
@@ -86,7 +104,7 @@ impl<'a, R: BitRegister, O: BitOrder<R>> BitReader<'a, R, O> {
         if self.remaining() < count {
             return Err(ReadError::TooFew);
         }
-        let end = self.position + count;
-        Ok(self.slice.load_digits_le(self.position, end))
+        let position = self.position();
+        Ok(self.slice.load_digits_le(position, position + count))
     }
 }

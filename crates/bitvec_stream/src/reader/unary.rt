@@ -18,13 +18,14 @@ impl<'a, R: BitRegister, O: BitOrder<R>> BitReader<'a, R, O> {
         ensures { MatchOption result (AllAre bit (rest self.now))
             (λ count. (count < length (rest self.now)) × BeginsWith bit (rest self.now) count) }
     {
+        let position = self.position();
         let found = if bit {
-            self.slice.next_zero(self.position)
+            self.slice.next_zero(position)
         } else {
-            self.slice.next_one(self.position)
+            self.slice.next_one(position)
         };
         match found {
-            Some(index) => Some(index - self.position),
+            Some(index) => Some(index - position),
             None => None,
         }
     }

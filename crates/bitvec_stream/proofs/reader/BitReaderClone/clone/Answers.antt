@@ -1,10 +1,20 @@
-use Rattle.std.proofs.Common.{◌≡◌, ◌≤◌}
+use Rattle.std.proofs.Common.{◌≡◌, ◌-◌, ◌<◌, ◌≤◌}
 use Rattle.std.proofs.Math.Bridge.{le_prop}
-use Rattle.bitvec_slice.specs.BitSlice.{slice_len}
+use Rattle.bitvec_slice.specs.BitSlice.{slice_len, bits_of}
+use Rattle.bitvec_stream.specs.Window.{IsWindow}
+use Rattle.bitvec_stream.proofs.WindowLemmas.{window_same}
 use Rattle.bitvec_stream.proofs.reader.BitReaderClone.clone.Goals as goal
 
 pub returns : goal.returns
 returns g c =
     let it = c.args.self.now in
-    let same : (h : it.position ≤ slice_len it.slice) → record it { within = h } ≡ it = λ h i. record it { within = le_prop h it.within i } in
-    record { cases = same _ }
+    let bits = g.R.BitRegister.BITS in
+    let same : (a : it.loaded ≤ slice_len it.slice) (b : it.kept ≤ it.loaded) (d : it.kept < bits) (e : IsWindow bits (bits_of it.slice) (it.loaded - it.kept) it.kept (g.R.BitRegister.number it.window))
+    → record it { within = a; behind = b; few = d; shown = e } ≡ it =
+    λ a b d e i. record it {
+      within = le_prop a it.within i;
+      behind = le_prop b it.behind i;
+      few = le_prop d it.few i;
+      shown = window_same bits (bits_of it.slice) (it.loaded - it.kept) it.kept (g.R.BitRegister.number it.window) e it.shown i;
+    } in
+    record { cases = same _ _ _ _ }
