@@ -62,7 +62,7 @@ struct buffer {
     const struct guarded *in;
 };
 
-enum { MEMORY, OTHER, SPANS, REQUESTS, REPLIES, ANSWER, PLACES };
+enum { MEMORY, OTHER, SPANS, REQUESTS, REPLIES, NUMBERS, ANSWER, PLACES };
 
 static struct guarded rooms[PLACES];
 
@@ -295,12 +295,13 @@ static bool meet(struct bitvec_span a, struct bitvec_span b) {
            b.start < a.start + a.count;
 }
 
+/* The status of spans, where `roomy` for as many numbers as `places`. */
 static uint8_t spans_status(unsigned width, uint8_t order, const struct bitvec_span *spans,
-                            size_t count, size_t words) {
+                            size_t count, size_t words, bool roomy, size_t places) {
     if (order > 1)
         return BITVEC_NO_ORDER;
-    if (count > BITVEC_MAX_SPANS)
-        return BITVEC_TOO_MANY_SPANS;
+    if (roomy ? places != count : count > BITVEC_MAX_SPANS)
+        return roomy ? BITVEC_NO_ROOM : BITVEC_TOO_MANY_SPANS;
     for (size_t i = 0; i < count; i++)
         if (spans[i].count > BITVEC_MAX_BITS)
             return BITVEC_TOO_LONG;
@@ -336,6 +337,33 @@ static struct buffer any_spans(size_t bits) {
         spans[j] = span;
     }
     return buffer;
+}
+
+/* Room for the numbers of spans, mostly for each of them. */
+static struct buffer any_room(size_t count) {
+    struct buffer buffer = take(NUMBERS, (one_in(16) ? below(MOST_SPANS) : count) * sizeof(size_t));
+    memset(buffer.at, 0x5a, buffer.size);
+    return buffer;
+}
+
+/* Where spans of that status lie in their memory, the room has the number of each, once, so that
+ * the spans' starts rise; else it is as before. */
+static void sorted_room(struct buffer room, const struct bitvec_span *spans, uint8_t status) {
+    bool sorted = status == BITVEC_OK || status == BITVEC_OVERLAP, seen[MOST_SPANS] = {false};
+    const size_t *numbers = (const size_t *)(const void *)room.at;
+    for (size_t i = 0; i < room.size / sizeof(size_t); i++) {
+        size_t n = numbers[i];
+        if (!sorted) {
+            if (n != UINT64_C(0x5a5a5a5a5a5a5a5a))
+                wrong("the room is changed");
+            continue;
+        }
+        if (n >= room.size / sizeof(size_t) || seen[n])
+            wrong("the numbers in the room");
+        seen[n] = true;
+        if (i > 0 && spans[numbers[i - 1]].start > spans[n].start)
+            wrong("the order in the room");
+    }
 }
 
 /* For each width: a call of each export, of which the arguments are any. */
@@ -518,18 +546,26 @@ static struct buffer any_spans(size_t bits) {
         if (*answer.at != (uint8_t)(status == BITVEC_OK ? expected : before))                      \
             wrong("the answer");                                                                   \
         same_bytes(memory, model);                                                                 \
-    }                                                                                              \
-    static void can_run_##W(uint8_t order, unsigned width) {                                       \
+    }
+
+/* The runs, without room and with it: the ends of their names, and what else they are given. */
+#define RUNS(W, T, IN, ROOMY, TAIL)                                                                \
+    static void can_run##IN##_##W(uint8_t order, unsigned width) {                                 \
         size_t words = below(20);                                                                  \
         struct buffer buffer = any_spans(words * width);                                           \
         const struct bitvec_span *spans = (const struct bitvec_span *)(void *)buffer.at;           \
         size_t count = buffer.size / sizeof(struct bitvec_span);                                   \
+        struct buffer room = any_room(count);                                                      \
+        size_t *numbers = (size_t *)(void *)room.at, places = room.size / sizeof(size_t);          \
+        (void)numbers;                                                                             \
         protect(buffer, PROT_READ);                                                                \
-        uint8_t status = bitvec_c_can_run_##W(order, spans, count, words);                         \
+        uint8_t status = bitvec_c_can_run##IN##_##W(order, spans, count, words TAIL);              \
         protect(buffer, PROT_READ | PROT_WRITE);                                                   \
-        same_status(status, spans_status(width, order, spans, count, words));                      \
+        uint8_t expected = spans_status(width, order, spans, count, words, ROOMY, places);         \
+        same_status(status, expected);                                                             \
+        sorted_room(room, spans, (ROOMY) ? expected : BITVEC_NO_ROOM);                             \
     }                                                                                              \
-    static void run_##W(uint8_t order, unsigned width) {                                           \
+    static void run##IN##_##W(uint8_t order, unsigned width) {                                     \
         struct buffer memory = any_memory(MEMORY, width, model);                                   \
         size_t words = memory.size / sizeof(T), bits = words * width;                              \
         struct buffer span_buffer = any_spans(bits);                                               \
@@ -550,6 +586,10 @@ static struct buffer any_spans(size_t bits) {
                                                   mostly(most), any(),        command};            \
             lawful = lawful && command <= BITVEC_FILL;                                             \
         }                                                                                          \
+        struct buffer number_buffer = any_room(span_count);                                        \
+        size_t *numbers = (size_t *)(void *)number_buffer.at;                                      \
+        size_t places = number_buffer.size / sizeof(size_t);                                       \
+        (void)numbers;                                                                             \
         size_t room = one_in(32) ? below(12) : asked;                                              \
         struct buffer reply_buffer = take(REPLIES, room * sizeof(struct bitvec_reply));            \
         struct bitvec_reply *replies = (struct bitvec_reply *)(void *)reply_buffer.at;             \
@@ -558,11 +598,13 @@ static struct buffer any_spans(size_t bits) {
         protect(span_buffer, PROT_READ);                                                           \
         protect(request_buffer, PROT_READ);                                                        \
         uint8_t status =                                                                           \
-            bitvec_c_run_##W(order, spans, span_count, (T *)(void *)memory.at, words, requests,    \
-                             asked, replies, room);                                                \
+            bitvec_c_run##IN##_##W(order, spans, span_count, (T *)(void *)memory.at, words,        \
+                                   requests, asked, replies, room TAIL);                           \
         protect(request_buffer, PROT_READ | PROT_WRITE);                                           \
         protect(span_buffer, PROT_READ | PROT_WRITE);                                              \
-        uint8_t expected = spans_status(width, order, spans, span_count, words);                   \
+        uint8_t expected =                                                                         \
+            spans_status(width, order, spans, span_count, words, ROOMY, places);                   \
+        sorted_room(number_buffer, spans, (ROOMY) ? expected : BITVEC_NO_ROOM);                    \
         if (expected == BITVEC_OK && room != asked)                                                \
             expected = BITVEC_NO_ROOM;                                                             \
         if (expected == BITVEC_OK && !lawful)                                                      \
@@ -584,10 +626,21 @@ static struct buffer any_spans(size_t bits) {
         same_bytes(memory, model);                                                                 \
     }
 
+#define ROOM_OF_RUN , numbers, places
+#define NO_ROOM_OF_RUN
+
 CALLS(u8, uint8_t)
 CALLS(u16, uint16_t)
 CALLS(u32, uint32_t)
 CALLS(u64, uint64_t)
+RUNS(u8, uint8_t, , false, NO_ROOM_OF_RUN)
+RUNS(u16, uint16_t, , false, NO_ROOM_OF_RUN)
+RUNS(u32, uint32_t, , false, NO_ROOM_OF_RUN)
+RUNS(u64, uint64_t, , false, NO_ROOM_OF_RUN)
+RUNS(u8, uint8_t, _in, true, ROOM_OF_RUN)
+RUNS(u16, uint16_t, _in, true, ROOM_OF_RUN)
+RUNS(u32, uint32_t, _in, true, ROOM_OF_RUN)
+RUNS(u64, uint64_t, _in, true, ROOM_OF_RUN)
 
 /* The first, or the last, bit of a range that is `bit`, and the first run of so many zeros; `count`
  * where there is none. */
@@ -613,6 +666,38 @@ static size_t model_find_zeros(unsigned width, uint8_t order, struct range range
         run = bit_at(model, width, order, range.start + i) ? 0 : run + 1;
         if (run == zeros)
             return i + 1 - zeros;
+    }
+    return range.count;
+}
+
+/* The same from an index on, and before one; a multiple of 0 is one of 1. */
+struct seek {
+    size_t from, asked, multiple;
+};
+
+static size_t model_next(unsigned width, uint8_t order, struct range range, struct seek seek) {
+    if (seek.from >= range.count)
+        return range.count;
+    struct range rest = {range.start + seek.from, range.count - seek.from};
+    return seek.from + model_first(width, order, rest, seek.asked);
+}
+
+static size_t model_previous(unsigned width, uint8_t order, struct range range, struct seek seek) {
+    struct range part = {range.start, seek.from < range.count ? seek.from : range.count};
+    size_t found = model_last(width, order, part, seek.asked);
+    return found == part.count ? range.count : found;
+}
+
+static size_t model_find_zeros_from(unsigned width, uint8_t order, struct range range,
+                                    struct seek seek) {
+    for (size_t i = seek.from; i <= range.count; i++) {
+        size_t j = 0;
+        if ((seek.multiple != 0 && i % seek.multiple != 0) || seek.asked > range.count - i)
+            continue;
+        while (j < seek.asked && !bit_at(model, width, order, range.start + i + j))
+            j++;
+        if (j == seek.asked)
+            return i;
     }
     return range.count;
 }
@@ -702,6 +787,109 @@ static size_t any_start(size_t bits, size_t count) {
         same_bytes(memory, model);                                                                 \
     }
 
+/* The two's complement of a number's lowest digits, of which the highest says the sign. */
+static uint64_t with_sign(uint64_t digits, size_t count) {
+    if (count == 0)
+        return 0;
+    uint64_t low = UINT64_MAX >> (64 - count);
+    return digits >> (count - 1) & 1 ? digits | ~low : digits & low;
+}
+
+/* The same of an export that looks from an index on. */
+#define SEEK_FROM(C, W, T, ASKED, ...)                                                             \
+    static void C##_##W(uint8_t order, unsigned width) {                                           \
+        struct buffer memory = any_memory(MEMORY, width, model), answer = take(ANSWER, 8);         \
+        size_t words = memory.size / sizeof(T), before = any(), index;                             \
+        struct range range = any_range(words * width);                                             \
+        struct seek seek = {mostly(range.count), ASKED, one_in(8) ? mostly(9) : below(9)};         \
+        memcpy(answer.at, &before, 8);                                                             \
+        protect(memory, PROT_READ);                                                                \
+        uint8_t status =                                                                           \
+            bitvec_c_##C##_##W(order, (const T *)(void *)memory.at, words, range.start,            \
+                               range.count, __VA_ARGS__, (size_t *)(void *)answer.at);             \
+        protect(memory, PROT_READ | PROT_WRITE);                                                   \
+        same_status(status, range_status(width, order, words, range.start, range.count));          \
+        memcpy(&index, answer.at, 8);                                                              \
+        if (index != (status == BITVEC_OK ? model_##C(width, order, range, seek) : before))        \
+            wrong("the index");                                                                    \
+        same_bytes(memory, model);                                                                 \
+    }
+
+/* The exports that replace a bit, or exchange two. */
+#define EXCHANGE(W, T)                                                                             \
+    static void replace_##W(uint8_t order, unsigned width) {                                       \
+        struct buffer memory = any_memory(MEMORY, width, model), answer = take(ANSWER, 1);         \
+        size_t words = memory.size / sizeof(T), place = mostly(words * width);                     \
+        bool before = one_in(2), bit = one_in(2), expected = before;                               \
+        *(bool *)answer.at = before;                                                               \
+        uint8_t status = bitvec_c_replace_##W(order, (T *)(void *)memory.at, words, place, bit,    \
+                                              (bool *)answer.at);                                  \
+        same_status(status, range_status(width, order, words, place, 1));                          \
+        if (status == BITVEC_OK) {                                                                 \
+            expected = bit_at(model, width, order, place);                                         \
+            put_bit(model, width, order, place, bit);                                              \
+        }                                                                                          \
+        if (*answer.at != (uint8_t)expected)                                                       \
+            wrong("the bit");                                                                      \
+        same_bytes(memory, model);                                                                 \
+    }                                                                                              \
+    static void swap_##W(uint8_t order, unsigned width) {                                          \
+        struct buffer memory = any_memory(MEMORY, width, model);                                   \
+        size_t words = memory.size / sizeof(T), bits = words * width;                              \
+        size_t place = mostly(bits), other = mostly(bits);                                         \
+        uint8_t status = bitvec_c_swap_##W(order, (T *)(void *)memory.at, words, place, other);    \
+        uint8_t expected = range_status(width, order, words, place, 1);                            \
+        if (expected == BITVEC_OK)                                                                 \
+            expected = range_status(width, order, words, other, 1);                                \
+        same_status(status, expected);                                                             \
+        if (status == BITVEC_OK) {                                                                 \
+            bool bit = bit_at(model, width, order, place);                                         \
+            put_bit(model, width, order, place, bit_at(model, width, order, other));               \
+            put_bit(model, width, order, other, bit);                                              \
+        }                                                                                          \
+        same_bytes(memory, model);                                                                 \
+    }
+
+/* The exports of signed numbers. */
+#define SIGNED_NUMBERS(W, T)                                                                       \
+    static void load_signed_##W(uint8_t order, unsigned width) {                                   \
+        struct buffer memory = any_memory(MEMORY, width, model), answer = take(ANSWER, 8);         \
+        size_t words = memory.size / sizeof(T);                                                    \
+        struct range range = narrow_range(words * width);                                          \
+        bool big = one_in(2);                                                                      \
+        uint64_t before = any(), expected = 0, number;                                             \
+        memcpy(answer.at, &before, 8);                                                             \
+        protect(memory, PROT_READ);                                                                \
+        uint8_t status =                                                                           \
+            bitvec_c_load_signed_##W(order, big, (const T *)(void *)memory.at, words,              \
+                                     range.start, range.count, (int64_t *)(void *)answer.at);      \
+        protect(memory, PROT_READ | PROT_WRITE);                                                   \
+        same_status(status, number_status(width, order, words, range.start, range.count));         \
+        for (size_t i = 0; status == BITVEC_OK && i < range.count; i++) {                          \
+            size_t place = digit_place(width, order, big, range.start, range.count, i);            \
+            expected |= (uint64_t)bit_at(model, width, order, place) << i;                         \
+        }                                                                                          \
+        memcpy(&number, answer.at, 8);                                                             \
+        if (number != (status == BITVEC_OK ? with_sign(expected, range.count) : before))           \
+            wrong("the number");                                                                   \
+        same_bytes(memory, model);                                                                 \
+    }                                                                                              \
+    static void store_signed_##W(uint8_t order, unsigned width) {                                  \
+        struct buffer memory = any_memory(MEMORY, width, model);                                   \
+        size_t words = memory.size / sizeof(T);                                                    \
+        struct range range = narrow_range(words * width);                                          \
+        bool big = one_in(2);                                                                      \
+        uint64_t number = any();                                                                   \
+        uint8_t status = bitvec_c_store_signed_##W(order, big, (T *)(void *)memory.at, words,      \
+                                                   range.start, range.count, (int64_t)number);     \
+        same_status(status, number_status(width, order, words, range.start, range.count));         \
+        for (size_t i = 0; status == BITVEC_OK && i < range.count; i++)                            \
+            put_bit(model, width, order,                                                           \
+                    digit_place(width, order, big, range.start, range.count, i),                   \
+                    number >> i & 1);                                                              \
+        same_bytes(memory, model);                                                                 \
+    }
+
 /* An export that edits a range, with the arguments behind its count. */
 #define EDIT(C, W, T, KIND, by, ...)                                                               \
     static void C##_##W(uint8_t order, unsigned width) {                                           \
@@ -747,34 +935,44 @@ static size_t any_start(size_t bits, size_t count) {
     }
 
 /* An export that answers how many pairs of bits an operator makes one, or the first such. */
-#define QUESTION(C, W, T, OPERATOR, COUNTS)                                                        \
-    static void C##_##W(uint8_t order, unsigned width) {                                           \
+#define QUESTION(C, T, S, OPERATOR, COUNTS)                                                        \
+    static void C(uint8_t order, unsigned width) {                                                 \
         struct buffer memory = any_memory(MEMORY, width, model), answer = take(ANSWER, 8);         \
-        struct buffer other = any_memory(OTHER, width, other_model);                               \
+        unsigned other_width = 8 * sizeof(S);                                                      \
+        struct buffer other = any_memory(OTHER, other_width, other_model);                         \
         uint8_t other_order = any_order();                                                         \
-        size_t words = memory.size / sizeof(T), other_words = other.size / sizeof(T);              \
+        size_t words = memory.size / sizeof(T), other_words = other.size / sizeof(S);              \
         size_t before = any(), found = 0, number, seen = 0;                                        \
         struct range range = any_range(words * width);                                             \
-        size_t there = any_start(other_words * width, range.count);                                \
-        if (one_in(2)) { /* the same bits, so that they seldom differ */                           \
+        size_t there = any_start(other_words * other_width, range.count);                          \
+        if (width == other_width && one_in(2)) { /* the same bits, so that they seldom differ */   \
             other = memory;                                                                        \
             other_words = words;                                                                   \
             other_order = one_in(8) ? other_order : order;                                         \
             memcpy(other_model, model, ROOM);                                                      \
             there = one_in(8) ? there : range.start;                                               \
+        } else if (one_in(2)) { /* or some of them */                                              \
+            size_t bits = other_words * other_width;                                               \
+            for (size_t i = 0; i < 99 && i < range.count; i++)                                     \
+                if (range.start + i < words * width && there < bits && i < bits - there)           \
+                    put_bit(other_model, other_width, other_order == 0 ? 0 : 1, there + i,         \
+                            bit_at(model, width, order == 0 ? 0 : 1, range.start + i));            \
+            if (other.size != 0)                                                                   \
+                memcpy(other.at, other_model, other.size);                                         \
         }                                                                                          \
         memcpy(answer.at, &before, 8);                                                             \
         protect(memory, PROT_READ);                                                                \
         uint8_t status =                                                                           \
-            bitvec_c_##C##_##W(order, (const T *)(void *)memory.at, words, range.start,            \
-                               other_order, (const T *)(void *)other.at, other_words, there,       \
+            bitvec_c_##C(order, (const T *)(void *)memory.at, words, range.start,                  \
+                               other_order, (const S *)(void *)other.at, other_words, there,       \
                                range.count, (size_t *)(void *)answer.at);                          \
         protect(memory, PROT_READ | PROT_WRITE);                                                   \
-        same_status(status, pair_status(width, order, words, range.start, width, other_order,      \
+        same_status(status, pair_status(width, order, words, range.start, other_width,             \
+                                        other_order,                                               \
                                         other_words, there, range.count));                         \
         for (; status == BITVEC_OK && seen < range.count; seen++) {                                \
             bool here = bit_at(model, width, order, range.start + seen);                           \
-            bool is = bit_at(other_model, width, other_order, there + seen);                       \
+            bool is = bit_at(other_model, other_width, other_order, there + seen);                 \
             if (model_operator(OPERATOR, here, is) && ++found && !(COUNTS))                        \
                 break;                                                                             \
         }                                                                                          \
@@ -788,6 +986,12 @@ static size_t any_start(size_t bits, size_t count) {
     SEEK(first, W, T, below(2))                                                                    \
     SEEK(last, W, T, below(2))                                                                     \
     SEEK(find_zeros, W, T, one_in(2) ? below(9) : mostly(range.count < 600 ? range.count : 9))     \
+    SEEK_FROM(next, W, T, below(2), seek.from, seek.asked)                                         \
+    SEEK_FROM(previous, W, T, below(2), seek.from, seek.asked)                                     \
+    SEEK_FROM(find_zeros_from, W, T, one_in(2) ? below(9) : mostly(30), seek.from, seek.asked,     \
+              seek.multiple)                                                                       \
+    EXCHANGE(W, T)                                                                                 \
+    SIGNED_NUMBERS(W, T)                                                                           \
     EDIT(invert, W, T, INVERT, 0, range.count)                                                     \
     EDIT(reverse, W, T, REVERSE, 0, range.count)                                                   \
     EDIT(shift_left, W, T, SHIFT_LEFT, mostly(range.count), range.count, moved)                    \
@@ -801,15 +1005,31 @@ static size_t any_start(size_t bits, size_t count) {
     COMBINE(copy_u16_to_##W, copy_u16_to_##W, uint16_t, T, SOURCE)                                 \
     COMBINE(copy_u32_to_##W, copy_u32_to_##W, uint32_t, T, SOURCE)                                 \
     COMBINE(copy_u64_to_##W, copy_u64_to_##W, uint64_t, T, SOURCE)                                 \
-    QUESTION(count_and, W, T, AND, true)                                                           \
-    QUESTION(first_and, W, T, AND, false)                                                          \
-    QUESTION(first_and_not, W, T, AND_NOT, false)                                                  \
-    QUESTION(first_difference, W, T, XOR, false)
+    QUESTION(count_and_##W, T, T, AND, true)                                                       \
+    QUESTION(first_and_##W, T, T, AND, false)                                                      \
+    QUESTION(first_and_not_##W, T, T, AND_NOT, false)                                              \
+    QUESTION(first_difference_##W, T, T, XOR, false)
 
 MORE_CALLS(u8, uint8_t)
 MORE_CALLS(u16, uint16_t)
 MORE_CALLS(u32, uint32_t)
 MORE_CALLS(u64, uint64_t)
+QUESTION(first_difference_u8_with_u8, uint8_t, uint8_t, XOR, false)
+QUESTION(first_difference_u8_with_u16, uint8_t, uint16_t, XOR, false)
+QUESTION(first_difference_u8_with_u32, uint8_t, uint32_t, XOR, false)
+QUESTION(first_difference_u8_with_u64, uint8_t, uint64_t, XOR, false)
+QUESTION(first_difference_u16_with_u8, uint16_t, uint8_t, XOR, false)
+QUESTION(first_difference_u16_with_u16, uint16_t, uint16_t, XOR, false)
+QUESTION(first_difference_u16_with_u32, uint16_t, uint32_t, XOR, false)
+QUESTION(first_difference_u16_with_u64, uint16_t, uint64_t, XOR, false)
+QUESTION(first_difference_u32_with_u8, uint32_t, uint8_t, XOR, false)
+QUESTION(first_difference_u32_with_u16, uint32_t, uint16_t, XOR, false)
+QUESTION(first_difference_u32_with_u32, uint32_t, uint32_t, XOR, false)
+QUESTION(first_difference_u32_with_u64, uint32_t, uint64_t, XOR, false)
+QUESTION(first_difference_u64_with_u8, uint64_t, uint8_t, XOR, false)
+QUESTION(first_difference_u64_with_u16, uint64_t, uint16_t, XOR, false)
+QUESTION(first_difference_u64_with_u32, uint64_t, uint32_t, XOR, false)
+QUESTION(first_difference_u64_with_u64, uint64_t, uint64_t, XOR, false)
 
 struct export {
     const char *name;
@@ -822,6 +1042,8 @@ struct export {
     {"bitvec_c_" #C "_u8", C##_u8, 8, 0}, {"bitvec_c_" #C "_u16", C##_u16, 16, 0},                 \
         {"bitvec_c_" #C "_u32", C##_u32, 32, 0}, {"bitvec_c_" #C "_u64", C##_u64, 64, 0}
 
+#define EXPORT(C, WIDTH) {"bitvec_c_" #C, C, WIDTH, 0}
+
 static struct export exports[] = {
     EXPORTS_OF(copy), EXPORTS_OF(copy_within), EXPORTS_OF(fill), EXPORTS_OF(get), EXPORTS_OF(set),
     EXPORTS_OF(load), EXPORTS_OF(store), EXPORTS_OF(count_ones), EXPORTS_OF(first_one),
@@ -830,7 +1052,26 @@ static struct export exports[] = {
     EXPORTS_OF(shift_right), EXPORTS_OF(rotate_left), EXPORTS_OF(and), EXPORTS_OF(or),
     EXPORTS_OF(xor), EXPORTS_OF(and_not), EXPORTS_OF(copy_u8_to), EXPORTS_OF(copy_u16_to),
     EXPORTS_OF(copy_u32_to), EXPORTS_OF(copy_u64_to), EXPORTS_OF(count_and), EXPORTS_OF(first_and),
-    EXPORTS_OF(first_and_not), EXPORTS_OF(first_difference),
+    EXPORTS_OF(first_and_not), EXPORTS_OF(first_difference), EXPORTS_OF(next),
+    EXPORTS_OF(previous), EXPORTS_OF(find_zeros_from), EXPORTS_OF(replace), EXPORTS_OF(swap),
+    EXPORTS_OF(load_signed), EXPORTS_OF(store_signed), EXPORTS_OF(can_run_in),
+    EXPORTS_OF(run_in),
+    EXPORT(first_difference_u8_with_u8, 8),
+    EXPORT(first_difference_u8_with_u16, 8),
+    EXPORT(first_difference_u8_with_u32, 8),
+    EXPORT(first_difference_u8_with_u64, 8),
+    EXPORT(first_difference_u16_with_u8, 16),
+    EXPORT(first_difference_u16_with_u16, 16),
+    EXPORT(first_difference_u16_with_u32, 16),
+    EXPORT(first_difference_u16_with_u64, 16),
+    EXPORT(first_difference_u32_with_u8, 32),
+    EXPORT(first_difference_u32_with_u16, 32),
+    EXPORT(first_difference_u32_with_u32, 32),
+    EXPORT(first_difference_u32_with_u64, 32),
+    EXPORT(first_difference_u64_with_u8, 64),
+    EXPORT(first_difference_u64_with_u16, 64),
+    EXPORT(first_difference_u64_with_u32, 64),
+    EXPORT(first_difference_u64_with_u64, 64),
 };
 
 #define EXPORTS (sizeof(exports) / sizeof(exports[0]))

@@ -43,7 +43,7 @@
 
 /* The version of this header: 10000 times its first part, 100 times its second, and its third. The
  * archive is of the same release where bitvec_c_version() returns it too. */
-#define BITVEC_VERSION 200
+#define BITVEC_VERSION 300
 
 /* Before a call whose status a caller may not ignore. */
 #if defined(__GNUC__)
@@ -87,7 +87,8 @@ enum bitvec_status {
                                   its range */
     BITVEC_TOO_WIDE = 5,       /* a number is to have more than 64 bits */
     BITVEC_OVERLAP = 6,        /* two spans of a run have a bit in common */
-    BITVEC_NO_ROOM = 7,        /* a run has not as many replies as requests */
+    BITVEC_NO_ROOM = 7,        /* a run has not as many replies as requests, or room for the numbers
+                                  of its spans */
     BITVEC_NO_COMMAND = 8      /* the command of a request is none of those below */
 };
 
@@ -204,6 +205,32 @@ BITVEC_CHECKED uint8_t bitvec_c_set_u32(
 BITVEC_CHECKED uint8_t bitvec_c_set_u64(
     uint8_t order, uint64_t *memory, size_t words, size_t place, bool bit);
 
+/* Writes to `before` the bit at a place, and makes it the same as `bit`. BITVEC_OUTSIDE: there is
+ * no such bit. */
+BITVEC_CHECKED uint8_t bitvec_c_replace_u8(
+    uint8_t order, uint8_t *memory, size_t words, size_t place, bool bit,
+    bool *before) BITVEC_NONNULL(6);
+BITVEC_CHECKED uint8_t bitvec_c_replace_u16(
+    uint8_t order, uint16_t *memory, size_t words, size_t place, bool bit,
+    bool *before) BITVEC_NONNULL(6);
+BITVEC_CHECKED uint8_t bitvec_c_replace_u32(
+    uint8_t order, uint32_t *memory, size_t words, size_t place, bool bit,
+    bool *before) BITVEC_NONNULL(6);
+BITVEC_CHECKED uint8_t bitvec_c_replace_u64(
+    uint8_t order, uint64_t *memory, size_t words, size_t place, bool bit,
+    bool *before) BITVEC_NONNULL(6);
+
+/* Exchanges the bits at two places, which may be the same one. BITVEC_OUTSIDE: there is no such
+ * bit. */
+BITVEC_CHECKED uint8_t bitvec_c_swap_u8(
+    uint8_t order, uint8_t *memory, size_t words, size_t place, size_t other_place);
+BITVEC_CHECKED uint8_t bitvec_c_swap_u16(
+    uint8_t order, uint16_t *memory, size_t words, size_t place, size_t other_place);
+BITVEC_CHECKED uint8_t bitvec_c_swap_u32(
+    uint8_t order, uint32_t *memory, size_t words, size_t place, size_t other_place);
+BITVEC_CHECKED uint8_t bitvec_c_swap_u64(
+    uint8_t order, uint64_t *memory, size_t words, size_t place, size_t other_place);
+
 /* Writes to `number` the number whose digits the `count` bits from `start` on are; its other
  * digits are 0. The bits that one word has of the range are digits of the number as they are
  * digits of the word, in the same order; those of the range's first word are the lowest or, where
@@ -235,6 +262,37 @@ BITVEC_CHECKED uint8_t bitvec_c_store_u32(
 BITVEC_CHECKED uint8_t bitvec_c_store_u64(
     uint8_t order, bool big_endian, uint64_t *memory, size_t words, size_t start, size_t count,
     uint64_t number);
+
+/* Writes to `number` the signed number whose two's complement of `count` digits the load of the
+ * unsigned number gives; for no bits it is 0. BITVEC_TOO_WIDE: `count` is past 64. */
+BITVEC_CHECKED uint8_t bitvec_c_load_signed_u8(
+    uint8_t order, bool big_endian, const uint8_t *memory, size_t words, size_t start, size_t count,
+    int64_t *number) BITVEC_NONNULL(7);
+BITVEC_CHECKED uint8_t bitvec_c_load_signed_u16(
+    uint8_t order, bool big_endian, const uint16_t *memory, size_t words, size_t start,
+    size_t count, int64_t *number) BITVEC_NONNULL(7);
+BITVEC_CHECKED uint8_t bitvec_c_load_signed_u32(
+    uint8_t order, bool big_endian, const uint32_t *memory, size_t words, size_t start,
+    size_t count, int64_t *number) BITVEC_NONNULL(7);
+BITVEC_CHECKED uint8_t bitvec_c_load_signed_u64(
+    uint8_t order, bool big_endian, const uint64_t *memory, size_t words, size_t start,
+    size_t count, int64_t *number) BITVEC_NONNULL(7);
+
+/* Makes `count` bits from `start` on the lowest digits of a signed number's two's complement, so
+ * that the load of the signed number gives back a number that has no more digits. BITVEC_TOO_WIDE:
+ * `count` is past 64. */
+BITVEC_CHECKED uint8_t bitvec_c_store_signed_u8(
+    uint8_t order, bool big_endian, uint8_t *memory, size_t words, size_t start, size_t count,
+    int64_t number);
+BITVEC_CHECKED uint8_t bitvec_c_store_signed_u16(
+    uint8_t order, bool big_endian, uint16_t *memory, size_t words, size_t start, size_t count,
+    int64_t number);
+BITVEC_CHECKED uint8_t bitvec_c_store_signed_u32(
+    uint8_t order, bool big_endian, uint32_t *memory, size_t words, size_t start, size_t count,
+    int64_t number);
+BITVEC_CHECKED uint8_t bitvec_c_store_signed_u64(
+    uint8_t order, bool big_endian, uint64_t *memory, size_t words, size_t start, size_t count,
+    int64_t number);
 
 /* Writes to `ones` how many of the `count` bits from `start` on are one. Costs by words. */
 BITVEC_CHECKED uint8_t bitvec_c_count_ones_u8(
@@ -327,6 +385,53 @@ BITVEC_CHECKED uint8_t bitvec_c_find_zeros_u32(
 BITVEC_CHECKED uint8_t bitvec_c_find_zeros_u64(
     uint8_t order, const uint64_t *memory, size_t words, size_t start, size_t count, size_t zeros,
     size_t *index) BITVEC_NONNULL(7);
+
+/* Writes to `index` the index of the first bit of the range, of those from index `from` on, that is
+ * the same as `bit`, or `count` where there is none. Costs by words, up to that bit. */
+BITVEC_CHECKED uint8_t bitvec_c_next_u8(
+    uint8_t order, const uint8_t *memory, size_t words, size_t start, size_t count, size_t from,
+    bool bit, size_t *index) BITVEC_NONNULL(8);
+BITVEC_CHECKED uint8_t bitvec_c_next_u16(
+    uint8_t order, const uint16_t *memory, size_t words, size_t start, size_t count, size_t from,
+    bool bit, size_t *index) BITVEC_NONNULL(8);
+BITVEC_CHECKED uint8_t bitvec_c_next_u32(
+    uint8_t order, const uint32_t *memory, size_t words, size_t start, size_t count, size_t from,
+    bool bit, size_t *index) BITVEC_NONNULL(8);
+BITVEC_CHECKED uint8_t bitvec_c_next_u64(
+    uint8_t order, const uint64_t *memory, size_t words, size_t start, size_t count, size_t from,
+    bool bit, size_t *index) BITVEC_NONNULL(8);
+
+/* Writes to `index` the index of the last bit of the range, of those before index `before`, that is
+ * the same as `bit`, or `count` where there is none. Costs by words, down to that bit. */
+BITVEC_CHECKED uint8_t bitvec_c_previous_u8(
+    uint8_t order, const uint8_t *memory, size_t words, size_t start, size_t count, size_t before,
+    bool bit, size_t *index) BITVEC_NONNULL(8);
+BITVEC_CHECKED uint8_t bitvec_c_previous_u16(
+    uint8_t order, const uint16_t *memory, size_t words, size_t start, size_t count, size_t before,
+    bool bit, size_t *index) BITVEC_NONNULL(8);
+BITVEC_CHECKED uint8_t bitvec_c_previous_u32(
+    uint8_t order, const uint32_t *memory, size_t words, size_t start, size_t count, size_t before,
+    bool bit, size_t *index) BITVEC_NONNULL(8);
+BITVEC_CHECKED uint8_t bitvec_c_previous_u64(
+    uint8_t order, const uint64_t *memory, size_t words, size_t start, size_t count, size_t before,
+    bool bit, size_t *index) BITVEC_NONNULL(8);
+
+/* Writes to `index` the first index in the range, not before `from` and a multiple of
+ * `multiple_of`, from which on `zeros` bits are in it and zero, or `count` where there is none. A
+ * `multiple_of` of 0 is taken as 1. Costs as bitvec_c_find_zeros_W, and once more for each run that
+ * is long enough, but not from a multiple on. */
+BITVEC_CHECKED uint8_t bitvec_c_find_zeros_from_u8(
+    uint8_t order, const uint8_t *memory, size_t words, size_t start, size_t count, size_t from,
+    size_t zeros, size_t multiple_of, size_t *index) BITVEC_NONNULL(9);
+BITVEC_CHECKED uint8_t bitvec_c_find_zeros_from_u16(
+    uint8_t order, const uint16_t *memory, size_t words, size_t start, size_t count, size_t from,
+    size_t zeros, size_t multiple_of, size_t *index) BITVEC_NONNULL(9);
+BITVEC_CHECKED uint8_t bitvec_c_find_zeros_from_u32(
+    uint8_t order, const uint32_t *memory, size_t words, size_t start, size_t count, size_t from,
+    size_t zeros, size_t multiple_of, size_t *index) BITVEC_NONNULL(9);
+BITVEC_CHECKED uint8_t bitvec_c_find_zeros_from_u64(
+    uint8_t order, const uint64_t *memory, size_t words, size_t start, size_t count, size_t from,
+    size_t zeros, size_t multiple_of, size_t *index) BITVEC_NONNULL(9);
 
 /* Turns over each of the `count` bits from `start` on. Costs by words. */
 BITVEC_CHECKED uint8_t bitvec_c_invert_u8(
@@ -520,6 +625,73 @@ BITVEC_CHECKED uint8_t bitvec_c_first_difference_u64(
     const uint64_t *other, size_t other_words, size_t other_start, size_t count,
     size_t *index) BITVEC_NONNULL(10);
 
+/* The same where the words of the two memories may have other widths. The two ranges are equal
+ * where it is `count`, and else the bit at that index tells which one is less. */
+BITVEC_CHECKED uint8_t bitvec_c_first_difference_u8_with_u8(
+    uint8_t order, const uint8_t *memory, size_t words, size_t start, uint8_t other_order,
+    const uint8_t *other, size_t other_words, size_t other_start, size_t count,
+    size_t *index) BITVEC_NONNULL(10);
+BITVEC_CHECKED uint8_t bitvec_c_first_difference_u8_with_u16(
+    uint8_t order, const uint8_t *memory, size_t words, size_t start, uint8_t other_order,
+    const uint16_t *other, size_t other_words, size_t other_start, size_t count,
+    size_t *index) BITVEC_NONNULL(10);
+BITVEC_CHECKED uint8_t bitvec_c_first_difference_u8_with_u32(
+    uint8_t order, const uint8_t *memory, size_t words, size_t start, uint8_t other_order,
+    const uint32_t *other, size_t other_words, size_t other_start, size_t count,
+    size_t *index) BITVEC_NONNULL(10);
+BITVEC_CHECKED uint8_t bitvec_c_first_difference_u8_with_u64(
+    uint8_t order, const uint8_t *memory, size_t words, size_t start, uint8_t other_order,
+    const uint64_t *other, size_t other_words, size_t other_start, size_t count,
+    size_t *index) BITVEC_NONNULL(10);
+BITVEC_CHECKED uint8_t bitvec_c_first_difference_u16_with_u8(
+    uint8_t order, const uint16_t *memory, size_t words, size_t start, uint8_t other_order,
+    const uint8_t *other, size_t other_words, size_t other_start, size_t count,
+    size_t *index) BITVEC_NONNULL(10);
+BITVEC_CHECKED uint8_t bitvec_c_first_difference_u16_with_u16(
+    uint8_t order, const uint16_t *memory, size_t words, size_t start, uint8_t other_order,
+    const uint16_t *other, size_t other_words, size_t other_start, size_t count,
+    size_t *index) BITVEC_NONNULL(10);
+BITVEC_CHECKED uint8_t bitvec_c_first_difference_u16_with_u32(
+    uint8_t order, const uint16_t *memory, size_t words, size_t start, uint8_t other_order,
+    const uint32_t *other, size_t other_words, size_t other_start, size_t count,
+    size_t *index) BITVEC_NONNULL(10);
+BITVEC_CHECKED uint8_t bitvec_c_first_difference_u16_with_u64(
+    uint8_t order, const uint16_t *memory, size_t words, size_t start, uint8_t other_order,
+    const uint64_t *other, size_t other_words, size_t other_start, size_t count,
+    size_t *index) BITVEC_NONNULL(10);
+BITVEC_CHECKED uint8_t bitvec_c_first_difference_u32_with_u8(
+    uint8_t order, const uint32_t *memory, size_t words, size_t start, uint8_t other_order,
+    const uint8_t *other, size_t other_words, size_t other_start, size_t count,
+    size_t *index) BITVEC_NONNULL(10);
+BITVEC_CHECKED uint8_t bitvec_c_first_difference_u32_with_u16(
+    uint8_t order, const uint32_t *memory, size_t words, size_t start, uint8_t other_order,
+    const uint16_t *other, size_t other_words, size_t other_start, size_t count,
+    size_t *index) BITVEC_NONNULL(10);
+BITVEC_CHECKED uint8_t bitvec_c_first_difference_u32_with_u32(
+    uint8_t order, const uint32_t *memory, size_t words, size_t start, uint8_t other_order,
+    const uint32_t *other, size_t other_words, size_t other_start, size_t count,
+    size_t *index) BITVEC_NONNULL(10);
+BITVEC_CHECKED uint8_t bitvec_c_first_difference_u32_with_u64(
+    uint8_t order, const uint32_t *memory, size_t words, size_t start, uint8_t other_order,
+    const uint64_t *other, size_t other_words, size_t other_start, size_t count,
+    size_t *index) BITVEC_NONNULL(10);
+BITVEC_CHECKED uint8_t bitvec_c_first_difference_u64_with_u8(
+    uint8_t order, const uint64_t *memory, size_t words, size_t start, uint8_t other_order,
+    const uint8_t *other, size_t other_words, size_t other_start, size_t count,
+    size_t *index) BITVEC_NONNULL(10);
+BITVEC_CHECKED uint8_t bitvec_c_first_difference_u64_with_u16(
+    uint8_t order, const uint64_t *memory, size_t words, size_t start, uint8_t other_order,
+    const uint16_t *other, size_t other_words, size_t other_start, size_t count,
+    size_t *index) BITVEC_NONNULL(10);
+BITVEC_CHECKED uint8_t bitvec_c_first_difference_u64_with_u32(
+    uint8_t order, const uint64_t *memory, size_t words, size_t start, uint8_t other_order,
+    const uint32_t *other, size_t other_words, size_t other_start, size_t count,
+    size_t *index) BITVEC_NONNULL(10);
+BITVEC_CHECKED uint8_t bitvec_c_first_difference_u64_with_u64(
+    uint8_t order, const uint64_t *memory, size_t words, size_t start, uint8_t other_order,
+    const uint64_t *other, size_t other_words, size_t other_start, size_t count,
+    size_t *index) BITVEC_NONNULL(10);
+
 /* For any two widths V and W: bitvec_c_copy_V_to_W copies `count` bits from `source_start` of a
  * memory of words of one width to `target_start` of one of words of another, each under an order
  * of its own. The two memories share no word. Both ranges are tested, the source's first. Costs by
@@ -604,6 +776,43 @@ BITVEC_CHECKED uint8_t bitvec_c_run_u64(
     uint8_t order, const struct bitvec_span *spans, size_t span_count, uint64_t *memory,
     size_t words, const struct bitvec_request *requests, size_t request_count,
     struct bitvec_reply *replies, size_t reply_count);
+
+/* The same as the tests above of any number of spans, in time n log n for n of them: `room` has as
+ * many numbers as there are spans. Where the status is BITVEC_OK or BITVEC_OVERLAP it holds the
+ * numbers of the spans in an order in which their first bits rise. BITVEC_NO_ROOM: `room_count` is
+ * not `span_count`. */
+BITVEC_CHECKED uint8_t bitvec_c_can_run_in_u8(
+    uint8_t order, const struct bitvec_span *spans, size_t span_count, size_t words, size_t *room,
+    size_t room_count);
+BITVEC_CHECKED uint8_t bitvec_c_can_run_in_u16(
+    uint8_t order, const struct bitvec_span *spans, size_t span_count, size_t words, size_t *room,
+    size_t room_count);
+BITVEC_CHECKED uint8_t bitvec_c_can_run_in_u32(
+    uint8_t order, const struct bitvec_span *spans, size_t span_count, size_t words, size_t *room,
+    size_t room_count);
+BITVEC_CHECKED uint8_t bitvec_c_can_run_in_u64(
+    uint8_t order, const struct bitvec_span *spans, size_t span_count, size_t words, size_t *room,
+    size_t room_count);
+
+/* The run above through any number of spans, which are tested as bitvec_c_can_run_in_W does; where
+ * each of them lies in the memory, and there is room for the number of each, `room` holds these
+ * afterwards also where the run is refused. */
+BITVEC_CHECKED uint8_t bitvec_c_run_in_u8(
+    uint8_t order, const struct bitvec_span *spans, size_t span_count, uint8_t *memory,
+    size_t words, const struct bitvec_request *requests, size_t request_count,
+    struct bitvec_reply *replies, size_t reply_count, size_t *room, size_t room_count);
+BITVEC_CHECKED uint8_t bitvec_c_run_in_u16(
+    uint8_t order, const struct bitvec_span *spans, size_t span_count, uint16_t *memory,
+    size_t words, const struct bitvec_request *requests, size_t request_count,
+    struct bitvec_reply *replies, size_t reply_count, size_t *room, size_t room_count);
+BITVEC_CHECKED uint8_t bitvec_c_run_in_u32(
+    uint8_t order, const struct bitvec_span *spans, size_t span_count, uint32_t *memory,
+    size_t words, const struct bitvec_request *requests, size_t request_count,
+    struct bitvec_reply *replies, size_t reply_count, size_t *room, size_t room_count);
+BITVEC_CHECKED uint8_t bitvec_c_run_in_u64(
+    uint8_t order, const struct bitvec_span *spans, size_t span_count, uint64_t *memory,
+    size_t words, const struct bitvec_request *requests, size_t request_count,
+    struct bitvec_reply *replies, size_t reply_count, size_t *room, size_t room_count);
 
 #undef BITVEC_NONNULL
 #undef BITVEC_CHECKED

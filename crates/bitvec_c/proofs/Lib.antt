@@ -4,3 +4,5 @@ mod PlainLemmas
 mod PlainRangeLemmas
 mod ReadLemmas
 mod RunLemmas
+mod SignedRangeLemmas
+mod SortedLemmas

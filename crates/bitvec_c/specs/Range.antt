@@ -1,7 +1,7 @@
 -- Ranges of the bits of a memory. A place counts the bits of a memory from 0 on, `bits` is the width of a word, `at` takes
 -- an index in a word to its position in the number, and a memory is the list of its words' numbers.
 use Rattle.std.specs.Prelude.{◌≡◌, ℕ, pos, ◌/◌, ◌%◌, Bool, List, slice_set}
-use Rattle.bitvec.specs.Memory.{memory_bits, list_with_copy}
+use Rattle.bitvec.specs.Memory.{bit_of, memory_bits, list_with_copy}
 use Rattle.bitvec.specs.Place.{Ptr}
 use Rattle.bitvec.specs.Span.{BecomesList, span_at, list_of}
 
@@ -25,6 +25,11 @@ HaveSameBits bits at start words other_start other_words count = range_bits bits
 -- the bit at a place becomes `bit`, and every other bit of the memory is as before
 abbrev pub WritesBit : ℕ → (ℕ → ℕ) → ℕ → Bool → List ℕ → List ℕ → Type 0
 WritesBit bits at place bit old new = memory_bits bits at new ≡ slice_set (memory_bits bits at old) place bit
+
+-- each of the bits at two places becomes what the other was, and every other bit of the memory is as before
+abbrev pub ExchangesBits : ℕ → (ℕ → ℕ) → ℕ → ℕ → List ℕ → List ℕ → Type 0
+ExchangesBits bits at place other old new =
+    memory_bits bits at new ≡ slice_set (slice_set (memory_bits bits at old) place (bit_of bits at old other)) other (bit_of bits at old place)
 
 -- the `count` bits of a memory from place `to` on become those of a source from place `from` on, and every other bit is as
 -- before

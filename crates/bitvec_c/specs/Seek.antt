@@ -1,7 +1,8 @@
 -- What is looked for among the bits of a range, and `end` where there is no such thing.
-use Rattle.std.specs.Prelude.{◌≡◌, ◌⊎◌, ℕ, ◌<◌, Bool, not, List}
+use Rattle.std.specs.Prelude.{◌≡◌, ◌⊎◌, ℕ, ◌<◌, Bool, not, List, length, min, max}
 use Rattle.bitvec.specs.Truths.{AllAre, IsFirst}
-use Rattle.bitvec_slice.specs.Bits.{IsLast, AreFree}
+use Rattle.bitvec_slice.specs.Bits.{IsLast, AreFree, AllBetween, IsFirstBetween, IsLastBetween}
+use Rattle.bitvec_slice.specs.Patterns.{AreFreeFrom, IsLeast}
 
 -- the index of the first element of a list that is `bit`, and `end` where none is
 abbrev pub IsFirstOr : Bool → List Bool → ℕ → ℕ → Type 0
@@ -14,3 +15,17 @@ IsLastOr bit xs end i = IsLast bit xs i ⊎ (AllAre (not bit) xs × (i ≡ end))
 -- the first index from which on so many elements of a list are there and false, and `end` where there is none
 abbrev pub IsFreeOr : ℕ → List Bool → ℕ → ℕ → Type 0
 IsFreeOr zeros xs end i = (AreFree xs i zeros × ((k : ℕ) → k < i → ¬ AreFree xs k zeros)) ⊎ (((k : ℕ) → ¬ AreFree xs k zeros) × (i ≡ end))
+
+-- the index of the first element of a list, from index `from` on, that is `bit`, and `end` where none is
+abbrev pub IsNextOr : Bool → ℕ → List Bool → ℕ → ℕ → Type 0
+IsNextOr bit from xs end i = IsFirstBetween bit xs from (length xs) i ⊎ (AllBetween (not bit) xs from (length xs) × (i ≡ end))
+
+-- the index of the last element of a list, of those before index `before`, that is `bit`, and `end` where none is
+abbrev pub IsPreviousOr : Bool → ℕ → List Bool → ℕ → ℕ → Type 0
+IsPreviousOr bit before xs end i = IsLastBetween bit xs 0 (min before (length xs)) i ⊎ (AllBetween (not bit) xs 0 (min before (length xs)) × (i ≡ end))
+
+-- The first index not before `from`, and a multiple of a number, from which on so many elements of a list are there and
+-- false, and `end` where there is none. Each is a multiple of 0, as it is of 1.
+abbrev pub IsFreeFromOr : ℕ → ℕ → ℕ → List Bool → ℕ → ℕ → Type 0
+IsFreeFromOr from zeros multiple_of xs end i =
+    let IsRun = AreFreeFrom xs from zeros (max multiple_of 1) in IsLeast IsRun i ⊎ (((k : ℕ) → ¬ IsRun k) × (i ≡ end))

@@ -30,7 +30,7 @@ too_wide = 5
 abbrev pub overlap : ℕ
 overlap = 6
 
--- a run has not as many replies as requests
+-- a run has not as many replies as requests, or room for the numbers of its spans
 abbrev pub no_room : ℕ
 no_room = 7
 

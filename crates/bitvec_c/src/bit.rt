@@ -1,10 +1,10 @@
 //! Single bits of a memory.
 
-ghost use Rattle.std.specs.Prelude.{◌≡◌, ◌≢◌, ◌*◌, ◌<◌, length, map};
+ghost use Rattle.std.specs.Prelude.{◌≡◌, ◌*◌, ◌<◌, length, map};
 ghost use Rattle.bitvec.specs.Memory.{bit_of};
+ghost use Rattle.bitvec_c.specs.Call.{part, IsBitRead, IsBitWrite};
 ghost use Rattle.bitvec_c.specs.Order.{order_at};
 ghost use Rattle.bitvec_c.specs.Range.{WritesBit};
-ghost use Rattle.bitvec_c.specs.Status.{ok, range_status};
 
 use crate::range::pointer;
 use crate::status::{LSB0, MSB0, NO_ORDER, OK, OUTSIDE, is_place, test_range};
@@ -20,7 +20,7 @@ fn read_in<R: BitRegister, O: BitOrder<R>>(memory: &[R], place: usize) -> bool
 }
 
 // The same under the order of a code.
-fn read<R: BitRegister>(order: u8, memory: &[R], place: usize) -> bool
+pub(crate) fn read<R: BitRegister>(order: u8, memory: &[R], place: usize) -> bool
     requires { place < length memory.now * R.BITS }
     ensures { result ≡ bit_of R.BITS (order_at R.BITS order) (map R.number memory.now) place }
 {
@@ -33,10 +33,7 @@ fn read<R: BitRegister>(order: u8, memory: &[R], place: usize) -> bool
 
 // Answers the bit at a place.
 fn get<R: BitRegister>(order: u8, memory: &[R], place: usize, bit: &mut bool) -> u8
-    ensures status { result ≡ range_status R.BITS order (length memory.now) place 1 }
-    ensures read { result ≡ ok → bit.new
-        ≡ bit_of R.BITS (order_at R.BITS order) (map R.number memory.now) place }
-    ensures refused { result ≢ ok → bit.new ≡ bit.old }
+    ensures { IsBitRead (part R.number R.BITS order place memory.now) bit.old bit.new result }
 {
     // Tested one by one, with no status between: a bit is read in few instructions.
     if order > MSB0 {
@@ -50,7 +47,7 @@ fn get<R: BitRegister>(order: u8, memory: &[R], place: usize, bit: &mut bool) ->
 }
 
 // Writes the bit at a place under the order of a code, and changes no other bit.
-fn write<R: BitRegister>(order: u8, memory: &mut [R], place: usize, bit: bool)
+pub(crate) fn write<R: BitRegister>(order: u8, memory: &mut [R], place: usize, bit: bool)
     requires { place < length memory.old * R.BITS }
     ensures { WritesBit R.BITS (order_at R.BITS order) place bit (map R.number memory.old)
         (map R.number memory.new) }
@@ -64,10 +61,8 @@ fn write<R: BitRegister>(order: u8, memory: &mut [R], place: usize, bit: bool)
 
 // Writes the bit at a place where the call's conditions hold, and returns the status.
 fn set<R: BitRegister>(order: u8, memory: &mut [R], place: usize, bit: bool) -> u8
-    ensures status { result ≡ range_status R.BITS order (length memory.old) place 1 }
-    ensures written { result ≡ ok → WritesBit R.BITS (order_at R.BITS order) place bit
-        (map R.number memory.old) (map R.number memory.new) }
-    ensures refused { result ≢ ok → memory.new ≡ memory.old }
+    ensures { let at = part R.number R.BITS order place in IsBitWrite (at memory.old) (at
+        memory.new) bit result }
 {
     let status = test_range::<R>(order, memory.len(), place, 1);
     if status == OK {
@@ -81,9 +76,7 @@ fn set<R: BitRegister>(order: u8, memory: &mut [R], place: usize, bit: bool) -> 
 /// It refuses with `NO_ORDER` or `OUTSIDE`.
 #[unsafe(no_mangle)]
 pub extern "C" fn bitvec_c_get_u8(order: u8, memory: &[u8], place: usize, bit: &mut bool) -> u8
-    ensures status { result ≡ range_status 8 order (length memory.now) place 1 }
-    ensures read { result ≡ ok → bit.new ≡ bit_of 8 (order_at 8 order) memory.now place }
-    ensures refused { result ≢ ok → bit.new ≡ bit.old }
+    ensures { IsBitRead (part (λ n. n) 8 order place memory.now) bit.old bit.new result }
 {
     get(order, memory, place, bit)
 }
@@ -93,9 +86,7 @@ pub extern "C" fn bitvec_c_get_u8(order: u8, memory: &[u8], place: usize, bit: &
 /// It refuses with `NO_ORDER` or `OUTSIDE`.
 #[unsafe(no_mangle)]
 pub extern "C" fn bitvec_c_get_u16(order: u8, memory: &[u16], place: usize, bit: &mut bool) -> u8
-    ensures status { result ≡ range_status 16 order (length memory.now) place 1 }
-    ensures read { result ≡ ok → bit.new ≡ bit_of 16 (order_at 16 order) memory.now place }
-    ensures refused { result ≢ ok → bit.new ≡ bit.old }
+    ensures { IsBitRead (part (λ n. n) 16 order place memory.now) bit.old bit.new result }
 {
     get(order, memory, place, bit)
 }
@@ -105,9 +96,7 @@ pub extern "C" fn bitvec_c_get_u16(order: u8, memory: &[u16], place: usize, bit:
 /// It refuses with `NO_ORDER` or `OUTSIDE`.
 #[unsafe(no_mangle)]
 pub extern "C" fn bitvec_c_get_u32(order: u8, memory: &[u32], place: usize, bit: &mut bool) -> u8
-    ensures status { result ≡ range_status 32 order (length memory.now) place 1 }
-    ensures read { result ≡ ok → bit.new ≡ bit_of 32 (order_at 32 order) memory.now place }
-    ensures refused { result ≢ ok → bit.new ≡ bit.old }
+    ensures { IsBitRead (part (λ n. n) 32 order place memory.now) bit.old bit.new result }
 {
     get(order, memory, place, bit)
 }
@@ -117,9 +106,7 @@ pub extern "C" fn bitvec_c_get_u32(order: u8, memory: &[u32], place: usize, bit:
 /// It refuses with `NO_ORDER` or `OUTSIDE`.
 #[unsafe(no_mangle)]
 pub extern "C" fn bitvec_c_get_u64(order: u8, memory: &[u64], place: usize, bit: &mut bool) -> u8
-    ensures status { result ≡ range_status 64 order (length memory.now) place 1 }
-    ensures read { result ≡ ok → bit.new ≡ bit_of 64 (order_at 64 order) memory.now place }
-    ensures refused { result ≢ ok → bit.new ≡ bit.old }
+    ensures { IsBitRead (part (λ n. n) 64 order place memory.now) bit.old bit.new result }
 {
     get(order, memory, place, bit)
 }
@@ -129,10 +116,8 @@ pub extern "C" fn bitvec_c_get_u64(order: u8, memory: &[u64], place: usize, bit:
 /// It refuses with `NO_ORDER` or `OUTSIDE`.
 #[unsafe(no_mangle)]
 pub extern "C" fn bitvec_c_set_u8(order: u8, memory: &mut [u8], place: usize, bit: bool) -> u8
-    ensures status { result ≡ range_status 8 order (length memory.old) place 1 }
-    ensures written { result ≡ ok
-        → WritesBit 8 (order_at 8 order) place bit memory.old memory.new }
-    ensures refused { result ≢ ok → memory.new ≡ memory.old }
+    ensures { let at = part (λ n. n) 8 order place in IsBitWrite (at memory.old) (at memory.new)
+        bit result }
 {
     set(order, memory, place, bit)
 }
@@ -142,10 +127,8 @@ pub extern "C" fn bitvec_c_set_u8(order: u8, memory: &mut [u8], place: usize, bi
 /// It refuses with `NO_ORDER` or `OUTSIDE`.
 #[unsafe(no_mangle)]
 pub extern "C" fn bitvec_c_set_u16(order: u8, memory: &mut [u16], place: usize, bit: bool) -> u8
-    ensures status { result ≡ range_status 16 order (length memory.old) place 1 }
-    ensures written { result ≡ ok
-        → WritesBit 16 (order_at 16 order) place bit memory.old memory.new }
-    ensures refused { result ≢ ok → memory.new ≡ memory.old }
+    ensures { let at = part (λ n. n) 16 order place in IsBitWrite (at memory.old) (at
+        memory.new) bit result }
 {
     set(order, memory, place, bit)
 }
@@ -155,10 +138,8 @@ pub extern "C" fn bitvec_c_set_u16(order: u8, memory: &mut [u16], place: usize, 
 /// It refuses with `NO_ORDER` or `OUTSIDE`.
 #[unsafe(no_mangle)]
 pub extern "C" fn bitvec_c_set_u32(order: u8, memory: &mut [u32], place: usize, bit: bool) -> u8
-    ensures status { result ≡ range_status 32 order (length memory.old) place 1 }
-    ensures written { result ≡ ok
-        → WritesBit 32 (order_at 32 order) place bit memory.old memory.new }
-    ensures refused { result ≢ ok → memory.new ≡ memory.old }
+    ensures { let at = part (λ n. n) 32 order place in IsBitWrite (at memory.old) (at
+        memory.new) bit result }
 {
     set(order, memory, place, bit)
 }
@@ -168,10 +149,8 @@ pub extern "C" fn bitvec_c_set_u32(order: u8, memory: &mut [u32], place: usize, 
 /// It refuses with `NO_ORDER` or `OUTSIDE`.
 #[unsafe(no_mangle)]
 pub extern "C" fn bitvec_c_set_u64(order: u8, memory: &mut [u64], place: usize, bit: bool) -> u8
-    ensures status { result ≡ range_status 64 order (length memory.old) place 1 }
-    ensures written { result ≡ ok
-        → WritesBit 64 (order_at 64 order) place bit memory.old memory.new }
-    ensures refused { result ≢ ok → memory.new ≡ memory.old }
+    ensures { let at = part (λ n. n) 64 order place in IsBitWrite (at memory.old) (at
+        memory.new) bit result }
 {
     set(order, memory, place, bit)
 }

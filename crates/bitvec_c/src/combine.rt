@@ -4,10 +4,9 @@ ghost use Rattle.std.specs.Prelude.{◌≡◌, ◌+◌, ◌*◌, ◌≤◌, ◌&
 ghost use Rattle.bitvec.specs.Digit.{exclusive_or};
 ghost use Rattle.bitvec.specs.Memory.{zip_with};
 ghost use Rattle.bitvec.specs.Place.{region_max_bits};
-ghost use Rattle.bitvec_c.specs.Call.{IsCall};
+ghost use Rattle.bitvec_c.specs.Call.{part, IsCombination};
 ghost use Rattle.bitvec_c.specs.Order.{order_at};
 ghost use Rattle.bitvec_c.specs.Range.{range_bits, RangeBecomes};
-ghost use Rattle.bitvec_c.specs.Status.{pair_status};
 
 use crate::range::span;
 use crate::status::{LSB0, OK, test_pair};
@@ -96,15 +95,8 @@ fn combine<C: Combine, R2: BitRegister, R: BitRegister>(
     to: usize,
     count: usize,
 ) -> u8
-    ensures { IsCall
-        (pair_status R2.BITS source_order (length source.now) from R.BITS order
-        (length target.old) to count)
-        (RangeBecomes R.BITS (order_at R.BITS order) to count
-        (zip_with C.of (range_bits R.BITS (order_at R.BITS order) to count
-        (map R.number target.old))
-        (range_bits R2.BITS (order_at R2.BITS source_order) from count (map R2.number source.now)))
-        (map R.number target.old) (map R.number target.new))
-        (target.new ≡ target.old) result }
+    ensures { let at = part R.number R.BITS order to in IsCombination C.of (part R2.number
+        R2.BITS source_order from source.now) (at target.old) (at target.new) count result }
 {
     let words = target.len();
     let status = test_pair::<R2, R>(source_order, source.len(), from, order, words, to, count);
@@ -128,12 +120,9 @@ pub extern "C" fn bitvec_c_and_u8(
     target_start: usize,
     count: usize,
 ) -> u8
-    ensures { IsCall (pair_status 8 source_order (length source.now) source_start 8 order
-        (length target.old) target_start count)
-        (RangeBecomes 8 (order_at 8 order) target_start count (zip_with (λ t s. t && s)
-        (range_bits 8 (order_at 8 order) target_start count target.old) (range_bits 8
-        (order_at 8 source_order) source_start count source.now))
-        target.old target.new) (target.new ≡ target.old) result }
+    ensures { let at = part (λ n. n) 8 order target_start in IsCombination (λ t s. t && s) (part
+        (λ n. n) 8 source_order source_start source.now) (at target.old) (at target.new) count
+        result }
 {
     combine::<And, u8, u8>(
         source_order,
@@ -160,12 +149,9 @@ pub extern "C" fn bitvec_c_and_u16(
     target_start: usize,
     count: usize,
 ) -> u8
-    ensures { IsCall (pair_status 16 source_order (length source.now) source_start 16 order
-        (length target.old) target_start count)
-        (RangeBecomes 16 (order_at 16 order) target_start count (zip_with (λ t s. t && s)
-        (range_bits 16 (order_at 16 order) target_start count target.old) (range_bits 16
-        (order_at 16 source_order) source_start count source.now))
-        target.old target.new) (target.new ≡ target.old) result }
+    ensures { let at = part (λ n. n) 16 order target_start in IsCombination (λ t s. t && s)
+        (part (λ n. n) 16 source_order source_start source.now) (at target.old) (at target.new)
+        count result }
 {
     combine::<And, u16, u16>(
         source_order,
@@ -192,12 +178,9 @@ pub extern "C" fn bitvec_c_and_u32(
     target_start: usize,
     count: usize,
 ) -> u8
-    ensures { IsCall (pair_status 32 source_order (length source.now) source_start 32 order
-        (length target.old) target_start count)
-        (RangeBecomes 32 (order_at 32 order) target_start count (zip_with (λ t s. t && s)
-        (range_bits 32 (order_at 32 order) target_start count target.old) (range_bits 32
-        (order_at 32 source_order) source_start count source.now))
-        target.old target.new) (target.new ≡ target.old) result }
+    ensures { let at = part (λ n. n) 32 order target_start in IsCombination (λ t s. t && s)
+        (part (λ n. n) 32 source_order source_start source.now) (at target.old) (at target.new)
+        count result }
 {
     combine::<And, u32, u32>(
         source_order,
@@ -224,12 +207,9 @@ pub extern "C" fn bitvec_c_and_u64(
     target_start: usize,
     count: usize,
 ) -> u8
-    ensures { IsCall (pair_status 64 source_order (length source.now) source_start 64 order
-        (length target.old) target_start count)
-        (RangeBecomes 64 (order_at 64 order) target_start count (zip_with (λ t s. t && s)
-        (range_bits 64 (order_at 64 order) target_start count target.old) (range_bits 64
-        (order_at 64 source_order) source_start count source.now))
-        target.old target.new) (target.new ≡ target.old) result }
+    ensures { let at = part (λ n. n) 64 order target_start in IsCombination (λ t s. t && s)
+        (part (λ n. n) 64 source_order source_start source.now) (at target.old) (at target.new)
+        count result }
 {
     combine::<And, u64, u64>(
         source_order,
@@ -256,12 +236,9 @@ pub extern "C" fn bitvec_c_or_u8(
     target_start: usize,
     count: usize,
 ) -> u8
-    ensures { IsCall (pair_status 8 source_order (length source.now) source_start 8 order
-        (length target.old) target_start count)
-        (RangeBecomes 8 (order_at 8 order) target_start count (zip_with (λ t s. t || s)
-        (range_bits 8 (order_at 8 order) target_start count target.old) (range_bits 8
-        (order_at 8 source_order) source_start count source.now))
-        target.old target.new) (target.new ≡ target.old) result }
+    ensures { let at = part (λ n. n) 8 order target_start in IsCombination (λ t s. t || s) (part
+        (λ n. n) 8 source_order source_start source.now) (at target.old) (at target.new) count
+        result }
 {
     combine::<Or, u8, u8>(
         source_order,
@@ -288,12 +265,9 @@ pub extern "C" fn bitvec_c_or_u16(
     target_start: usize,
     count: usize,
 ) -> u8
-    ensures { IsCall (pair_status 16 source_order (length source.now) source_start 16 order
-        (length target.old) target_start count)
-        (RangeBecomes 16 (order_at 16 order) target_start count (zip_with (λ t s. t || s)
-        (range_bits 16 (order_at 16 order) target_start count target.old) (range_bits 16
-        (order_at 16 source_order) source_start count source.now))
-        target.old target.new) (target.new ≡ target.old) result }
+    ensures { let at = part (λ n. n) 16 order target_start in IsCombination (λ t s. t || s)
+        (part (λ n. n) 16 source_order source_start source.now) (at target.old) (at target.new)
+        count result }
 {
     combine::<Or, u16, u16>(
         source_order,
@@ -320,12 +294,9 @@ pub extern "C" fn bitvec_c_or_u32(
     target_start: usize,
     count: usize,
 ) -> u8
-    ensures { IsCall (pair_status 32 source_order (length source.now) source_start 32 order
-        (length target.old) target_start count)
-        (RangeBecomes 32 (order_at 32 order) target_start count (zip_with (λ t s. t || s)
-        (range_bits 32 (order_at 32 order) target_start count target.old) (range_bits 32
-        (order_at 32 source_order) source_start count source.now))
-        target.old target.new) (target.new ≡ target.old) result }
+    ensures { let at = part (λ n. n) 32 order target_start in IsCombination (λ t s. t || s)
+        (part (λ n. n) 32 source_order source_start source.now) (at target.old) (at target.new)
+        count result }
 {
     combine::<Or, u32, u32>(
         source_order,
@@ -352,12 +323,9 @@ pub extern "C" fn bitvec_c_or_u64(
     target_start: usize,
     count: usize,
 ) -> u8
-    ensures { IsCall (pair_status 64 source_order (length source.now) source_start 64 order
-        (length target.old) target_start count)
-        (RangeBecomes 64 (order_at 64 order) target_start count (zip_with (λ t s. t || s)
-        (range_bits 64 (order_at 64 order) target_start count target.old) (range_bits 64
-        (order_at 64 source_order) source_start count source.now))
-        target.old target.new) (target.new ≡ target.old) result }
+    ensures { let at = part (λ n. n) 64 order target_start in IsCombination (λ t s. t || s)
+        (part (λ n. n) 64 source_order source_start source.now) (at target.old) (at target.new)
+        count result }
 {
     combine::<Or, u64, u64>(
         source_order,
@@ -384,12 +352,9 @@ pub extern "C" fn bitvec_c_xor_u8(
     target_start: usize,
     count: usize,
 ) -> u8
-    ensures { IsCall (pair_status 8 source_order (length source.now) source_start 8 order
-        (length target.old) target_start count)
-        (RangeBecomes 8 (order_at 8 order) target_start count (zip_with exclusive_or
-        (range_bits 8 (order_at 8 order) target_start count target.old) (range_bits 8
-        (order_at 8 source_order) source_start count source.now))
-        target.old target.new) (target.new ≡ target.old) result }
+    ensures { let at = part (λ n. n) 8 order target_start in IsCombination exclusive_or (part (λ
+        n. n) 8 source_order source_start source.now) (at target.old) (at target.new) count
+        result }
 {
     combine::<Xor, u8, u8>(
         source_order,
@@ -416,12 +381,9 @@ pub extern "C" fn bitvec_c_xor_u16(
     target_start: usize,
     count: usize,
 ) -> u8
-    ensures { IsCall (pair_status 16 source_order (length source.now) source_start 16 order
-        (length target.old) target_start count)
-        (RangeBecomes 16 (order_at 16 order) target_start count (zip_with exclusive_or
-        (range_bits 16 (order_at 16 order) target_start count target.old) (range_bits 16
-        (order_at 16 source_order) source_start count source.now))
-        target.old target.new) (target.new ≡ target.old) result }
+    ensures { let at = part (λ n. n) 16 order target_start in IsCombination exclusive_or (part
+        (λ n. n) 16 source_order source_start source.now) (at target.old) (at target.new) count
+        result }
 {
     combine::<Xor, u16, u16>(
         source_order,
@@ -448,12 +410,9 @@ pub extern "C" fn bitvec_c_xor_u32(
     target_start: usize,
     count: usize,
 ) -> u8
-    ensures { IsCall (pair_status 32 source_order (length source.now) source_start 32 order
-        (length target.old) target_start count)
-        (RangeBecomes 32 (order_at 32 order) target_start count (zip_with exclusive_or
-        (range_bits 32 (order_at 32 order) target_start count target.old) (range_bits 32
-        (order_at 32 source_order) source_start count source.now))
-        target.old target.new) (target.new ≡ target.old) result }
+    ensures { let at = part (λ n. n) 32 order target_start in IsCombination exclusive_or (part
+        (λ n. n) 32 source_order source_start source.now) (at target.old) (at target.new) count
+        result }
 {
     combine::<Xor, u32, u32>(
         source_order,
@@ -480,12 +439,9 @@ pub extern "C" fn bitvec_c_xor_u64(
     target_start: usize,
     count: usize,
 ) -> u8
-    ensures { IsCall (pair_status 64 source_order (length source.now) source_start 64 order
-        (length target.old) target_start count)
-        (RangeBecomes 64 (order_at 64 order) target_start count (zip_with exclusive_or
-        (range_bits 64 (order_at 64 order) target_start count target.old) (range_bits 64
-        (order_at 64 source_order) source_start count source.now))
-        target.old target.new) (target.new ≡ target.old) result }
+    ensures { let at = part (λ n. n) 64 order target_start in IsCombination exclusive_or (part
+        (λ n. n) 64 source_order source_start source.now) (at target.old) (at target.new) count
+        result }
 {
     combine::<Xor, u64, u64>(
         source_order,
@@ -512,12 +468,9 @@ pub extern "C" fn bitvec_c_and_not_u8(
     target_start: usize,
     count: usize,
 ) -> u8
-    ensures { IsCall (pair_status 8 source_order (length source.now) source_start 8 order
-        (length target.old) target_start count)
-        (RangeBecomes 8 (order_at 8 order) target_start count (zip_with (λ t s. t && not s)
-        (range_bits 8 (order_at 8 order) target_start count target.old) (range_bits 8
-        (order_at 8 source_order) source_start count source.now))
-        target.old target.new) (target.new ≡ target.old) result }
+    ensures { let at = part (λ n. n) 8 order target_start in IsCombination (λ t s. t && not s)
+        (part (λ n. n) 8 source_order source_start source.now) (at target.old) (at target.new)
+        count result }
 {
     combine::<AndNot, u8, u8>(
         source_order,
@@ -544,12 +497,9 @@ pub extern "C" fn bitvec_c_and_not_u16(
     target_start: usize,
     count: usize,
 ) -> u8
-    ensures { IsCall (pair_status 16 source_order (length source.now) source_start 16 order
-        (length target.old) target_start count)
-        (RangeBecomes 16 (order_at 16 order) target_start count (zip_with (λ t s. t && not s)
-        (range_bits 16 (order_at 16 order) target_start count target.old) (range_bits 16
-        (order_at 16 source_order) source_start count source.now))
-        target.old target.new) (target.new ≡ target.old) result }
+    ensures { let at = part (λ n. n) 16 order target_start in IsCombination (λ t s. t && not s)
+        (part (λ n. n) 16 source_order source_start source.now) (at target.old) (at target.new)
+        count result }
 {
     combine::<AndNot, u16, u16>(
         source_order,
@@ -576,12 +526,9 @@ pub extern "C" fn bitvec_c_and_not_u32(
     target_start: usize,
     count: usize,
 ) -> u8
-    ensures { IsCall (pair_status 32 source_order (length source.now) source_start 32 order
-        (length target.old) target_start count)
-        (RangeBecomes 32 (order_at 32 order) target_start count (zip_with (λ t s. t && not s)
-        (range_bits 32 (order_at 32 order) target_start count target.old) (range_bits 32
-        (order_at 32 source_order) source_start count source.now))
-        target.old target.new) (target.new ≡ target.old) result }
+    ensures { let at = part (λ n. n) 32 order target_start in IsCombination (λ t s. t && not s)
+        (part (λ n. n) 32 source_order source_start source.now) (at target.old) (at target.new)
+        count result }
 {
     combine::<AndNot, u32, u32>(
         source_order,
@@ -608,12 +555,9 @@ pub extern "C" fn bitvec_c_and_not_u64(
     target_start: usize,
     count: usize,
 ) -> u8
-    ensures { IsCall (pair_status 64 source_order (length source.now) source_start 64 order
-        (length target.old) target_start count)
-        (RangeBecomes 64 (order_at 64 order) target_start count (zip_with (λ t s. t && not s)
-        (range_bits 64 (order_at 64 order) target_start count target.old) (range_bits 64
-        (order_at 64 source_order) source_start count source.now))
-        target.old target.new) (target.new ≡ target.old) result }
+    ensures { let at = part (λ n. n) 64 order target_start in IsCombination (λ t s. t && not s)
+        (part (λ n. n) 64 source_order source_start source.now) (at target.old) (at target.new)
+        count result }
 {
     combine::<AndNot, u64, u64>(
         source_order,

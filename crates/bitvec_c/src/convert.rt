@@ -2,10 +2,9 @@
 
 ghost use Rattle.std.specs.Prelude.{◌≡◌, ◌+◌, ◌*◌, ◌≤◌, length, map};
 ghost use Rattle.bitvec.specs.Place.{region_max_bits};
-ghost use Rattle.bitvec_c.specs.Call.{IsCall};
+ghost use Rattle.bitvec_c.specs.Call.{part, IsPut};
 ghost use Rattle.bitvec_c.specs.Order.{order_at};
 ghost use Rattle.bitvec_c.specs.Range.{range_bits, RangeBecomes};
-ghost use Rattle.bitvec_c.specs.Status.{pair_status};
 
 use crate::range::span;
 use crate::status::{LSB0, OK, test_pair};
@@ -89,12 +88,8 @@ fn convert<R2: BitRegister, R: BitRegister>(
     to: usize,
     count: usize,
 ) -> u8
-    ensures { IsCall (pair_status R2.BITS source_order (length source.now) from R.BITS order
-        (length target.old) to count)
-        (RangeBecomes R.BITS (order_at R.BITS order) to count
-        (range_bits R2.BITS (order_at R2.BITS source_order) from count (map R2.number source.now))
-        (map R.number target.old) (map R.number target.new))
-        (target.new ≡ target.old) result }
+    ensures { let at = part R.number R.BITS order to in IsPut (part R2.number R2.BITS
+        source_order from source.now) (at target.old) (at target.new) count result }
 {
     let words = target.len();
     let status = test_pair::<R2, R>(source_order, source.len(), from, order, words, to, count);
@@ -118,11 +113,8 @@ pub extern "C" fn bitvec_c_copy_u8_to_u8(
     target_start: usize,
     count: usize,
 ) -> u8
-    ensures { IsCall (pair_status 8 source_order (length source.now) source_start 8 order
-        (length target.old) target_start count)
-        (RangeBecomes 8 (order_at 8 order) target_start count (range_bits 8
-        (order_at 8 source_order) source_start count source.now)
-        target.old target.new) (target.new ≡ target.old) result }
+    ensures { let at = part (λ n. n) 8 order target_start in IsPut (part (λ n. n) 8 source_order
+        source_start source.now) (at target.old) (at target.new) count result }
 {
     convert::<u8, u8>(
         source_order,
@@ -149,11 +141,8 @@ pub extern "C" fn bitvec_c_copy_u8_to_u16(
     target_start: usize,
     count: usize,
 ) -> u8
-    ensures { IsCall (pair_status 8 source_order (length source.now) source_start 16 order
-        (length target.old) target_start count)
-        (RangeBecomes 16 (order_at 16 order) target_start count (range_bits 8
-        (order_at 8 source_order) source_start count source.now)
-        target.old target.new) (target.new ≡ target.old) result }
+    ensures { let at = part (λ n. n) 16 order target_start in IsPut (part (λ n. n) 8
+        source_order source_start source.now) (at target.old) (at target.new) count result }
 {
     convert::<u8, u16>(
         source_order,
@@ -180,11 +169,8 @@ pub extern "C" fn bitvec_c_copy_u8_to_u32(
     target_start: usize,
     count: usize,
 ) -> u8
-    ensures { IsCall (pair_status 8 source_order (length source.now) source_start 32 order
-        (length target.old) target_start count)
-        (RangeBecomes 32 (order_at 32 order) target_start count (range_bits 8
-        (order_at 8 source_order) source_start count source.now)
-        target.old target.new) (target.new ≡ target.old) result }
+    ensures { let at = part (λ n. n) 32 order target_start in IsPut (part (λ n. n) 8
+        source_order source_start source.now) (at target.old) (at target.new) count result }
 {
     convert::<u8, u32>(
         source_order,
@@ -211,11 +197,8 @@ pub extern "C" fn bitvec_c_copy_u8_to_u64(
     target_start: usize,
     count: usize,
 ) -> u8
-    ensures { IsCall (pair_status 8 source_order (length source.now) source_start 64 order
-        (length target.old) target_start count)
-        (RangeBecomes 64 (order_at 64 order) target_start count (range_bits 8
-        (order_at 8 source_order) source_start count source.now)
-        target.old target.new) (target.new ≡ target.old) result }
+    ensures { let at = part (λ n. n) 64 order target_start in IsPut (part (λ n. n) 8
+        source_order source_start source.now) (at target.old) (at target.new) count result }
 {
     convert::<u8, u64>(
         source_order,
@@ -242,11 +225,8 @@ pub extern "C" fn bitvec_c_copy_u16_to_u8(
     target_start: usize,
     count: usize,
 ) -> u8
-    ensures { IsCall (pair_status 16 source_order (length source.now) source_start 8 order
-        (length target.old) target_start count)
-        (RangeBecomes 8 (order_at 8 order) target_start count (range_bits 16
-        (order_at 16 source_order) source_start count source.now)
-        target.old target.new) (target.new ≡ target.old) result }
+    ensures { let at = part (λ n. n) 8 order target_start in IsPut (part (λ n. n) 16
+        source_order source_start source.now) (at target.old) (at target.new) count result }
 {
     convert::<u16, u8>(
         source_order,
@@ -273,11 +253,8 @@ pub extern "C" fn bitvec_c_copy_u16_to_u16(
     target_start: usize,
     count: usize,
 ) -> u8
-    ensures { IsCall (pair_status 16 source_order (length source.now) source_start 16 order
-        (length target.old) target_start count)
-        (RangeBecomes 16 (order_at 16 order) target_start count (range_bits 16
-        (order_at 16 source_order) source_start count source.now)
-        target.old target.new) (target.new ≡ target.old) result }
+    ensures { let at = part (λ n. n) 16 order target_start in IsPut (part (λ n. n) 16
+        source_order source_start source.now) (at target.old) (at target.new) count result }
 {
     convert::<u16, u16>(
         source_order,
@@ -304,11 +281,8 @@ pub extern "C" fn bitvec_c_copy_u16_to_u32(
     target_start: usize,
     count: usize,
 ) -> u8
-    ensures { IsCall (pair_status 16 source_order (length source.now) source_start 32 order
-        (length target.old) target_start count)
-        (RangeBecomes 32 (order_at 32 order) target_start count (range_bits 16
-        (order_at 16 source_order) source_start count source.now)
-        target.old target.new) (target.new ≡ target.old) result }
+    ensures { let at = part (λ n. n) 32 order target_start in IsPut (part (λ n. n) 16
+        source_order source_start source.now) (at target.old) (at target.new) count result }
 {
     convert::<u16, u32>(
         source_order,
@@ -335,11 +309,8 @@ pub extern "C" fn bitvec_c_copy_u16_to_u64(
     target_start: usize,
     count: usize,
 ) -> u8
-    ensures { IsCall (pair_status 16 source_order (length source.now) source_start 64 order
-        (length target.old) target_start count)
-        (RangeBecomes 64 (order_at 64 order) target_start count (range_bits 16
-        (order_at 16 source_order) source_start count source.now)
-        target.old target.new) (target.new ≡ target.old) result }
+    ensures { let at = part (λ n. n) 64 order target_start in IsPut (part (λ n. n) 16
+        source_order source_start source.now) (at target.old) (at target.new) count result }
 {
     convert::<u16, u64>(
         source_order,
@@ -366,11 +337,8 @@ pub extern "C" fn bitvec_c_copy_u32_to_u8(
     target_start: usize,
     count: usize,
 ) -> u8
-    ensures { IsCall (pair_status 32 source_order (length source.now) source_start 8 order
-        (length target.old) target_start count)
-        (RangeBecomes 8 (order_at 8 order) target_start count (range_bits 32
-        (order_at 32 source_order) source_start count source.now)
-        target.old target.new) (target.new ≡ target.old) result }
+    ensures { let at = part (λ n. n) 8 order target_start in IsPut (part (λ n. n) 32
+        source_order source_start source.now) (at target.old) (at target.new) count result }
 {
     convert::<u32, u8>(
         source_order,
@@ -397,11 +365,8 @@ pub extern "C" fn bitvec_c_copy_u32_to_u16(
     target_start: usize,
     count: usize,
 ) -> u8
-    ensures { IsCall (pair_status 32 source_order (length source.now) source_start 16 order
-        (length target.old) target_start count)
-        (RangeBecomes 16 (order_at 16 order) target_start count (range_bits 32
-        (order_at 32 source_order) source_start count source.now)
-        target.old target.new) (target.new ≡ target.old) result }
+    ensures { let at = part (λ n. n) 16 order target_start in IsPut (part (λ n. n) 32
+        source_order source_start source.now) (at target.old) (at target.new) count result }
 {
     convert::<u32, u16>(
         source_order,
@@ -428,11 +393,8 @@ pub extern "C" fn bitvec_c_copy_u32_to_u32(
     target_start: usize,
     count: usize,
 ) -> u8
-    ensures { IsCall (pair_status 32 source_order (length source.now) source_start 32 order
-        (length target.old) target_start count)
-        (RangeBecomes 32 (order_at 32 order) target_start count (range_bits 32
-        (order_at 32 source_order) source_start count source.now)
-        target.old target.new) (target.new ≡ target.old) result }
+    ensures { let at = part (λ n. n) 32 order target_start in IsPut (part (λ n. n) 32
+        source_order source_start source.now) (at target.old) (at target.new) count result }
 {
     convert::<u32, u32>(
         source_order,
@@ -459,11 +421,8 @@ pub extern "C" fn bitvec_c_copy_u32_to_u64(
     target_start: usize,
     count: usize,
 ) -> u8
-    ensures { IsCall (pair_status 32 source_order (length source.now) source_start 64 order
-        (length target.old) target_start count)
-        (RangeBecomes 64 (order_at 64 order) target_start count (range_bits 32
-        (order_at 32 source_order) source_start count source.now)
-        target.old target.new) (target.new ≡ target.old) result }
+    ensures { let at = part (λ n. n) 64 order target_start in IsPut (part (λ n. n) 32
+        source_order source_start source.now) (at target.old) (at target.new) count result }
 {
     convert::<u32, u64>(
         source_order,
@@ -490,11 +449,8 @@ pub extern "C" fn bitvec_c_copy_u64_to_u8(
     target_start: usize,
     count: usize,
 ) -> u8
-    ensures { IsCall (pair_status 64 source_order (length source.now) source_start 8 order
-        (length target.old) target_start count)
-        (RangeBecomes 8 (order_at 8 order) target_start count (range_bits 64
-        (order_at 64 source_order) source_start count source.now)
-        target.old target.new) (target.new ≡ target.old) result }
+    ensures { let at = part (λ n. n) 8 order target_start in IsPut (part (λ n. n) 64
+        source_order source_start source.now) (at target.old) (at target.new) count result }
 {
     convert::<u64, u8>(
         source_order,
@@ -521,11 +477,8 @@ pub extern "C" fn bitvec_c_copy_u64_to_u16(
     target_start: usize,
     count: usize,
 ) -> u8
-    ensures { IsCall (pair_status 64 source_order (length source.now) source_start 16 order
-        (length target.old) target_start count)
-        (RangeBecomes 16 (order_at 16 order) target_start count (range_bits 64
-        (order_at 64 source_order) source_start count source.now)
-        target.old target.new) (target.new ≡ target.old) result }
+    ensures { let at = part (λ n. n) 16 order target_start in IsPut (part (λ n. n) 64
+        source_order source_start source.now) (at target.old) (at target.new) count result }
 {
     convert::<u64, u16>(
         source_order,
@@ -552,11 +505,8 @@ pub extern "C" fn bitvec_c_copy_u64_to_u32(
     target_start: usize,
     count: usize,
 ) -> u8
-    ensures { IsCall (pair_status 64 source_order (length source.now) source_start 32 order
-        (length target.old) target_start count)
-        (RangeBecomes 32 (order_at 32 order) target_start count (range_bits 64
-        (order_at 64 source_order) source_start count source.now)
-        target.old target.new) (target.new ≡ target.old) result }
+    ensures { let at = part (λ n. n) 32 order target_start in IsPut (part (λ n. n) 64
+        source_order source_start source.now) (at target.old) (at target.new) count result }
 {
     convert::<u64, u32>(
         source_order,
@@ -583,11 +533,8 @@ pub extern "C" fn bitvec_c_copy_u64_to_u64(
     target_start: usize,
     count: usize,
 ) -> u8
-    ensures { IsCall (pair_status 64 source_order (length source.now) source_start 64 order
-        (length target.old) target_start count)
-        (RangeBecomes 64 (order_at 64 order) target_start count (range_bits 64
-        (order_at 64 source_order) source_start count source.now)
-        target.old target.new) (target.new ≡ target.old) result }
+    ensures { let at = part (λ n. n) 64 order target_start in IsPut (part (λ n. n) 64
+        source_order source_start source.now) (at target.old) (at target.new) count result }
 {
     convert::<u64, u64>(
         source_order,

@@ -1,9 +1,9 @@
 //! Copies of ranges of bits, between two memories and inside one.
 
-ghost use Rattle.std.specs.Prelude.{◌≡◌, ◌≢◌, ◌+◌, ◌*◌, ◌≤◌, length, map};
+ghost use Rattle.std.specs.Prelude.{◌≡◌, ◌+◌, ◌*◌, ◌≤◌, length, map};
+ghost use Rattle.bitvec_c.specs.Call.{part, IsCopy};
 ghost use Rattle.bitvec_c.specs.Order.{order_at};
 ghost use Rattle.bitvec_c.specs.Range.{CopiesBits};
-ghost use Rattle.bitvec_c.specs.Status.{ok, ranges_status};
 
 use crate::range::pointer;
 use crate::status::{LSB0, OK, test_ranges};
@@ -58,12 +58,8 @@ fn copy<R: BitRegister>(
     to: usize,
     count: usize,
 ) -> u8
-    ensures status { result ≡ ranges_status R.BITS order (length source.now) from
-        (length target.old) to count }
-    ensures copied { result ≡ ok
-        → CopiesBits R.BITS (order_at R.BITS order) (map R.number source.now) from
-        (map R.number target.old) to count (map R.number target.new) }
-    ensures refused { result ≢ ok → target.new ≡ target.old }
+    ensures { let at = part R.number R.BITS order in IsCopy (at from source.now) (at to
+        target.old) (at to target.new) count result }
 {
     let words = target.len();
     let status = test_ranges::<R>(order, source.len(), from, words, to, count);
@@ -108,12 +104,8 @@ fn copy_within<R: BitRegister>(
     to: usize,
     count: usize,
 ) -> u8
-    ensures status { result ≡ ranges_status R.BITS order (length memory.old) from
-        (length memory.old) to count }
-    ensures copied { result ≡ ok → let old = map R.number memory.old
-        in CopiesBits R.BITS (order_at R.BITS order) old from old to count
-        (map R.number memory.new) }
-    ensures refused { result ≢ ok → memory.new ≡ memory.old }
+    ensures { let at = part R.number R.BITS order in IsCopy (at from memory.old) (at to
+        memory.old) (at to memory.new) count result }
 {
     let words = memory.len();
     let status = test_ranges::<R>(order, words, from, words, to, count);
@@ -136,11 +128,8 @@ pub extern "C" fn bitvec_c_copy_u8(
     target_start: usize,
     count: usize,
 ) -> u8
-    ensures status { result ≡ ranges_status 8 order (length source.now) source_start
-        (length target.old) target_start count }
-    ensures copied { result ≡ ok → CopiesBits 8 (order_at 8 order) source.now source_start
-        target.old target_start count target.new }
-    ensures refused { result ≢ ok → target.new ≡ target.old }
+    ensures { let at = part (λ n. n) 8 order in IsCopy (at source_start source.now) (at
+        target_start target.old) (at target_start target.new) count result }
 {
     copy(order, source, source_start, target, target_start, count)
 }
@@ -158,11 +147,8 @@ pub extern "C" fn bitvec_c_copy_u16(
     target_start: usize,
     count: usize,
 ) -> u8
-    ensures status { result ≡ ranges_status 16 order (length source.now) source_start
-        (length target.old) target_start count }
-    ensures copied { result ≡ ok → CopiesBits 16 (order_at 16 order) source.now source_start
-        target.old target_start count target.new }
-    ensures refused { result ≢ ok → target.new ≡ target.old }
+    ensures { let at = part (λ n. n) 16 order in IsCopy (at source_start source.now) (at
+        target_start target.old) (at target_start target.new) count result }
 {
     copy(order, source, source_start, target, target_start, count)
 }
@@ -180,11 +166,8 @@ pub extern "C" fn bitvec_c_copy_u32(
     target_start: usize,
     count: usize,
 ) -> u8
-    ensures status { result ≡ ranges_status 32 order (length source.now) source_start
-        (length target.old) target_start count }
-    ensures copied { result ≡ ok → CopiesBits 32 (order_at 32 order) source.now source_start
-        target.old target_start count target.new }
-    ensures refused { result ≢ ok → target.new ≡ target.old }
+    ensures { let at = part (λ n. n) 32 order in IsCopy (at source_start source.now) (at
+        target_start target.old) (at target_start target.new) count result }
 {
     copy(order, source, source_start, target, target_start, count)
 }
@@ -202,11 +185,8 @@ pub extern "C" fn bitvec_c_copy_u64(
     target_start: usize,
     count: usize,
 ) -> u8
-    ensures status { result ≡ ranges_status 64 order (length source.now) source_start
-        (length target.old) target_start count }
-    ensures copied { result ≡ ok → CopiesBits 64 (order_at 64 order) source.now source_start
-        target.old target_start count target.new }
-    ensures refused { result ≢ ok → target.new ≡ target.old }
+    ensures { let at = part (λ n. n) 64 order in IsCopy (at source_start source.now) (at
+        target_start target.old) (at target_start target.new) count result }
 {
     copy(order, source, source_start, target, target_start, count)
 }
@@ -223,11 +203,8 @@ pub extern "C" fn bitvec_c_copy_within_u8(
     target_start: usize,
     count: usize,
 ) -> u8
-    ensures status { result ≡ ranges_status 8 order (length memory.old) source_start
-        (length memory.old) target_start count }
-    ensures copied { result ≡ ok → CopiesBits 8 (order_at 8 order) memory.old source_start
-        memory.old target_start count memory.new }
-    ensures refused { result ≢ ok → memory.new ≡ memory.old }
+    ensures { let at = part (λ n. n) 8 order in IsCopy (at source_start memory.old) (at
+        target_start memory.old) (at target_start memory.new) count result }
 {
     copy_within(order, memory, source_start, target_start, count)
 }
@@ -244,11 +221,8 @@ pub extern "C" fn bitvec_c_copy_within_u16(
     target_start: usize,
     count: usize,
 ) -> u8
-    ensures status { result ≡ ranges_status 16 order (length memory.old) source_start
-        (length memory.old) target_start count }
-    ensures copied { result ≡ ok → CopiesBits 16 (order_at 16 order) memory.old source_start
-        memory.old target_start count memory.new }
-    ensures refused { result ≢ ok → memory.new ≡ memory.old }
+    ensures { let at = part (λ n. n) 16 order in IsCopy (at source_start memory.old) (at
+        target_start memory.old) (at target_start memory.new) count result }
 {
     copy_within(order, memory, source_start, target_start, count)
 }
@@ -265,11 +239,8 @@ pub extern "C" fn bitvec_c_copy_within_u32(
     target_start: usize,
     count: usize,
 ) -> u8
-    ensures status { result ≡ ranges_status 32 order (length memory.old) source_start
-        (length memory.old) target_start count }
-    ensures copied { result ≡ ok → CopiesBits 32 (order_at 32 order) memory.old source_start
-        memory.old target_start count memory.new }
-    ensures refused { result ≢ ok → memory.new ≡ memory.old }
+    ensures { let at = part (λ n. n) 32 order in IsCopy (at source_start memory.old) (at
+        target_start memory.old) (at target_start memory.new) count result }
 {
     copy_within(order, memory, source_start, target_start, count)
 }
@@ -286,11 +257,8 @@ pub extern "C" fn bitvec_c_copy_within_u64(
     target_start: usize,
     count: usize,
 ) -> u8
-    ensures status { result ≡ ranges_status 64 order (length memory.old) source_start
-        (length memory.old) target_start count }
-    ensures copied { result ≡ ok → CopiesBits 64 (order_at 64 order) memory.old source_start
-        memory.old target_start count memory.new }
-    ensures refused { result ≢ ok → memory.new ≡ memory.old }
+    ensures { let at = part (λ n. n) 64 order in IsCopy (at source_start memory.old) (at
+        target_start memory.old) (at target_start memory.new) count result }
 {
     copy_within(order, memory, source_start, target_start, count)
 }

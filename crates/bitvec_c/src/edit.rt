@@ -3,11 +3,10 @@
 ghost use Rattle.std.specs.Prelude.{◌≡◌, ◌+◌, ◌-◌, ◌*◌, ◌≤◌, ◌++◌, false, not, length, map};
 ghost use Rattle.std.specs.Prelude.{take, drop, reverse, replicate};
 ghost use Rattle.bitvec.specs.Place.{region_max_bits};
-ghost use Rattle.bitvec_c.specs.Call.{IsCall};
+ghost use Rattle.bitvec_c.specs.Call.{part, IsEdit, IsMove};
 ghost use Rattle.bitvec_c.specs.Edit.{edited, moved_by};
 ghost use Rattle.bitvec_c.specs.Order.{order_at};
 ghost use Rattle.bitvec_c.specs.Range.{range_bits, RangeBecomes};
-ghost use Rattle.bitvec_c.specs.Status.{range_status, moved_status};
 
 use crate::range::bits_mut;
 use crate::status::{LSB0, OK, test_moved, test_range};
@@ -86,12 +85,8 @@ fn try_edit<R: BitRegister>(
     count: usize,
     edit: Edit,
 ) -> u8
-    ensures { IsCall (moved_status R.BITS order (length memory.old) start count (moved_by edit))
-        (RangeBecomes R.BITS (order_at R.BITS order) start count
-        (edited edit (range_bits R.BITS (order_at R.BITS order) start count
-        (map R.number memory.old)))
-        (map R.number memory.old) (map R.number memory.new))
-        (memory.new ≡ memory.old) result }
+    ensures { let at = part R.number R.BITS order start in IsMove (moved_by edit) (at
+        memory.old) (at memory.new) count (edited edit) result }
 {
     let status = test_moved::<R>(order, memory.len(), start, count, moves(edit));
     if status == OK {
@@ -109,12 +104,8 @@ fn edit_all<R: BitRegister>(
     edit: Edit,
 ) -> u8
     requires { moved_by edit ≡ 0 }
-    ensures { IsCall (range_status R.BITS order (length memory.old) start count)
-        (RangeBecomes R.BITS (order_at R.BITS order) start count
-        (edited edit (range_bits R.BITS (order_at R.BITS order) start count
-        (map R.number memory.old)))
-        (map R.number memory.old) (map R.number memory.new))
-        (memory.new ≡ memory.old) result }
+    ensures { let at = part R.number R.BITS order start in IsEdit (at memory.old) (at
+        memory.new) count (edited edit) result }
 {
     let status = test_range::<R>(order, memory.len(), start, count);
     if status == OK {
@@ -128,10 +119,8 @@ fn edit_all<R: BitRegister>(
 /// It refuses with `NO_ORDER`, `TOO_LONG` or `OUTSIDE`.
 #[unsafe(no_mangle)]
 pub extern "C" fn bitvec_c_invert_u8(order: u8, memory: &mut [u8], start: usize, count: usize) -> u8
-    ensures { IsCall (range_status 8 order (length memory.old) start count)
-        (RangeBecomes 8 (order_at 8 order) start count (map not (range_bits 8
-        (order_at 8 order) start count memory.old)) memory.old memory.new)
-        (memory.new ≡ memory.old) result }
+    ensures { let at = part (λ n. n) 8 order start in IsEdit (at memory.old) (at memory.new)
+        count (map not) result }
 {
     edit_all(order, memory, start, count, Edit::Invert)
 }
@@ -146,10 +135,8 @@ pub extern "C" fn bitvec_c_invert_u16(
     start: usize,
     count: usize,
 ) -> u8
-    ensures { IsCall (range_status 16 order (length memory.old) start count)
-        (RangeBecomes 16 (order_at 16 order) start count (map not (range_bits 16
-        (order_at 16 order) start count memory.old)) memory.old memory.new)
-        (memory.new ≡ memory.old) result }
+    ensures { let at = part (λ n. n) 16 order start in IsEdit (at memory.old) (at memory.new)
+        count (map not) result }
 {
     edit_all(order, memory, start, count, Edit::Invert)
 }
@@ -164,10 +151,8 @@ pub extern "C" fn bitvec_c_invert_u32(
     start: usize,
     count: usize,
 ) -> u8
-    ensures { IsCall (range_status 32 order (length memory.old) start count)
-        (RangeBecomes 32 (order_at 32 order) start count (map not (range_bits 32
-        (order_at 32 order) start count memory.old)) memory.old memory.new)
-        (memory.new ≡ memory.old) result }
+    ensures { let at = part (λ n. n) 32 order start in IsEdit (at memory.old) (at memory.new)
+        count (map not) result }
 {
     edit_all(order, memory, start, count, Edit::Invert)
 }
@@ -182,10 +167,8 @@ pub extern "C" fn bitvec_c_invert_u64(
     start: usize,
     count: usize,
 ) -> u8
-    ensures { IsCall (range_status 64 order (length memory.old) start count)
-        (RangeBecomes 64 (order_at 64 order) start count (map not (range_bits 64
-        (order_at 64 order) start count memory.old)) memory.old memory.new)
-        (memory.new ≡ memory.old) result }
+    ensures { let at = part (λ n. n) 64 order start in IsEdit (at memory.old) (at memory.new)
+        count (map not) result }
 {
     edit_all(order, memory, start, count, Edit::Invert)
 }
@@ -201,10 +184,8 @@ pub extern "C" fn bitvec_c_reverse_u8(
     start: usize,
     count: usize,
 ) -> u8
-    ensures { IsCall (range_status 8 order (length memory.old) start count)
-        (RangeBecomes 8 (order_at 8 order) start count (reverse (range_bits 8
-        (order_at 8 order) start count memory.old)) memory.old memory.new)
-        (memory.new ≡ memory.old) result }
+    ensures { let at = part (λ n. n) 8 order start in IsEdit (at memory.old) (at memory.new)
+        count reverse result }
 {
     edit_all(order, memory, start, count, Edit::Reverse)
 }
@@ -220,10 +201,8 @@ pub extern "C" fn bitvec_c_reverse_u16(
     start: usize,
     count: usize,
 ) -> u8
-    ensures { IsCall (range_status 16 order (length memory.old) start count)
-        (RangeBecomes 16 (order_at 16 order) start count (reverse (range_bits 16
-        (order_at 16 order) start count memory.old)) memory.old memory.new)
-        (memory.new ≡ memory.old) result }
+    ensures { let at = part (λ n. n) 16 order start in IsEdit (at memory.old) (at memory.new)
+        count reverse result }
 {
     edit_all(order, memory, start, count, Edit::Reverse)
 }
@@ -239,10 +218,8 @@ pub extern "C" fn bitvec_c_reverse_u32(
     start: usize,
     count: usize,
 ) -> u8
-    ensures { IsCall (range_status 32 order (length memory.old) start count)
-        (RangeBecomes 32 (order_at 32 order) start count (reverse (range_bits 32
-        (order_at 32 order) start count memory.old)) memory.old memory.new)
-        (memory.new ≡ memory.old) result }
+    ensures { let at = part (λ n. n) 32 order start in IsEdit (at memory.old) (at memory.new)
+        count reverse result }
 {
     edit_all(order, memory, start, count, Edit::Reverse)
 }
@@ -258,10 +235,8 @@ pub extern "C" fn bitvec_c_reverse_u64(
     start: usize,
     count: usize,
 ) -> u8
-    ensures { IsCall (range_status 64 order (length memory.old) start count)
-        (RangeBecomes 64 (order_at 64 order) start count (reverse (range_bits 64
-        (order_at 64 order) start count memory.old)) memory.old memory.new)
-        (memory.new ≡ memory.old) result }
+    ensures { let at = part (λ n. n) 64 order start in IsEdit (at memory.old) (at memory.new)
+        count reverse result }
 {
     edit_all(order, memory, start, count, Edit::Reverse)
 }
@@ -278,10 +253,8 @@ pub extern "C" fn bitvec_c_shift_left_u8(
     count: usize,
     by: usize,
 ) -> u8
-    ensures { IsCall (moved_status 8 order (length memory.old) start count by)
-        (RangeBecomes 8 (order_at 8 order) start count (drop by (range_bits 8
-        (order_at 8 order) start count memory.old) ++ replicate by false) memory.old memory.new)
-        (memory.new ≡ memory.old) result }
+    ensures { let at = part (λ n. n) 8 order start in IsMove by (at memory.old) (at memory.new)
+        count (λ xs. drop by xs ++ replicate by false) result }
 {
     try_edit(order, memory, start, count, Edit::ShiftLeft(by))
 }
@@ -298,10 +271,8 @@ pub extern "C" fn bitvec_c_shift_left_u16(
     count: usize,
     by: usize,
 ) -> u8
-    ensures { IsCall (moved_status 16 order (length memory.old) start count by)
-        (RangeBecomes 16 (order_at 16 order) start count (drop by (range_bits 16
-        (order_at 16 order) start count memory.old) ++ replicate by false) memory.old memory.new)
-        (memory.new ≡ memory.old) result }
+    ensures { let at = part (λ n. n) 16 order start in IsMove by (at memory.old) (at memory.new)
+        count (λ xs. drop by xs ++ replicate by false) result }
 {
     try_edit(order, memory, start, count, Edit::ShiftLeft(by))
 }
@@ -318,10 +289,8 @@ pub extern "C" fn bitvec_c_shift_left_u32(
     count: usize,
     by: usize,
 ) -> u8
-    ensures { IsCall (moved_status 32 order (length memory.old) start count by)
-        (RangeBecomes 32 (order_at 32 order) start count (drop by (range_bits 32
-        (order_at 32 order) start count memory.old) ++ replicate by false) memory.old memory.new)
-        (memory.new ≡ memory.old) result }
+    ensures { let at = part (λ n. n) 32 order start in IsMove by (at memory.old) (at memory.new)
+        count (λ xs. drop by xs ++ replicate by false) result }
 {
     try_edit(order, memory, start, count, Edit::ShiftLeft(by))
 }
@@ -338,10 +307,8 @@ pub extern "C" fn bitvec_c_shift_left_u64(
     count: usize,
     by: usize,
 ) -> u8
-    ensures { IsCall (moved_status 64 order (length memory.old) start count by)
-        (RangeBecomes 64 (order_at 64 order) start count (drop by (range_bits 64
-        (order_at 64 order) start count memory.old) ++ replicate by false) memory.old memory.new)
-        (memory.new ≡ memory.old) result }
+    ensures { let at = part (λ n. n) 64 order start in IsMove by (at memory.old) (at memory.new)
+        count (λ xs. drop by xs ++ replicate by false) result }
 {
     try_edit(order, memory, start, count, Edit::ShiftLeft(by))
 }
@@ -358,11 +325,8 @@ pub extern "C" fn bitvec_c_shift_right_u8(
     count: usize,
     by: usize,
 ) -> u8
-    ensures { IsCall (moved_status 8 order (length memory.old) start count by)
-        (RangeBecomes 8 (order_at 8 order) start count (let xs = (range_bits 8
-        (order_at 8 order) start count memory.old) in replicate by false ++ take
-        (length xs - by) xs) memory.old memory.new)
-        (memory.new ≡ memory.old) result }
+    ensures { let at = part (λ n. n) 8 order start in IsMove by (at memory.old) (at memory.new)
+        count (λ xs. replicate by false ++ take (length xs - by) xs) result }
 {
     try_edit(order, memory, start, count, Edit::ShiftRight(by))
 }
@@ -379,11 +343,8 @@ pub extern "C" fn bitvec_c_shift_right_u16(
     count: usize,
     by: usize,
 ) -> u8
-    ensures { IsCall (moved_status 16 order (length memory.old) start count by)
-        (RangeBecomes 16 (order_at 16 order) start count (let xs = (range_bits 16
-        (order_at 16 order) start count memory.old) in replicate by false ++ take
-        (length xs - by) xs) memory.old memory.new)
-        (memory.new ≡ memory.old) result }
+    ensures { let at = part (λ n. n) 16 order start in IsMove by (at memory.old) (at memory.new)
+        count (λ xs. replicate by false ++ take (length xs - by) xs) result }
 {
     try_edit(order, memory, start, count, Edit::ShiftRight(by))
 }
@@ -400,11 +361,8 @@ pub extern "C" fn bitvec_c_shift_right_u32(
     count: usize,
     by: usize,
 ) -> u8
-    ensures { IsCall (moved_status 32 order (length memory.old) start count by)
-        (RangeBecomes 32 (order_at 32 order) start count (let xs = (range_bits 32
-        (order_at 32 order) start count memory.old) in replicate by false ++ take
-        (length xs - by) xs) memory.old memory.new)
-        (memory.new ≡ memory.old) result }
+    ensures { let at = part (λ n. n) 32 order start in IsMove by (at memory.old) (at memory.new)
+        count (λ xs. replicate by false ++ take (length xs - by) xs) result }
 {
     try_edit(order, memory, start, count, Edit::ShiftRight(by))
 }
@@ -421,11 +379,8 @@ pub extern "C" fn bitvec_c_shift_right_u64(
     count: usize,
     by: usize,
 ) -> u8
-    ensures { IsCall (moved_status 64 order (length memory.old) start count by)
-        (RangeBecomes 64 (order_at 64 order) start count (let xs = (range_bits 64
-        (order_at 64 order) start count memory.old) in replicate by false ++ take
-        (length xs - by) xs) memory.old memory.new)
-        (memory.new ≡ memory.old) result }
+    ensures { let at = part (λ n. n) 64 order start in IsMove by (at memory.old) (at memory.new)
+        count (λ xs. replicate by false ++ take (length xs - by) xs) result }
 {
     try_edit(order, memory, start, count, Edit::ShiftRight(by))
 }
@@ -442,11 +397,8 @@ pub extern "C" fn bitvec_c_rotate_left_u8(
     count: usize,
     by: usize,
 ) -> u8
-    ensures { IsCall (moved_status 8 order (length memory.old) start count by)
-        (RangeBecomes 8 (order_at 8 order) start count (let xs = (range_bits 8
-        (order_at 8 order) start count memory.old) in drop by xs ++ take by xs) memory.old
-        memory.new)
-        (memory.new ≡ memory.old) result }
+    ensures { let at = part (λ n. n) 8 order start in IsMove by (at memory.old) (at memory.new)
+        count (λ xs. drop by xs ++ take by xs) result }
 {
     try_edit(order, memory, start, count, Edit::RotateLeft(by))
 }
@@ -463,11 +415,8 @@ pub extern "C" fn bitvec_c_rotate_left_u16(
     count: usize,
     by: usize,
 ) -> u8
-    ensures { IsCall (moved_status 16 order (length memory.old) start count by)
-        (RangeBecomes 16 (order_at 16 order) start count (let xs = (range_bits 16
-        (order_at 16 order) start count memory.old) in drop by xs ++ take by xs) memory.old
-        memory.new)
-        (memory.new ≡ memory.old) result }
+    ensures { let at = part (λ n. n) 16 order start in IsMove by (at memory.old) (at memory.new)
+        count (λ xs. drop by xs ++ take by xs) result }
 {
     try_edit(order, memory, start, count, Edit::RotateLeft(by))
 }
@@ -484,11 +433,8 @@ pub extern "C" fn bitvec_c_rotate_left_u32(
     count: usize,
     by: usize,
 ) -> u8
-    ensures { IsCall (moved_status 32 order (length memory.old) start count by)
-        (RangeBecomes 32 (order_at 32 order) start count (let xs = (range_bits 32
-        (order_at 32 order) start count memory.old) in drop by xs ++ take by xs) memory.old
-        memory.new)
-        (memory.new ≡ memory.old) result }
+    ensures { let at = part (λ n. n) 32 order start in IsMove by (at memory.old) (at memory.new)
+        count (λ xs. drop by xs ++ take by xs) result }
 {
     try_edit(order, memory, start, count, Edit::RotateLeft(by))
 }
@@ -505,11 +451,8 @@ pub extern "C" fn bitvec_c_rotate_left_u64(
     count: usize,
     by: usize,
 ) -> u8
-    ensures { IsCall (moved_status 64 order (length memory.old) start count by)
-        (RangeBecomes 64 (order_at 64 order) start count (let xs = (range_bits 64
-        (order_at 64 order) start count memory.old) in drop by xs ++ take by xs) memory.old
-        memory.new)
-        (memory.new ≡ memory.old) result }
+    ensures { let at = part (λ n. n) 64 order start in IsMove by (at memory.old) (at memory.new)
+        count (λ xs. drop by xs ++ take by xs) result }
 {
     try_edit(order, memory, start, count, Edit::RotateLeft(by))
 }

@@ -1,10 +1,10 @@
 //! Ranges of bits that are made the same.
 
-ghost use Rattle.std.specs.Prelude.{◌≡◌, ◌≢◌, ◌+◌, ◌*◌, ◌≤◌, length, map, replicate};
+ghost use Rattle.std.specs.Prelude.{◌≡◌, ◌+◌, ◌*◌, ◌≤◌, length, map, replicate};
 ghost use Rattle.bitvec.specs.Place.{region_max_bits};
+ghost use Rattle.bitvec_c.specs.Call.{part, IsEdit};
 ghost use Rattle.bitvec_c.specs.Order.{order_at};
 ghost use Rattle.bitvec_c.specs.Range.{RangeBecomes};
-ghost use Rattle.bitvec_c.specs.Status.{ok, range_status};
 
 use crate::range::span;
 use crate::status::{LSB0, OK, test_range};
@@ -37,11 +37,8 @@ fn fill_range<R: BitRegister>(order: u8, memory: &mut [R], start: usize, count: 
 
 // Makes each bit of a range the same where the call's conditions hold, and returns the status.
 fn fill<R: BitRegister>(order: u8, memory: &mut [R], start: usize, count: usize, bit: bool) -> u8
-    ensures status { result ≡ range_status R.BITS order (length memory.old) start count }
-    ensures filled { result ≡ ok
-        → RangeBecomes R.BITS (order_at R.BITS order) start count (replicate count bit)
-        (map R.number memory.old) (map R.number memory.new) }
-    ensures refused { result ≢ ok → memory.new ≡ memory.old }
+    ensures { let at = part R.number R.BITS order start in IsEdit (at memory.old) (at
+        memory.new) count (λ xs. replicate count bit) result }
 {
     let status = test_range::<R>(order, memory.len(), start, count);
     if status == OK {
@@ -61,10 +58,8 @@ pub extern "C" fn bitvec_c_fill_u8(
     count: usize,
     bit: bool,
 ) -> u8
-    ensures status { result ≡ range_status 8 order (length memory.old) start count }
-    ensures filled { result ≡ ok → RangeBecomes 8 (order_at 8 order) start count
-        (replicate count bit) memory.old memory.new }
-    ensures refused { result ≢ ok → memory.new ≡ memory.old }
+    ensures { let at = part (λ n. n) 8 order start in IsEdit (at memory.old) (at memory.new)
+        count (λ xs. replicate count bit) result }
 {
     fill(order, memory, start, count, bit)
 }
@@ -80,10 +75,8 @@ pub extern "C" fn bitvec_c_fill_u16(
     count: usize,
     bit: bool,
 ) -> u8
-    ensures status { result ≡ range_status 16 order (length memory.old) start count }
-    ensures filled { result ≡ ok → RangeBecomes 16 (order_at 16 order) start count
-        (replicate count bit) memory.old memory.new }
-    ensures refused { result ≢ ok → memory.new ≡ memory.old }
+    ensures { let at = part (λ n. n) 16 order start in IsEdit (at memory.old) (at memory.new)
+        count (λ xs. replicate count bit) result }
 {
     fill(order, memory, start, count, bit)
 }
@@ -99,10 +92,8 @@ pub extern "C" fn bitvec_c_fill_u32(
     count: usize,
     bit: bool,
 ) -> u8
-    ensures status { result ≡ range_status 32 order (length memory.old) start count }
-    ensures filled { result ≡ ok → RangeBecomes 32 (order_at 32 order) start count
-        (replicate count bit) memory.old memory.new }
-    ensures refused { result ≢ ok → memory.new ≡ memory.old }
+    ensures { let at = part (λ n. n) 32 order start in IsEdit (at memory.old) (at memory.new)
+        count (λ xs. replicate count bit) result }
 {
     fill(order, memory, start, count, bit)
 }
@@ -118,10 +109,8 @@ pub extern "C" fn bitvec_c_fill_u64(
     count: usize,
     bit: bool,
 ) -> u8
-    ensures status { result ≡ range_status 64 order (length memory.old) start count }
-    ensures filled { result ≡ ok → RangeBecomes 64 (order_at 64 order) start count
-        (replicate count bit) memory.old memory.new }
-    ensures refused { result ≢ ok → memory.new ≡ memory.old }
+    ensures { let at = part (λ n. n) 64 order start in IsEdit (at memory.old) (at memory.new)
+        count (λ xs. replicate count bit) result }
 {
     fill(order, memory, start, count, bit)
 }

@@ -1,12 +1,12 @@
 //! What is counted, found and compared in ranges of bits.
 
-ghost use Rattle.std.specs.Prelude.{◌≡◌, ◌≢◌, ◌+◌, ◌*◌, ◌≤◌, ◌↔◌, IsTrue, false, length, map};
+ghost use Rattle.std.specs.Prelude.{◌≡◌, ◌+◌, ◌*◌, ◌≤◌, ◌↔◌, IsTrue, false, length, map};
 ghost use Rattle.bitvec.specs.Place.{region_max_bits};
 ghost use Rattle.bitvec.specs.Truths.{ones_in};
 ghost use Rattle.bitvec_slice.specs.Bits.{BeginsWith};
+ghost use Rattle.bitvec_c.specs.Call.{part, IsAnswer, IsComparison};
 ghost use Rattle.bitvec_c.specs.Order.{order_at};
 ghost use Rattle.bitvec_c.specs.Range.{range_bits, HaveSameBits};
-ghost use Rattle.bitvec_c.specs.Status.{ok, range_status, ranges_status};
 
 use crate::range::bits;
 use crate::status::{LSB0, OK, test_range, test_ranges};
@@ -35,11 +35,8 @@ fn count_ones<R: BitRegister>(
     count: usize,
     ones: &mut usize,
 ) -> u8
-    ensures status { result ≡ range_status R.BITS order (length memory.now) start count }
-    ensures counted { result ≡ ok → ones.new
-        ≡ ones_in (range_bits R.BITS (order_at R.BITS order) start count
-        (map R.number memory.now)) }
-    ensures refused { result ≢ ok → ones.new ≡ ones.old }
+    ensures { IsAnswer (part R.number R.BITS order start memory.now) count (λ xs. ones.new ≡
+        ones_in xs) (ones.new ≡ ones.old) result }
 {
     let status = test_range::<R>(order, memory.len(), start, count);
     if status == OK {
@@ -70,11 +67,8 @@ fn first_one<R: BitRegister>(
     count: usize,
     index: &mut usize,
 ) -> u8
-    ensures status { result ≡ range_status R.BITS order (length memory.now) start count }
-    ensures found { result ≡ ok
-        → BeginsWith false (range_bits R.BITS (order_at R.BITS order) start count
-        (map R.number memory.now)) index.new }
-    ensures refused { result ≢ ok → index.new ≡ index.old }
+    ensures { IsAnswer (part R.number R.BITS order start memory.now) count (λ xs. BeginsWith
+        false xs index.new) (index.new ≡ index.old) result }
 {
     let status = test_range::<R>(order, memory.len(), start, count);
     if status == OK {
@@ -115,12 +109,8 @@ fn equal<R: BitRegister>(
     count: usize,
     same: &mut bool,
 ) -> u8
-    ensures status { result ≡ ranges_status R.BITS order (length memory.now) start
-        (length other.now) other_start count }
-    ensures compared { result ≡ ok → IsTrue same.new ↔ HaveSameBits R.BITS
-        (order_at R.BITS order) start (map R.number memory.now) other_start
-        (map R.number other.now) count }
-    ensures refused { result ≢ ok → same.new ≡ same.old }
+    ensures { let at = part R.number R.BITS order in IsComparison (at start memory.now) (at
+        other_start other.now) count same.old same.new result }
 {
     let status = test_ranges::<R>(order, memory.len(), start, other.len(), other_start, count);
     if status == OK {
@@ -140,10 +130,8 @@ pub extern "C" fn bitvec_c_count_ones_u8(
     count: usize,
     ones: &mut usize,
 ) -> u8
-    ensures status { result ≡ range_status 8 order (length memory.now) start count }
-    ensures counted { result ≡ ok → ones.new
-        ≡ ones_in (range_bits 8 (order_at 8 order) start count memory.now) }
-    ensures refused { result ≢ ok → ones.new ≡ ones.old }
+    ensures { IsAnswer (part (λ n. n) 8 order start memory.now) count (λ xs. ones.new ≡ ones_in
+        xs) (ones.new ≡ ones.old) result }
 {
     count_ones(order, memory, start, count, ones)
 }
@@ -159,10 +147,8 @@ pub extern "C" fn bitvec_c_count_ones_u16(
     count: usize,
     ones: &mut usize,
 ) -> u8
-    ensures status { result ≡ range_status 16 order (length memory.now) start count }
-    ensures counted { result ≡ ok → ones.new
-        ≡ ones_in (range_bits 16 (order_at 16 order) start count memory.now) }
-    ensures refused { result ≢ ok → ones.new ≡ ones.old }
+    ensures { IsAnswer (part (λ n. n) 16 order start memory.now) count (λ xs. ones.new ≡ ones_in
+        xs) (ones.new ≡ ones.old) result }
 {
     count_ones(order, memory, start, count, ones)
 }
@@ -178,10 +164,8 @@ pub extern "C" fn bitvec_c_count_ones_u32(
     count: usize,
     ones: &mut usize,
 ) -> u8
-    ensures status { result ≡ range_status 32 order (length memory.now) start count }
-    ensures counted { result ≡ ok → ones.new
-        ≡ ones_in (range_bits 32 (order_at 32 order) start count memory.now) }
-    ensures refused { result ≢ ok → ones.new ≡ ones.old }
+    ensures { IsAnswer (part (λ n. n) 32 order start memory.now) count (λ xs. ones.new ≡ ones_in
+        xs) (ones.new ≡ ones.old) result }
 {
     count_ones(order, memory, start, count, ones)
 }
@@ -197,10 +181,8 @@ pub extern "C" fn bitvec_c_count_ones_u64(
     count: usize,
     ones: &mut usize,
 ) -> u8
-    ensures status { result ≡ range_status 64 order (length memory.now) start count }
-    ensures counted { result ≡ ok → ones.new
-        ≡ ones_in (range_bits 64 (order_at 64 order) start count memory.now) }
-    ensures refused { result ≢ ok → ones.new ≡ ones.old }
+    ensures { IsAnswer (part (λ n. n) 64 order start memory.now) count (λ xs. ones.new ≡ ones_in
+        xs) (ones.new ≡ ones.old) result }
 {
     count_ones(order, memory, start, count, ones)
 }
@@ -217,10 +199,8 @@ pub extern "C" fn bitvec_c_first_one_u8(
     count: usize,
     index: &mut usize,
 ) -> u8
-    ensures status { result ≡ range_status 8 order (length memory.now) start count }
-    ensures found { result ≡ ok → BeginsWith false
-        (range_bits 8 (order_at 8 order) start count memory.now) index.new }
-    ensures refused { result ≢ ok → index.new ≡ index.old }
+    ensures { IsAnswer (part (λ n. n) 8 order start memory.now) count (λ xs. BeginsWith false xs
+        index.new) (index.new ≡ index.old) result }
 {
     first_one(order, memory, start, count, index)
 }
@@ -237,10 +217,8 @@ pub extern "C" fn bitvec_c_first_one_u16(
     count: usize,
     index: &mut usize,
 ) -> u8
-    ensures status { result ≡ range_status 16 order (length memory.now) start count }
-    ensures found { result ≡ ok → BeginsWith false
-        (range_bits 16 (order_at 16 order) start count memory.now) index.new }
-    ensures refused { result ≢ ok → index.new ≡ index.old }
+    ensures { IsAnswer (part (λ n. n) 16 order start memory.now) count (λ xs. BeginsWith false
+        xs index.new) (index.new ≡ index.old) result }
 {
     first_one(order, memory, start, count, index)
 }
@@ -257,10 +235,8 @@ pub extern "C" fn bitvec_c_first_one_u32(
     count: usize,
     index: &mut usize,
 ) -> u8
-    ensures status { result ≡ range_status 32 order (length memory.now) start count }
-    ensures found { result ≡ ok → BeginsWith false
-        (range_bits 32 (order_at 32 order) start count memory.now) index.new }
-    ensures refused { result ≢ ok → index.new ≡ index.old }
+    ensures { IsAnswer (part (λ n. n) 32 order start memory.now) count (λ xs. BeginsWith false
+        xs index.new) (index.new ≡ index.old) result }
 {
     first_one(order, memory, start, count, index)
 }
@@ -277,10 +253,8 @@ pub extern "C" fn bitvec_c_first_one_u64(
     count: usize,
     index: &mut usize,
 ) -> u8
-    ensures status { result ≡ range_status 64 order (length memory.now) start count }
-    ensures found { result ≡ ok → BeginsWith false
-        (range_bits 64 (order_at 64 order) start count memory.now) index.new }
-    ensures refused { result ≢ ok → index.new ≡ index.old }
+    ensures { IsAnswer (part (λ n. n) 64 order start memory.now) count (λ xs. BeginsWith false
+        xs index.new) (index.new ≡ index.old) result }
 {
     first_one(order, memory, start, count, index)
 }
@@ -298,11 +272,8 @@ pub extern "C" fn bitvec_c_equal_u8(
     count: usize,
     same: &mut bool,
 ) -> u8
-    ensures status { result ≡ ranges_status 8 order (length memory.now) start
-        (length other.now) other_start count }
-    ensures compared { result ≡ ok → IsTrue same.new ↔ HaveSameBits 8 (order_at 8 order)
-        start memory.now other_start other.now count }
-    ensures refused { result ≢ ok → same.new ≡ same.old }
+    ensures { let at = part (λ n. n) 8 order in IsComparison (at start memory.now) (at
+        other_start other.now) count same.old same.new result }
 {
     equal(order, memory, start, other, other_start, count, same)
 }
@@ -320,11 +291,8 @@ pub extern "C" fn bitvec_c_equal_u16(
     count: usize,
     same: &mut bool,
 ) -> u8
-    ensures status { result ≡ ranges_status 16 order (length memory.now) start
-        (length other.now) other_start count }
-    ensures compared { result ≡ ok → IsTrue same.new ↔ HaveSameBits 16 (order_at 16 order)
-        start memory.now other_start other.now count }
-    ensures refused { result ≢ ok → same.new ≡ same.old }
+    ensures { let at = part (λ n. n) 16 order in IsComparison (at start memory.now) (at
+        other_start other.now) count same.old same.new result }
 {
     equal(order, memory, start, other, other_start, count, same)
 }
@@ -342,11 +310,8 @@ pub extern "C" fn bitvec_c_equal_u32(
     count: usize,
     same: &mut bool,
 ) -> u8
-    ensures status { result ≡ ranges_status 32 order (length memory.now) start
-        (length other.now) other_start count }
-    ensures compared { result ≡ ok → IsTrue same.new ↔ HaveSameBits 32 (order_at 32 order)
-        start memory.now other_start other.now count }
-    ensures refused { result ≢ ok → same.new ≡ same.old }
+    ensures { let at = part (λ n. n) 32 order in IsComparison (at start memory.now) (at
+        other_start other.now) count same.old same.new result }
 {
     equal(order, memory, start, other, other_start, count, same)
 }
@@ -364,11 +329,8 @@ pub extern "C" fn bitvec_c_equal_u64(
     count: usize,
     same: &mut bool,
 ) -> u8
-    ensures status { result ≡ ranges_status 64 order (length memory.now) start
-        (length other.now) other_start count }
-    ensures compared { result ≡ ok → IsTrue same.new ↔ HaveSameBits 64 (order_at 64 order)
-        start memory.now other_start other.now count }
-    ensures refused { result ≢ ok → same.new ≡ same.old }
+    ensures { let at = part (λ n. n) 64 order in IsComparison (at start memory.now) (at
+        other_start other.now) count same.old same.new result }
 {
     equal(order, memory, start, other, other_start, count, same)
 }

@@ -1,9 +1,9 @@
 //! Numbers in ranges of bits.
 
-ghost use Rattle.std.specs.Prelude.{◌≡◌, ◌≢◌, ◌+◌, ◌*◌, ◌≤◌, length, map};
+ghost use Rattle.std.specs.Prelude.{◌≡◌, ◌+◌, ◌*◌, ◌≤◌, length, map};
 ghost use Rattle.bitvec_c.specs.Number.{loaded_number, StoresNumber};
+ghost use Rattle.bitvec_c.specs.Call.{part, IsLoad, IsStore};
 ghost use Rattle.bitvec_c.specs.Order.{order_at, rises};
-ghost use Rattle.bitvec_c.specs.Status.{ok, number_status};
 
 use crate::range::{bits, bits_mut};
 use crate::status::{LSB0, OK, test_number};
@@ -54,10 +54,8 @@ fn load<R: BitRegister>(
     count: usize,
     number: &mut u64,
 ) -> u8
-    ensures status { result ≡ number_status R.BITS order (length memory.now) start count }
-    ensures loaded { result ≡ ok → number.new ≡ loaded_number big R.BITS (rises order)
-        (order_at R.BITS order) start count (map R.number memory.now) }
-    ensures refused { result ≢ ok → number.new ≡ number.old }
+    ensures { IsLoad big (part R.number R.BITS order start memory.now) count number.old
+        number.new result }
 {
     let status = test_number::<R>(order, memory.len(), start, count);
     if status == OK {
@@ -118,11 +116,8 @@ fn store<R: BitRegister>(
     count: usize,
     number: u64,
 ) -> u8
-    ensures status { result ≡ number_status R.BITS order (length memory.old) start count }
-    ensures stored { result ≡ ok → StoresNumber big R.BITS (rises order)
-        (order_at R.BITS order) start count number (map R.number memory.old)
-        (map R.number memory.new) }
-    ensures refused { result ≢ ok → memory.new ≡ memory.old }
+    ensures { let at = part R.number R.BITS order start in IsStore big (at memory.old) (at
+        memory.new) count number result }
 {
     let status = test_number::<R>(order, memory.len(), start, count);
     if status == OK {
@@ -146,10 +141,8 @@ pub extern "C" fn bitvec_c_load_u8(
     count: usize,
     number: &mut u64,
 ) -> u8
-    ensures status { result ≡ number_status 8 order (length memory.now) start count }
-    ensures loaded { result ≡ ok → number.new
-        ≡ loaded_number big_endian 8 (rises order) (order_at 8 order) start count memory.now }
-    ensures refused { result ≢ ok → number.new ≡ number.old }
+    ensures { IsLoad big_endian (part (λ n. n) 8 order start memory.now) count number.old
+        number.new result }
 {
     load(order, big_endian, memory, start, count, number)
 }
@@ -169,10 +162,8 @@ pub extern "C" fn bitvec_c_load_u16(
     count: usize,
     number: &mut u64,
 ) -> u8
-    ensures status { result ≡ number_status 16 order (length memory.now) start count }
-    ensures loaded { result ≡ ok → number.new
-        ≡ loaded_number big_endian 16 (rises order) (order_at 16 order) start count memory.now }
-    ensures refused { result ≢ ok → number.new ≡ number.old }
+    ensures { IsLoad big_endian (part (λ n. n) 16 order start memory.now) count number.old
+        number.new result }
 {
     load(order, big_endian, memory, start, count, number)
 }
@@ -192,10 +183,8 @@ pub extern "C" fn bitvec_c_load_u32(
     count: usize,
     number: &mut u64,
 ) -> u8
-    ensures status { result ≡ number_status 32 order (length memory.now) start count }
-    ensures loaded { result ≡ ok → number.new
-        ≡ loaded_number big_endian 32 (rises order) (order_at 32 order) start count memory.now }
-    ensures refused { result ≢ ok → number.new ≡ number.old }
+    ensures { IsLoad big_endian (part (λ n. n) 32 order start memory.now) count number.old
+        number.new result }
 {
     load(order, big_endian, memory, start, count, number)
 }
@@ -215,10 +204,8 @@ pub extern "C" fn bitvec_c_load_u64(
     count: usize,
     number: &mut u64,
 ) -> u8
-    ensures status { result ≡ number_status 64 order (length memory.now) start count }
-    ensures loaded { result ≡ ok → number.new
-        ≡ loaded_number big_endian 64 (rises order) (order_at 64 order) start count memory.now }
-    ensures refused { result ≢ ok → number.new ≡ number.old }
+    ensures { IsLoad big_endian (part (λ n. n) 64 order start memory.now) count number.old
+        number.new result }
 {
     load(order, big_endian, memory, start, count, number)
 }
@@ -238,10 +225,8 @@ pub extern "C" fn bitvec_c_store_u8(
     count: usize,
     number: u64,
 ) -> u8
-    ensures status { result ≡ number_status 8 order (length memory.old) start count }
-    ensures stored { result ≡ ok → StoresNumber big_endian 8 (rises order) (order_at 8 order)
-        start count number memory.old memory.new }
-    ensures refused { result ≢ ok → memory.new ≡ memory.old }
+    ensures { let at = part (λ n. n) 8 order start in IsStore big_endian (at memory.old) (at
+        memory.new) count number result }
 {
     store(order, big_endian, memory, start, count, number)
 }
@@ -261,10 +246,8 @@ pub extern "C" fn bitvec_c_store_u16(
     count: usize,
     number: u64,
 ) -> u8
-    ensures status { result ≡ number_status 16 order (length memory.old) start count }
-    ensures stored { result ≡ ok → StoresNumber big_endian 16 (rises order) (order_at 16 order)
-        start count number memory.old memory.new }
-    ensures refused { result ≢ ok → memory.new ≡ memory.old }
+    ensures { let at = part (λ n. n) 16 order start in IsStore big_endian (at memory.old) (at
+        memory.new) count number result }
 {
     store(order, big_endian, memory, start, count, number)
 }
@@ -284,10 +267,8 @@ pub extern "C" fn bitvec_c_store_u32(
     count: usize,
     number: u64,
 ) -> u8
-    ensures status { result ≡ number_status 32 order (length memory.old) start count }
-    ensures stored { result ≡ ok → StoresNumber big_endian 32 (rises order) (order_at 32 order)
-        start count number memory.old memory.new }
-    ensures refused { result ≢ ok → memory.new ≡ memory.old }
+    ensures { let at = part (λ n. n) 32 order start in IsStore big_endian (at memory.old) (at
+        memory.new) count number result }
 {
     store(order, big_endian, memory, start, count, number)
 }
@@ -307,10 +288,8 @@ pub extern "C" fn bitvec_c_store_u64(
     count: usize,
     number: u64,
 ) -> u8
-    ensures status { result ≡ number_status 64 order (length memory.old) start count }
-    ensures stored { result ≡ ok → StoresNumber big_endian 64 (rises order) (order_at 64 order)
-        start count number memory.old memory.new }
-    ensures refused { result ≢ ok → memory.new ≡ memory.old }
+    ensures { let at = part (λ n. n) 64 order start in IsStore big_endian (at memory.old) (at
+        memory.new) count number result }
 {
     store(order, big_endian, memory, start, count, number)
 }

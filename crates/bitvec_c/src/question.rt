@@ -5,11 +5,10 @@ ghost use Rattle.bitvec.specs.Digit.{exclusive_or};
 ghost use Rattle.bitvec.specs.Memory.{zip_with};
 ghost use Rattle.bitvec.specs.Place.{region_max_bits};
 ghost use Rattle.bitvec.specs.Truths.{ones_in};
-ghost use Rattle.bitvec_c.specs.Call.{IsCall};
+ghost use Rattle.bitvec_c.specs.Call.{part, CountsPairs, FindsPair};
 ghost use Rattle.bitvec_c.specs.Order.{order_at};
 ghost use Rattle.bitvec_c.specs.Range.{range_bits};
 ghost use Rattle.bitvec_c.specs.Seek.{IsFirstOr};
-ghost use Rattle.bitvec_c.specs.Status.{pair_status};
 
 use crate::range::span;
 use crate::status::{LSB0, OK, test_pair};
@@ -97,13 +96,8 @@ fn count_with<C: Combine, R: BitRegister, R2: BitRegister>(
     count: usize,
     ones: &mut usize,
 ) -> u8
-    ensures { IsCall (pair_status R.BITS order (length memory.now) start R2.BITS other_order
-        (length other.now) other_start count)
-        (ones.new ≡ ones_in (zip_with C.of
-        (range_bits R.BITS (order_at R.BITS order) start count (map R.number memory.now))
-        (range_bits R2.BITS (order_at R2.BITS other_order) other_start count
-        (map R2.number other.now))))
-        (ones.new ≡ ones.old) result }
+    ensures { CountsPairs C.of (part R.number R.BITS order start memory.now) (part R2.number
+        R2.BITS other_order other_start other.now) count ones.old ones.new result }
 {
     let words = memory.len();
     let status = test_pair::<R, R2>(
@@ -205,13 +199,8 @@ fn first_with<C: Combine, R: BitRegister, R2: BitRegister>(
     count: usize,
     index: &mut usize,
 ) -> u8
-    ensures { IsCall (pair_status R.BITS order (length memory.now) start R2.BITS other_order
-        (length other.now) other_start count)
-        (IsFirstOr true (zip_with C.of
-        (range_bits R.BITS (order_at R.BITS order) start count (map R.number memory.now))
-        (range_bits R2.BITS (order_at R2.BITS other_order) other_start count
-        (map R2.number other.now))) count index.new)
-        (index.new ≡ index.old) result }
+    ensures { FindsPair C.of (part R.number R.BITS order start memory.now) (part R2.number
+        R2.BITS other_order other_start other.now) count index.old index.new result }
 {
     let words = memory.len();
     let status = test_pair::<R, R2>(
@@ -244,12 +233,8 @@ pub extern "C" fn bitvec_c_count_and_u8(
     count: usize,
     ones: &mut usize,
 ) -> u8
-    ensures { IsCall (pair_status 8 order (length memory.now) start 8 other_order
-        (length other.now) other_start count)
-        (ones.new ≡ ones_in (zip_with (λ x y. x && y) (range_bits 8
-        (order_at 8 order) start count memory.now)
-        (range_bits 8 (order_at 8 other_order) other_start count other.now))) (ones.new
-        ≡ ones.old) result }
+    ensures { CountsPairs (λ x y. x && y) (part (λ n. n) 8 order start memory.now) (part (λ n.
+        n) 8 other_order other_start other.now) count ones.old ones.new result }
 {
     count_with::<And, u8, u8>(
         order,
@@ -278,12 +263,8 @@ pub extern "C" fn bitvec_c_count_and_u16(
     count: usize,
     ones: &mut usize,
 ) -> u8
-    ensures { IsCall (pair_status 16 order (length memory.now) start 16 other_order
-        (length other.now) other_start count)
-        (ones.new ≡ ones_in (zip_with (λ x y. x && y) (range_bits 16
-        (order_at 16 order) start count memory.now)
-        (range_bits 16 (order_at 16 other_order) other_start count other.now))) (ones.new
-        ≡ ones.old) result }
+    ensures { CountsPairs (λ x y. x && y) (part (λ n. n) 16 order start memory.now) (part (λ n.
+        n) 16 other_order other_start other.now) count ones.old ones.new result }
 {
     count_with::<And, u16, u16>(
         order,
@@ -312,12 +293,8 @@ pub extern "C" fn bitvec_c_count_and_u32(
     count: usize,
     ones: &mut usize,
 ) -> u8
-    ensures { IsCall (pair_status 32 order (length memory.now) start 32 other_order
-        (length other.now) other_start count)
-        (ones.new ≡ ones_in (zip_with (λ x y. x && y) (range_bits 32
-        (order_at 32 order) start count memory.now)
-        (range_bits 32 (order_at 32 other_order) other_start count other.now))) (ones.new
-        ≡ ones.old) result }
+    ensures { CountsPairs (λ x y. x && y) (part (λ n. n) 32 order start memory.now) (part (λ n.
+        n) 32 other_order other_start other.now) count ones.old ones.new result }
 {
     count_with::<And, u32, u32>(
         order,
@@ -346,12 +323,8 @@ pub extern "C" fn bitvec_c_count_and_u64(
     count: usize,
     ones: &mut usize,
 ) -> u8
-    ensures { IsCall (pair_status 64 order (length memory.now) start 64 other_order
-        (length other.now) other_start count)
-        (ones.new ≡ ones_in (zip_with (λ x y. x && y) (range_bits 64
-        (order_at 64 order) start count memory.now)
-        (range_bits 64 (order_at 64 other_order) other_start count other.now))) (ones.new
-        ≡ ones.old) result }
+    ensures { CountsPairs (λ x y. x && y) (part (λ n. n) 64 order start memory.now) (part (λ n.
+        n) 64 other_order other_start other.now) count ones.old ones.new result }
 {
     count_with::<And, u64, u64>(
         order,
@@ -381,12 +354,8 @@ pub extern "C" fn bitvec_c_first_and_u8(
     count: usize,
     index: &mut usize,
 ) -> u8
-    ensures { IsCall (pair_status 8 order (length memory.now) start 8 other_order
-        (length other.now) other_start count)
-        (IsFirstOr true (zip_with (λ x y. x && y) (range_bits 8
-        (order_at 8 order) start count memory.now)
-        (range_bits 8 (order_at 8 other_order) other_start count other.now)) count index.new)
-        (index.new ≡ index.old) result }
+    ensures { FindsPair (λ x y. x && y) (part (λ n. n) 8 order start memory.now) (part (λ n. n)
+        8 other_order other_start other.now) count index.old index.new result }
 {
     first_with::<And, u8, u8>(
         order,
@@ -416,12 +385,8 @@ pub extern "C" fn bitvec_c_first_and_u16(
     count: usize,
     index: &mut usize,
 ) -> u8
-    ensures { IsCall (pair_status 16 order (length memory.now) start 16 other_order
-        (length other.now) other_start count)
-        (IsFirstOr true (zip_with (λ x y. x && y) (range_bits 16
-        (order_at 16 order) start count memory.now)
-        (range_bits 16 (order_at 16 other_order) other_start count other.now)) count index.new)
-        (index.new ≡ index.old) result }
+    ensures { FindsPair (λ x y. x && y) (part (λ n. n) 16 order start memory.now) (part (λ n. n)
+        16 other_order other_start other.now) count index.old index.new result }
 {
     first_with::<And, u16, u16>(
         order,
@@ -451,12 +416,8 @@ pub extern "C" fn bitvec_c_first_and_u32(
     count: usize,
     index: &mut usize,
 ) -> u8
-    ensures { IsCall (pair_status 32 order (length memory.now) start 32 other_order
-        (length other.now) other_start count)
-        (IsFirstOr true (zip_with (λ x y. x && y) (range_bits 32
-        (order_at 32 order) start count memory.now)
-        (range_bits 32 (order_at 32 other_order) other_start count other.now)) count index.new)
-        (index.new ≡ index.old) result }
+    ensures { FindsPair (λ x y. x && y) (part (λ n. n) 32 order start memory.now) (part (λ n. n)
+        32 other_order other_start other.now) count index.old index.new result }
 {
     first_with::<And, u32, u32>(
         order,
@@ -486,12 +447,8 @@ pub extern "C" fn bitvec_c_first_and_u64(
     count: usize,
     index: &mut usize,
 ) -> u8
-    ensures { IsCall (pair_status 64 order (length memory.now) start 64 other_order
-        (length other.now) other_start count)
-        (IsFirstOr true (zip_with (λ x y. x && y) (range_bits 64
-        (order_at 64 order) start count memory.now)
-        (range_bits 64 (order_at 64 other_order) other_start count other.now)) count index.new)
-        (index.new ≡ index.old) result }
+    ensures { FindsPair (λ x y. x && y) (part (λ n. n) 64 order start memory.now) (part (λ n. n)
+        64 other_order other_start other.now) count index.old index.new result }
 {
     first_with::<And, u64, u64>(
         order,
@@ -521,12 +478,8 @@ pub extern "C" fn bitvec_c_first_and_not_u8(
     count: usize,
     index: &mut usize,
 ) -> u8
-    ensures { IsCall (pair_status 8 order (length memory.now) start 8 other_order
-        (length other.now) other_start count)
-        (IsFirstOr true (zip_with (λ x y. x && not y) (range_bits 8
-        (order_at 8 order) start count memory.now)
-        (range_bits 8 (order_at 8 other_order) other_start count other.now)) count index.new)
-        (index.new ≡ index.old) result }
+    ensures { FindsPair (λ x y. x && not y) (part (λ n. n) 8 order start memory.now) (part (λ n.
+        n) 8 other_order other_start other.now) count index.old index.new result }
 {
     first_with::<AndNot, u8, u8>(
         order,
@@ -556,12 +509,8 @@ pub extern "C" fn bitvec_c_first_and_not_u16(
     count: usize,
     index: &mut usize,
 ) -> u8
-    ensures { IsCall (pair_status 16 order (length memory.now) start 16 other_order
-        (length other.now) other_start count)
-        (IsFirstOr true (zip_with (λ x y. x && not y) (range_bits 16
-        (order_at 16 order) start count memory.now)
-        (range_bits 16 (order_at 16 other_order) other_start count other.now)) count index.new)
-        (index.new ≡ index.old) result }
+    ensures { FindsPair (λ x y. x && not y) (part (λ n. n) 16 order start memory.now) (part (λ
+        n. n) 16 other_order other_start other.now) count index.old index.new result }
 {
     first_with::<AndNot, u16, u16>(
         order,
@@ -591,12 +540,8 @@ pub extern "C" fn bitvec_c_first_and_not_u32(
     count: usize,
     index: &mut usize,
 ) -> u8
-    ensures { IsCall (pair_status 32 order (length memory.now) start 32 other_order
-        (length other.now) other_start count)
-        (IsFirstOr true (zip_with (λ x y. x && not y) (range_bits 32
-        (order_at 32 order) start count memory.now)
-        (range_bits 32 (order_at 32 other_order) other_start count other.now)) count index.new)
-        (index.new ≡ index.old) result }
+    ensures { FindsPair (λ x y. x && not y) (part (λ n. n) 32 order start memory.now) (part (λ
+        n. n) 32 other_order other_start other.now) count index.old index.new result }
 {
     first_with::<AndNot, u32, u32>(
         order,
@@ -626,12 +571,8 @@ pub extern "C" fn bitvec_c_first_and_not_u64(
     count: usize,
     index: &mut usize,
 ) -> u8
-    ensures { IsCall (pair_status 64 order (length memory.now) start 64 other_order
-        (length other.now) other_start count)
-        (IsFirstOr true (zip_with (λ x y. x && not y) (range_bits 64
-        (order_at 64 order) start count memory.now)
-        (range_bits 64 (order_at 64 other_order) other_start count other.now)) count index.new)
-        (index.new ≡ index.old) result }
+    ensures { FindsPair (λ x y. x && not y) (part (λ n. n) 64 order start memory.now) (part (λ
+        n. n) 64 other_order other_start other.now) count index.old index.new result }
 {
     first_with::<AndNot, u64, u64>(
         order,
@@ -661,12 +602,8 @@ pub extern "C" fn bitvec_c_first_difference_u8(
     count: usize,
     index: &mut usize,
 ) -> u8
-    ensures { IsCall (pair_status 8 order (length memory.now) start 8 other_order
-        (length other.now) other_start count)
-        (IsFirstOr true (zip_with exclusive_or (range_bits 8 (order_at 8 order) start count
-        memory.now)
-        (range_bits 8 (order_at 8 other_order) other_start count other.now)) count index.new)
-        (index.new ≡ index.old) result }
+    ensures { FindsPair exclusive_or (part (λ n. n) 8 order start memory.now) (part (λ n. n) 8
+        other_order other_start other.now) count index.old index.new result }
 {
     first_with::<Xor, u8, u8>(
         order,
@@ -696,12 +633,8 @@ pub extern "C" fn bitvec_c_first_difference_u16(
     count: usize,
     index: &mut usize,
 ) -> u8
-    ensures { IsCall (pair_status 16 order (length memory.now) start 16 other_order
-        (length other.now) other_start count)
-        (IsFirstOr true (zip_with exclusive_or (range_bits 16
-        (order_at 16 order) start count memory.now)
-        (range_bits 16 (order_at 16 other_order) other_start count other.now)) count index.new)
-        (index.new ≡ index.old) result }
+    ensures { FindsPair exclusive_or (part (λ n. n) 16 order start memory.now) (part (λ n. n) 16
+        other_order other_start other.now) count index.old index.new result }
 {
     first_with::<Xor, u16, u16>(
         order,
@@ -731,12 +664,8 @@ pub extern "C" fn bitvec_c_first_difference_u32(
     count: usize,
     index: &mut usize,
 ) -> u8
-    ensures { IsCall (pair_status 32 order (length memory.now) start 32 other_order
-        (length other.now) other_start count)
-        (IsFirstOr true (zip_with exclusive_or (range_bits 32
-        (order_at 32 order) start count memory.now)
-        (range_bits 32 (order_at 32 other_order) other_start count other.now)) count index.new)
-        (index.new ≡ index.old) result }
+    ensures { FindsPair exclusive_or (part (λ n. n) 32 order start memory.now) (part (λ n. n) 32
+        other_order other_start other.now) count index.old index.new result }
 {
     first_with::<Xor, u32, u32>(
         order,
@@ -766,12 +695,504 @@ pub extern "C" fn bitvec_c_first_difference_u64(
     count: usize,
     index: &mut usize,
 ) -> u8
-    ensures { IsCall (pair_status 64 order (length memory.now) start 64 other_order
-        (length other.now) other_start count)
-        (IsFirstOr true (zip_with exclusive_or (range_bits 64
-        (order_at 64 order) start count memory.now)
-        (range_bits 64 (order_at 64 other_order) other_start count other.now)) count index.new)
-        (index.new ≡ index.old) result }
+    ensures { FindsPair exclusive_or (part (λ n. n) 64 order start memory.now) (part (λ n. n) 64
+        other_order other_start other.now) count index.old index.new result }
+{
+    first_with::<Xor, u64, u64>(
+        order,
+        memory,
+        start,
+        other_order,
+        other,
+        other_start,
+        count,
+        index,
+    )
+}
+
+/// Answers the index of the first bit of a range that is not the same in the other range, and
+/// `count` where there is none, in memories of words of 8 and of 8 bits, each under an order of its
+/// own.
+///
+/// It refuses with `NO_ORDER`, `TOO_LONG` or `OUTSIDE`.
+#[unsafe(no_mangle)]
+pub extern "C" fn bitvec_c_first_difference_u8_with_u8(
+    order: u8,
+    memory: &[u8],
+    start: usize,
+    other_order: u8,
+    other: &[u8],
+    other_start: usize,
+    count: usize,
+    index: &mut usize,
+) -> u8
+    ensures { FindsPair exclusive_or (part (λ n. n) 8 order start memory.now) (part (λ n. n) 8
+        other_order other_start other.now) count index.old index.new result }
+{
+    first_with::<Xor, u8, u8>(
+        order,
+        memory,
+        start,
+        other_order,
+        other,
+        other_start,
+        count,
+        index,
+    )
+}
+
+/// Answers the index of the first bit of a range that is not the same in the other range, and
+/// `count` where there is none, in memories of words of 8 and of 16 bits, each under an order of
+/// its own.
+///
+/// It refuses with `NO_ORDER`, `TOO_LONG` or `OUTSIDE`.
+#[unsafe(no_mangle)]
+pub extern "C" fn bitvec_c_first_difference_u8_with_u16(
+    order: u8,
+    memory: &[u8],
+    start: usize,
+    other_order: u8,
+    other: &[u16],
+    other_start: usize,
+    count: usize,
+    index: &mut usize,
+) -> u8
+    ensures { FindsPair exclusive_or (part (λ n. n) 8 order start memory.now) (part (λ n. n) 16
+        other_order other_start other.now) count index.old index.new result }
+{
+    first_with::<Xor, u8, u16>(
+        order,
+        memory,
+        start,
+        other_order,
+        other,
+        other_start,
+        count,
+        index,
+    )
+}
+
+/// Answers the index of the first bit of a range that is not the same in the other range, and
+/// `count` where there is none, in memories of words of 8 and of 32 bits, each under an order of
+/// its own.
+///
+/// It refuses with `NO_ORDER`, `TOO_LONG` or `OUTSIDE`.
+#[unsafe(no_mangle)]
+pub extern "C" fn bitvec_c_first_difference_u8_with_u32(
+    order: u8,
+    memory: &[u8],
+    start: usize,
+    other_order: u8,
+    other: &[u32],
+    other_start: usize,
+    count: usize,
+    index: &mut usize,
+) -> u8
+    ensures { FindsPair exclusive_or (part (λ n. n) 8 order start memory.now) (part (λ n. n) 32
+        other_order other_start other.now) count index.old index.new result }
+{
+    first_with::<Xor, u8, u32>(
+        order,
+        memory,
+        start,
+        other_order,
+        other,
+        other_start,
+        count,
+        index,
+    )
+}
+
+/// Answers the index of the first bit of a range that is not the same in the other range, and
+/// `count` where there is none, in memories of words of 8 and of 64 bits, each under an order of
+/// its own.
+///
+/// It refuses with `NO_ORDER`, `TOO_LONG` or `OUTSIDE`.
+#[unsafe(no_mangle)]
+pub extern "C" fn bitvec_c_first_difference_u8_with_u64(
+    order: u8,
+    memory: &[u8],
+    start: usize,
+    other_order: u8,
+    other: &[u64],
+    other_start: usize,
+    count: usize,
+    index: &mut usize,
+) -> u8
+    ensures { FindsPair exclusive_or (part (λ n. n) 8 order start memory.now) (part (λ n. n) 64
+        other_order other_start other.now) count index.old index.new result }
+{
+    first_with::<Xor, u8, u64>(
+        order,
+        memory,
+        start,
+        other_order,
+        other,
+        other_start,
+        count,
+        index,
+    )
+}
+
+/// Answers the index of the first bit of a range that is not the same in the other range, and
+/// `count` where there is none, in memories of words of 16 and of 8 bits, each under an order of
+/// its own.
+///
+/// It refuses with `NO_ORDER`, `TOO_LONG` or `OUTSIDE`.
+#[unsafe(no_mangle)]
+pub extern "C" fn bitvec_c_first_difference_u16_with_u8(
+    order: u8,
+    memory: &[u16],
+    start: usize,
+    other_order: u8,
+    other: &[u8],
+    other_start: usize,
+    count: usize,
+    index: &mut usize,
+) -> u8
+    ensures { FindsPair exclusive_or (part (λ n. n) 16 order start memory.now) (part (λ n. n) 8
+        other_order other_start other.now) count index.old index.new result }
+{
+    first_with::<Xor, u16, u8>(
+        order,
+        memory,
+        start,
+        other_order,
+        other,
+        other_start,
+        count,
+        index,
+    )
+}
+
+/// Answers the index of the first bit of a range that is not the same in the other range, and
+/// `count` where there is none, in memories of words of 16 and of 16 bits, each under an order of
+/// its own.
+///
+/// It refuses with `NO_ORDER`, `TOO_LONG` or `OUTSIDE`.
+#[unsafe(no_mangle)]
+pub extern "C" fn bitvec_c_first_difference_u16_with_u16(
+    order: u8,
+    memory: &[u16],
+    start: usize,
+    other_order: u8,
+    other: &[u16],
+    other_start: usize,
+    count: usize,
+    index: &mut usize,
+) -> u8
+    ensures { FindsPair exclusive_or (part (λ n. n) 16 order start memory.now) (part (λ n. n) 16
+        other_order other_start other.now) count index.old index.new result }
+{
+    first_with::<Xor, u16, u16>(
+        order,
+        memory,
+        start,
+        other_order,
+        other,
+        other_start,
+        count,
+        index,
+    )
+}
+
+/// Answers the index of the first bit of a range that is not the same in the other range, and
+/// `count` where there is none, in memories of words of 16 and of 32 bits, each under an order of
+/// its own.
+///
+/// It refuses with `NO_ORDER`, `TOO_LONG` or `OUTSIDE`.
+#[unsafe(no_mangle)]
+pub extern "C" fn bitvec_c_first_difference_u16_with_u32(
+    order: u8,
+    memory: &[u16],
+    start: usize,
+    other_order: u8,
+    other: &[u32],
+    other_start: usize,
+    count: usize,
+    index: &mut usize,
+) -> u8
+    ensures { FindsPair exclusive_or (part (λ n. n) 16 order start memory.now) (part (λ n. n) 32
+        other_order other_start other.now) count index.old index.new result }
+{
+    first_with::<Xor, u16, u32>(
+        order,
+        memory,
+        start,
+        other_order,
+        other,
+        other_start,
+        count,
+        index,
+    )
+}
+
+/// Answers the index of the first bit of a range that is not the same in the other range, and
+/// `count` where there is none, in memories of words of 16 and of 64 bits, each under an order of
+/// its own.
+///
+/// It refuses with `NO_ORDER`, `TOO_LONG` or `OUTSIDE`.
+#[unsafe(no_mangle)]
+pub extern "C" fn bitvec_c_first_difference_u16_with_u64(
+    order: u8,
+    memory: &[u16],
+    start: usize,
+    other_order: u8,
+    other: &[u64],
+    other_start: usize,
+    count: usize,
+    index: &mut usize,
+) -> u8
+    ensures { FindsPair exclusive_or (part (λ n. n) 16 order start memory.now) (part (λ n. n) 64
+        other_order other_start other.now) count index.old index.new result }
+{
+    first_with::<Xor, u16, u64>(
+        order,
+        memory,
+        start,
+        other_order,
+        other,
+        other_start,
+        count,
+        index,
+    )
+}
+
+/// Answers the index of the first bit of a range that is not the same in the other range, and
+/// `count` where there is none, in memories of words of 32 and of 8 bits, each under an order of
+/// its own.
+///
+/// It refuses with `NO_ORDER`, `TOO_LONG` or `OUTSIDE`.
+#[unsafe(no_mangle)]
+pub extern "C" fn bitvec_c_first_difference_u32_with_u8(
+    order: u8,
+    memory: &[u32],
+    start: usize,
+    other_order: u8,
+    other: &[u8],
+    other_start: usize,
+    count: usize,
+    index: &mut usize,
+) -> u8
+    ensures { FindsPair exclusive_or (part (λ n. n) 32 order start memory.now) (part (λ n. n) 8
+        other_order other_start other.now) count index.old index.new result }
+{
+    first_with::<Xor, u32, u8>(
+        order,
+        memory,
+        start,
+        other_order,
+        other,
+        other_start,
+        count,
+        index,
+    )
+}
+
+/// Answers the index of the first bit of a range that is not the same in the other range, and
+/// `count` where there is none, in memories of words of 32 and of 16 bits, each under an order of
+/// its own.
+///
+/// It refuses with `NO_ORDER`, `TOO_LONG` or `OUTSIDE`.
+#[unsafe(no_mangle)]
+pub extern "C" fn bitvec_c_first_difference_u32_with_u16(
+    order: u8,
+    memory: &[u32],
+    start: usize,
+    other_order: u8,
+    other: &[u16],
+    other_start: usize,
+    count: usize,
+    index: &mut usize,
+) -> u8
+    ensures { FindsPair exclusive_or (part (λ n. n) 32 order start memory.now) (part (λ n. n) 16
+        other_order other_start other.now) count index.old index.new result }
+{
+    first_with::<Xor, u32, u16>(
+        order,
+        memory,
+        start,
+        other_order,
+        other,
+        other_start,
+        count,
+        index,
+    )
+}
+
+/// Answers the index of the first bit of a range that is not the same in the other range, and
+/// `count` where there is none, in memories of words of 32 and of 32 bits, each under an order of
+/// its own.
+///
+/// It refuses with `NO_ORDER`, `TOO_LONG` or `OUTSIDE`.
+#[unsafe(no_mangle)]
+pub extern "C" fn bitvec_c_first_difference_u32_with_u32(
+    order: u8,
+    memory: &[u32],
+    start: usize,
+    other_order: u8,
+    other: &[u32],
+    other_start: usize,
+    count: usize,
+    index: &mut usize,
+) -> u8
+    ensures { FindsPair exclusive_or (part (λ n. n) 32 order start memory.now) (part (λ n. n) 32
+        other_order other_start other.now) count index.old index.new result }
+{
+    first_with::<Xor, u32, u32>(
+        order,
+        memory,
+        start,
+        other_order,
+        other,
+        other_start,
+        count,
+        index,
+    )
+}
+
+/// Answers the index of the first bit of a range that is not the same in the other range, and
+/// `count` where there is none, in memories of words of 32 and of 64 bits, each under an order of
+/// its own.
+///
+/// It refuses with `NO_ORDER`, `TOO_LONG` or `OUTSIDE`.
+#[unsafe(no_mangle)]
+pub extern "C" fn bitvec_c_first_difference_u32_with_u64(
+    order: u8,
+    memory: &[u32],
+    start: usize,
+    other_order: u8,
+    other: &[u64],
+    other_start: usize,
+    count: usize,
+    index: &mut usize,
+) -> u8
+    ensures { FindsPair exclusive_or (part (λ n. n) 32 order start memory.now) (part (λ n. n) 64
+        other_order other_start other.now) count index.old index.new result }
+{
+    first_with::<Xor, u32, u64>(
+        order,
+        memory,
+        start,
+        other_order,
+        other,
+        other_start,
+        count,
+        index,
+    )
+}
+
+/// Answers the index of the first bit of a range that is not the same in the other range, and
+/// `count` where there is none, in memories of words of 64 and of 8 bits, each under an order of
+/// its own.
+///
+/// It refuses with `NO_ORDER`, `TOO_LONG` or `OUTSIDE`.
+#[unsafe(no_mangle)]
+pub extern "C" fn bitvec_c_first_difference_u64_with_u8(
+    order: u8,
+    memory: &[u64],
+    start: usize,
+    other_order: u8,
+    other: &[u8],
+    other_start: usize,
+    count: usize,
+    index: &mut usize,
+) -> u8
+    ensures { FindsPair exclusive_or (part (λ n. n) 64 order start memory.now) (part (λ n. n) 8
+        other_order other_start other.now) count index.old index.new result }
+{
+    first_with::<Xor, u64, u8>(
+        order,
+        memory,
+        start,
+        other_order,
+        other,
+        other_start,
+        count,
+        index,
+    )
+}
+
+/// Answers the index of the first bit of a range that is not the same in the other range, and
+/// `count` where there is none, in memories of words of 64 and of 16 bits, each under an order of
+/// its own.
+///
+/// It refuses with `NO_ORDER`, `TOO_LONG` or `OUTSIDE`.
+#[unsafe(no_mangle)]
+pub extern "C" fn bitvec_c_first_difference_u64_with_u16(
+    order: u8,
+    memory: &[u64],
+    start: usize,
+    other_order: u8,
+    other: &[u16],
+    other_start: usize,
+    count: usize,
+    index: &mut usize,
+) -> u8
+    ensures { FindsPair exclusive_or (part (λ n. n) 64 order start memory.now) (part (λ n. n) 16
+        other_order other_start other.now) count index.old index.new result }
+{
+    first_with::<Xor, u64, u16>(
+        order,
+        memory,
+        start,
+        other_order,
+        other,
+        other_start,
+        count,
+        index,
+    )
+}
+
+/// Answers the index of the first bit of a range that is not the same in the other range, and
+/// `count` where there is none, in memories of words of 64 and of 32 bits, each under an order of
+/// its own.
+///
+/// It refuses with `NO_ORDER`, `TOO_LONG` or `OUTSIDE`.
+#[unsafe(no_mangle)]
+pub extern "C" fn bitvec_c_first_difference_u64_with_u32(
+    order: u8,
+    memory: &[u64],
+    start: usize,
+    other_order: u8,
+    other: &[u32],
+    other_start: usize,
+    count: usize,
+    index: &mut usize,
+) -> u8
+    ensures { FindsPair exclusive_or (part (λ n. n) 64 order start memory.now) (part (λ n. n) 32
+        other_order other_start other.now) count index.old index.new result }
+{
+    first_with::<Xor, u64, u32>(
+        order,
+        memory,
+        start,
+        other_order,
+        other,
+        other_start,
+        count,
+        index,
+    )
+}
+
+/// Answers the index of the first bit of a range that is not the same in the other range, and
+/// `count` where there is none, in memories of words of 64 and of 64 bits, each under an order of
+/// its own.
+///
+/// It refuses with `NO_ORDER`, `TOO_LONG` or `OUTSIDE`.
+#[unsafe(no_mangle)]
+pub extern "C" fn bitvec_c_first_difference_u64_with_u64(
+    order: u8,
+    memory: &[u64],
+    start: usize,
+    other_order: u8,
+    other: &[u64],
+    other_start: usize,
+    count: usize,
+    index: &mut usize,
+) -> u8
+    ensures { FindsPair exclusive_or (part (λ n. n) 64 order start memory.now) (part (λ n. n) 64
+        other_order other_start other.now) count index.old index.new result }
 {
     first_with::<Xor, u64, u64>(
         order,

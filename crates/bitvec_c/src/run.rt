@@ -1,11 +1,13 @@
 //! Runs of commands through disjoint spans of one memory.
 
-ghost use Rattle.std.specs.Prelude.{◌≡◌, ◌≢◌, ℕ, ◌+◌, ◌*◌, ◌≤◌, ◌↔◌, IsTrue, [], ◌∷◌, length, map};
+ghost use Rattle.std.specs.Prelude.{◌≡◌, ℕ, ◌+◌, ◌*◌, ◌≤◌, ◌↔◌, IsTrue, [], ◌∷◌, length, map};
 ghost use Rattle.bitvec.specs.Run.{CanRun};
+ghost use Rattle.bitvec_c.specs.Call.{part};
 ghost use Rattle.bitvec_c.specs.Order.{order_at};
 ghost use Rattle.bitvec_c.specs.Plain.{plain_span, AllShort, AllInside, AreCommands};
 ghost use Rattle.bitvec_c.specs.Plain.{IsPlainRun};
-ghost use Rattle.bitvec_c.specs.RunStatus.{IsSpansStatus, IsRunStatus};
+ghost use Rattle.bitvec_c.specs.RunStatus.{IsSpansStatus, IsRunStatus, IsSpansTest, IsRunOf};
+ghost use Rattle.bitvec_c.specs.RunStatus.{IsFirstFailed, spans_conditions, requests_conditions};
 ghost use Rattle.bitvec_c.specs.Status.{ok};
 
 use crate::plain::{
@@ -22,7 +24,7 @@ use bitvec::order::{BitOrder, Lsb0, Msb0};
 use bitvec::run::{Reply, step};
 
 // Whether each range ends within `words` words.
-fn are_inside<R: BitRegister>(spans: &[PlainSpan], words: usize) -> bool
+pub(crate) fn are_inside<R: BitRegister>(spans: &[PlainSpan], words: usize) -> bool
     ensures { IsTrue result ↔ AllInside R.BITS words spans.now }
 {
     spans
@@ -54,6 +56,21 @@ fn test_spans<R: BitRegister>(order: u8, spans: &[PlainSpan], words: usize) -> u
     OK
 }
 
+// The status of requests with `replies` replies.
+pub(crate) fn test_requests(requests: &[PlainRequest], replies: usize) -> u8
+    ensures status { IsFirstFailed (requests_conditions requests.now replies) result }
+    ensures room { result ≡ ok → replies ≡ length requests.now }
+    ensures commands { result ≡ ok → AreCommands requests.now }
+{
+    if replies != requests.len() {
+        return NO_ROOM;
+    }
+    if !are_commands(requests) {
+        return NO_COMMAND;
+    }
+    OK
+}
+
 // The status of a run with `replies` replies.
 fn test_run<R: BitRegister>(
     order: u8,
@@ -72,13 +89,7 @@ fn test_run<R: BitRegister>(
     if status != OK {
         return status;
     }
-    if replies != requests.len() {
-        return NO_ROOM;
-    }
-    if !are_commands(requests) {
-        return NO_COMMAND;
-    }
-    OK
+    test_requests(requests, replies)
 }
 
 // Serves one request.
@@ -125,7 +136,7 @@ fn run_in<R: BitRegister, O: BitOrder<R>>(
 }
 
 // The same under the order of a code.
-fn run_requests<R: BitRegister>(
+pub(crate) fn run_requests<R: BitRegister>(
     order: u8,
     spans: &[PlainSpan],
     memory: &mut [R],
@@ -156,12 +167,8 @@ fn run_plain<R: BitRegister>(
     replies: &mut [PlainReply],
 ) -> u8
     requires narrow { R.BITS ≤ 64 }
-    ensures status { IsRunStatus R.BITS order spans.now (length memory.old) requests.now
-        (length replies.old) result }
-    ensures run { result ≡ ok → IsPlainRun R.BITS (order_at R.BITS order) spans.now
-        (map R.number memory.old) requests.now replies.new (map R.number memory.new) }
-    ensures kept { result ≢ ok → memory.new ≡ memory.old }
-    ensures unanswered { result ≢ ok → replies.new ≡ replies.old }
+    ensures { let at = part R.number R.BITS order 0 in IsRunOf spans.now (at memory.old)
+        (at memory.new) requests.now replies.old replies.new result }
 {
     let count = replies.len();
     let status = test_run::<R>(order, spans, memory.len(), requests, count);
@@ -177,8 +184,7 @@ fn run_plain<R: BitRegister>(
 /// It refuses with `NO_ORDER`, `TOO_MANY_SPANS`, `TOO_LONG`, `OUTSIDE` or `OVERLAP`.
 #[unsafe(no_mangle)]
 pub extern "C" fn bitvec_c_can_run_u8(order: u8, spans: &[PlainSpan], words: usize) -> u8
-    ensures status { IsSpansStatus 8 order spans.now words result }
-    ensures can_run { result ≡ ok → CanRun 8 (plain_span 8) spans.now words }
+    ensures { IsSpansTest 8 (spans_conditions 8 order spans.now words) spans.now words result }
 {
     test_spans::<u8>(order, spans, words)
 }
@@ -189,8 +195,7 @@ pub extern "C" fn bitvec_c_can_run_u8(order: u8, spans: &[PlainSpan], words: usi
 /// It refuses with `NO_ORDER`, `TOO_MANY_SPANS`, `TOO_LONG`, `OUTSIDE` or `OVERLAP`.
 #[unsafe(no_mangle)]
 pub extern "C" fn bitvec_c_can_run_u16(order: u8, spans: &[PlainSpan], words: usize) -> u8
-    ensures status { IsSpansStatus 16 order spans.now words result }
-    ensures can_run { result ≡ ok → CanRun 16 (plain_span 16) spans.now words }
+    ensures { IsSpansTest 16 (spans_conditions 16 order spans.now words) spans.now words result }
 {
     test_spans::<u16>(order, spans, words)
 }
@@ -201,8 +206,7 @@ pub extern "C" fn bitvec_c_can_run_u16(order: u8, spans: &[PlainSpan], words: us
 /// It refuses with `NO_ORDER`, `TOO_MANY_SPANS`, `TOO_LONG`, `OUTSIDE` or `OVERLAP`.
 #[unsafe(no_mangle)]
 pub extern "C" fn bitvec_c_can_run_u32(order: u8, spans: &[PlainSpan], words: usize) -> u8
-    ensures status { IsSpansStatus 32 order spans.now words result }
-    ensures can_run { result ≡ ok → CanRun 32 (plain_span 32) spans.now words }
+    ensures { IsSpansTest 32 (spans_conditions 32 order spans.now words) spans.now words result }
 {
     test_spans::<u32>(order, spans, words)
 }
@@ -213,8 +217,7 @@ pub extern "C" fn bitvec_c_can_run_u32(order: u8, spans: &[PlainSpan], words: us
 /// It refuses with `NO_ORDER`, `TOO_MANY_SPANS`, `TOO_LONG`, `OUTSIDE` or `OVERLAP`.
 #[unsafe(no_mangle)]
 pub extern "C" fn bitvec_c_can_run_u64(order: u8, spans: &[PlainSpan], words: usize) -> u8
-    ensures status { IsSpansStatus 64 order spans.now words result }
-    ensures can_run { result ≡ ok → CanRun 64 (plain_span 64) spans.now words }
+    ensures { IsSpansTest 64 (spans_conditions 64 order spans.now words) spans.now words result }
 {
     test_spans::<u64>(order, spans, words)
 }
@@ -232,12 +235,8 @@ pub extern "C" fn bitvec_c_run_u8(
     requests: &[PlainRequest],
     replies: &mut [PlainReply],
 ) -> u8
-    ensures status { IsRunStatus 8 order spans.now (length memory.old) requests.now
-        (length replies.old) result }
-    ensures run { result ≡ ok → IsPlainRun 8 (order_at 8 order) spans.now memory.old
-        requests.now replies.new memory.new }
-    ensures kept { result ≢ ok → memory.new ≡ memory.old }
-    ensures unanswered { result ≢ ok → replies.new ≡ replies.old }
+    ensures { let at = part (λ n. n) 8 order 0 in IsRunOf spans.now (at memory.old)
+        (at memory.new) requests.now replies.old replies.new result }
 {
     run_plain(order, spans, memory, requests, replies)
 }
@@ -255,12 +254,8 @@ pub extern "C" fn bitvec_c_run_u16(
     requests: &[PlainRequest],
     replies: &mut [PlainReply],
 ) -> u8
-    ensures status { IsRunStatus 16 order spans.now (length memory.old) requests.now
-        (length replies.old) result }
-    ensures run { result ≡ ok → IsPlainRun 16 (order_at 16 order) spans.now memory.old
-        requests.now replies.new memory.new }
-    ensures kept { result ≢ ok → memory.new ≡ memory.old }
-    ensures unanswered { result ≢ ok → replies.new ≡ replies.old }
+    ensures { let at = part (λ n. n) 16 order 0 in IsRunOf spans.now (at memory.old)
+        (at memory.new) requests.now replies.old replies.new result }
 {
     run_plain(order, spans, memory, requests, replies)
 }
@@ -278,12 +273,8 @@ pub extern "C" fn bitvec_c_run_u32(
     requests: &[PlainRequest],
     replies: &mut [PlainReply],
 ) -> u8
-    ensures status { IsRunStatus 32 order spans.now (length memory.old) requests.now
-        (length replies.old) result }
-    ensures run { result ≡ ok → IsPlainRun 32 (order_at 32 order) spans.now memory.old
-        requests.now replies.new memory.new }
-    ensures kept { result ≢ ok → memory.new ≡ memory.old }
-    ensures unanswered { result ≢ ok → replies.new ≡ replies.old }
+    ensures { let at = part (λ n. n) 32 order 0 in IsRunOf spans.now (at memory.old)
+        (at memory.new) requests.now replies.old replies.new result }
 {
     run_plain(order, spans, memory, requests, replies)
 }
@@ -301,12 +292,8 @@ pub extern "C" fn bitvec_c_run_u64(
     requests: &[PlainRequest],
     replies: &mut [PlainReply],
 ) -> u8
-    ensures status { IsRunStatus 64 order spans.now (length memory.old) requests.now
-        (length replies.old) result }
-    ensures run { result ≡ ok → IsPlainRun 64 (order_at 64 order) spans.now memory.old
-        requests.now replies.new memory.new }
-    ensures kept { result ≢ ok → memory.new ≡ memory.old }
-    ensures unanswered { result ≢ ok → replies.new ≡ replies.old }
+    ensures { let at = part (λ n. n) 64 order 0 in IsRunOf spans.now (at memory.old)
+        (at memory.new) requests.now replies.old replies.new result }
 {
     run_plain(order, spans, memory, requests, replies)
 }

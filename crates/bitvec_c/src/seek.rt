@@ -3,11 +3,10 @@
 ghost use Rattle.std.specs.Prelude.{◌≡◌, ◌+◌, ◌*◌, ◌≤◌, not, length, map};
 ghost use Rattle.bitvec.specs.Place.{region_max_bits};
 ghost use Rattle.bitvec_slice.specs.Bits.{BeginsWith};
-ghost use Rattle.bitvec_c.specs.Call.{IsCall};
+ghost use Rattle.bitvec_c.specs.Call.{part, IsAnswer};
 ghost use Rattle.bitvec_c.specs.Order.{order_at};
 ghost use Rattle.bitvec_c.specs.Range.{range_bits};
 ghost use Rattle.bitvec_c.specs.Seek.{IsLastOr, IsFreeOr};
-ghost use Rattle.bitvec_c.specs.Status.{range_status};
 
 use crate::range::bits;
 use crate::status::{LSB0, OK, test_range};
@@ -57,10 +56,8 @@ fn first<R: BitRegister>(
     bit: bool,
     index: &mut usize,
 ) -> u8
-    ensures { IsCall (range_status R.BITS order (length memory.now) start count)
-        (BeginsWith (not bit) (range_bits R.BITS (order_at R.BITS order) start count
-        (map R.number memory.now)) index.new)
-        (index.new ≡ index.old) result }
+    ensures { IsAnswer (part R.number R.BITS order start memory.now) count (λ xs. BeginsWith
+        (not bit) xs index.new) (index.new ≡ index.old) result }
 {
     let status = test_range::<R>(order, memory.len(), start, count);
     if status == OK {
@@ -118,10 +115,8 @@ fn last<R: BitRegister>(
     bit: bool,
     index: &mut usize,
 ) -> u8
-    ensures { IsCall (range_status R.BITS order (length memory.now) start count)
-        (IsLastOr bit (range_bits R.BITS (order_at R.BITS order) start count
-        (map R.number memory.now)) count index.new)
-        (index.new ≡ index.old) result }
+    ensures { IsAnswer (part R.number R.BITS order start memory.now) count (λ xs. IsLastOr bit
+        xs count index.new) (index.new ≡ index.old) result }
 {
     let status = test_range::<R>(order, memory.len(), start, count);
     if status == OK {
@@ -179,10 +174,8 @@ fn find_zeros<R: BitRegister>(
     zeros: usize,
     index: &mut usize,
 ) -> u8
-    ensures { IsCall (range_status R.BITS order (length memory.now) start count)
-        (IsFreeOr zeros (range_bits R.BITS (order_at R.BITS order) start count
-        (map R.number memory.now)) count index.new)
-        (index.new ≡ index.old) result }
+    ensures { IsAnswer (part R.number R.BITS order start memory.now) count (λ xs. IsFreeOr zeros
+        xs count index.new) (index.new ≡ index.old) result }
 {
     let status = test_range::<R>(order, memory.len(), start, count);
     if status == OK {
@@ -204,9 +197,8 @@ pub extern "C" fn bitvec_c_first_u8(
     bit: bool,
     index: &mut usize,
 ) -> u8
-    ensures { IsCall (range_status 8 order (length memory.now) start count)
-        (BeginsWith (not bit) (range_bits 8 (order_at 8 order) start count memory.now) index.new)
-        (index.new ≡ index.old) result }
+    ensures { IsAnswer (part (λ n. n) 8 order start memory.now) count (λ xs. BeginsWith (not
+        bit) xs index.new) (index.new ≡ index.old) result }
 {
     first(order, memory, start, count, bit, index)
 }
@@ -224,9 +216,8 @@ pub extern "C" fn bitvec_c_first_u16(
     bit: bool,
     index: &mut usize,
 ) -> u8
-    ensures { IsCall (range_status 16 order (length memory.now) start count)
-        (BeginsWith (not bit) (range_bits 16 (order_at 16 order) start count memory.now) index.new)
-        (index.new ≡ index.old) result }
+    ensures { IsAnswer (part (λ n. n) 16 order start memory.now) count (λ xs. BeginsWith (not
+        bit) xs index.new) (index.new ≡ index.old) result }
 {
     first(order, memory, start, count, bit, index)
 }
@@ -244,9 +235,8 @@ pub extern "C" fn bitvec_c_first_u32(
     bit: bool,
     index: &mut usize,
 ) -> u8
-    ensures { IsCall (range_status 32 order (length memory.now) start count)
-        (BeginsWith (not bit) (range_bits 32 (order_at 32 order) start count memory.now) index.new)
-        (index.new ≡ index.old) result }
+    ensures { IsAnswer (part (λ n. n) 32 order start memory.now) count (λ xs. BeginsWith (not
+        bit) xs index.new) (index.new ≡ index.old) result }
 {
     first(order, memory, start, count, bit, index)
 }
@@ -264,9 +254,8 @@ pub extern "C" fn bitvec_c_first_u64(
     bit: bool,
     index: &mut usize,
 ) -> u8
-    ensures { IsCall (range_status 64 order (length memory.now) start count)
-        (BeginsWith (not bit) (range_bits 64 (order_at 64 order) start count memory.now) index.new)
-        (index.new ≡ index.old) result }
+    ensures { IsAnswer (part (λ n. n) 64 order start memory.now) count (λ xs. BeginsWith (not
+        bit) xs index.new) (index.new ≡ index.old) result }
 {
     first(order, memory, start, count, bit, index)
 }
@@ -284,9 +273,8 @@ pub extern "C" fn bitvec_c_last_u8(
     bit: bool,
     index: &mut usize,
 ) -> u8
-    ensures { IsCall (range_status 8 order (length memory.now) start count)
-        (IsLastOr bit (range_bits 8 (order_at 8 order) start count memory.now) count index.new)
-        (index.new ≡ index.old) result }
+    ensures { IsAnswer (part (λ n. n) 8 order start memory.now) count (λ xs. IsLastOr bit xs
+        count index.new) (index.new ≡ index.old) result }
 {
     last(order, memory, start, count, bit, index)
 }
@@ -304,9 +292,8 @@ pub extern "C" fn bitvec_c_last_u16(
     bit: bool,
     index: &mut usize,
 ) -> u8
-    ensures { IsCall (range_status 16 order (length memory.now) start count)
-        (IsLastOr bit (range_bits 16 (order_at 16 order) start count memory.now) count index.new)
-        (index.new ≡ index.old) result }
+    ensures { IsAnswer (part (λ n. n) 16 order start memory.now) count (λ xs. IsLastOr bit xs
+        count index.new) (index.new ≡ index.old) result }
 {
     last(order, memory, start, count, bit, index)
 }
@@ -324,9 +311,8 @@ pub extern "C" fn bitvec_c_last_u32(
     bit: bool,
     index: &mut usize,
 ) -> u8
-    ensures { IsCall (range_status 32 order (length memory.now) start count)
-        (IsLastOr bit (range_bits 32 (order_at 32 order) start count memory.now) count index.new)
-        (index.new ≡ index.old) result }
+    ensures { IsAnswer (part (λ n. n) 32 order start memory.now) count (λ xs. IsLastOr bit xs
+        count index.new) (index.new ≡ index.old) result }
 {
     last(order, memory, start, count, bit, index)
 }
@@ -344,9 +330,8 @@ pub extern "C" fn bitvec_c_last_u64(
     bit: bool,
     index: &mut usize,
 ) -> u8
-    ensures { IsCall (range_status 64 order (length memory.now) start count)
-        (IsLastOr bit (range_bits 64 (order_at 64 order) start count memory.now) count index.new)
-        (index.new ≡ index.old) result }
+    ensures { IsAnswer (part (λ n. n) 64 order start memory.now) count (λ xs. IsLastOr bit xs
+        count index.new) (index.new ≡ index.old) result }
 {
     last(order, memory, start, count, bit, index)
 }
@@ -364,9 +349,8 @@ pub extern "C" fn bitvec_c_find_zeros_u8(
     zeros: usize,
     index: &mut usize,
 ) -> u8
-    ensures { IsCall (range_status 8 order (length memory.now) start count)
-        (IsFreeOr zeros (range_bits 8 (order_at 8 order) start count memory.now) count index.new)
-        (index.new ≡ index.old) result }
+    ensures { IsAnswer (part (λ n. n) 8 order start memory.now) count (λ xs. IsFreeOr zeros xs
+        count index.new) (index.new ≡ index.old) result }
 {
     find_zeros(order, memory, start, count, zeros, index)
 }
@@ -384,9 +368,8 @@ pub extern "C" fn bitvec_c_find_zeros_u16(
     zeros: usize,
     index: &mut usize,
 ) -> u8
-    ensures { IsCall (range_status 16 order (length memory.now) start count)
-        (IsFreeOr zeros (range_bits 16 (order_at 16 order) start count memory.now) count index.new)
-        (index.new ≡ index.old) result }
+    ensures { IsAnswer (part (λ n. n) 16 order start memory.now) count (λ xs. IsFreeOr zeros xs
+        count index.new) (index.new ≡ index.old) result }
 {
     find_zeros(order, memory, start, count, zeros, index)
 }
@@ -404,9 +387,8 @@ pub extern "C" fn bitvec_c_find_zeros_u32(
     zeros: usize,
     index: &mut usize,
 ) -> u8
-    ensures { IsCall (range_status 32 order (length memory.now) start count)
-        (IsFreeOr zeros (range_bits 32 (order_at 32 order) start count memory.now) count index.new)
-        (index.new ≡ index.old) result }
+    ensures { IsAnswer (part (λ n. n) 32 order start memory.now) count (λ xs. IsFreeOr zeros xs
+        count index.new) (index.new ≡ index.old) result }
 {
     find_zeros(order, memory, start, count, zeros, index)
 }
@@ -424,9 +406,8 @@ pub extern "C" fn bitvec_c_find_zeros_u64(
     zeros: usize,
     index: &mut usize,
 ) -> u8
-    ensures { IsCall (range_status 64 order (length memory.now) start count)
-        (IsFreeOr zeros (range_bits 64 (order_at 64 order) start count memory.now) count index.new)
-        (index.new ≡ index.old) result }
+    ensures { IsAnswer (part (λ n. n) 64 order start memory.now) count (λ xs. IsFreeOr zeros xs
+        count index.new) (index.new ≡ index.old) result }
 {
     find_zeros(order, memory, start, count, zeros, index)
 }

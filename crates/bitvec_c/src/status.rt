@@ -28,7 +28,7 @@ pub(crate) const TOO_WIDE: u8 = 5;
 /// Two spans of a run have a bit in common.
 pub(crate) const OVERLAP: u8 = 6;
 
-/// A run has not as many replies as requests.
+/// A run has not as many replies as requests, or room for the numbers of its spans.
 pub(crate) const NO_ROOM: u8 = 7;
 
 /// The code of a request's command is that of no command.

@@ -60,16 +60,10 @@ impl<T: Register, O: Order> BitSlice<'_, T, O> {
             let found = self.ask(words, other, len, T::first_difference);
             return (found < len).then_some(found);
         }
-        let mut from = 0;
-        while from < len {
-            let count = self.ahead(from).min(len - from);
-            let differing = self.window(from, count) ^ other.window(from, count);
-            if differing != 0 {
-                return Some(from + differing.trailing_zeros() as usize);
-            }
-            from += count;
-        }
-        None
+        let (_, start) = self.place();
+        let one = (&self.seen(), start);
+        let found = granted(T2::difference(O::CODE, one, O2::CODE, other.place(), len));
+        (found < len).then_some(found)
     }
 
     /// How the bits compare with those of another slice, as two lists of `bool` do: at the first

@@ -55,9 +55,11 @@ impl<T: Register, O: Order> BitSliceMut<'_, T, O> {
     /// # Ok::<(), worghulen::Refusal>(())
     /// ```
     pub fn replace(&mut self, index: usize, bit: bool) -> Result<bool, Refusal> {
-        let old = self.get(index).ok_or(Refusal::Outside)?;
-        self.set(index, bit)?;
-        Ok(old)
+        if index >= self.len() {
+            return Err(Refusal::Outside);
+        }
+        let (words, start) = self.place_mut();
+        T::replace(O::CODE, words, start + index, bit)
     }
 
     /// Exchanges two bits. Constant time.
@@ -77,9 +79,11 @@ impl<T: Register, O: Order> BitSliceMut<'_, T, O> {
     /// # Ok::<(), worghulen::Refusal>(())
     /// ```
     pub fn swap(&mut self, i: usize, j: usize) -> Result<(), Refusal> {
-        let there = self.get(j).ok_or(Refusal::Outside)?;
-        let here = self.replace(i, there)?;
-        self.set(j, here)
+        if i >= self.len() || j >= self.len() {
+            return Err(Refusal::Outside);
+        }
+        let (words, start) = self.place_mut();
+        T::swap(O::CODE, words, start + i, start + j)
     }
 
     /// Makes every bit the same as `bit`. Costs by words.
@@ -141,7 +145,7 @@ impl<T: Register, O: Order> BitSliceMut<'_, T, O> {
     pub fn store_le<N: Number>(&mut self, number: N) -> Result<(), Refusal> {
         let len = self.len();
         let (words, start) = self.place_mut();
-        T::store(O::CODE, false, words, start, len, number.digits())
+        number.store(O::CODE, false, words, start, len)
     }
 
     /// Makes the bits the lowest digits of a number, as many as there are bits, so that
@@ -165,7 +169,7 @@ impl<T: Register, O: Order> BitSliceMut<'_, T, O> {
     pub fn store_be<N: Number>(&mut self, number: N) -> Result<(), Refusal> {
         let len = self.len();
         let (words, start) = self.place_mut();
-        T::store(O::CODE, true, words, start, len, number.digits())
+        number.store(O::CODE, true, words, start, len)
     }
 
     /// Makes the bits the same as those of another slice, of any words and order. Costs by words.

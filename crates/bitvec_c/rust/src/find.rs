@@ -122,6 +122,34 @@ impl<T: Register, O: Order> BitSlice<'_, T, O> {
         self.found(granted(T::last(O::CODE, words, start, self.len(), bit)))
     }
 
+    /// The index of the first bit that is `bit` from an index on.
+    #[inline]
+    fn next_of(&self, from: usize, bit: bool) -> Option<usize> {
+        let (words, start) = self.place();
+        self.found(granted(T::next(
+            O::CODE,
+            words,
+            start,
+            self.len(),
+            from,
+            bit,
+        )))
+    }
+
+    /// The index of the last bit that is `bit` before an index.
+    #[inline]
+    fn previous_of(&self, before: usize, bit: bool) -> Option<usize> {
+        let (words, start) = self.place();
+        self.found(granted(T::previous(
+            O::CODE,
+            words,
+            start,
+            self.len(),
+            before,
+            bit,
+        )))
+    }
+
     /// The index of the first bit that is one from an index on, and `None` where there is none.
     /// Costs by words, up to that bit.
     ///
@@ -137,7 +165,7 @@ impl<T: Register, O: Order> BitSlice<'_, T, O> {
     /// ```
     #[must_use]
     pub fn next_one(&self, from: usize) -> Option<usize> {
-        Some(from + self.get(from..)?.first_one()?)
+        self.next_of(from, true)
     }
 
     /// The index of the first bit that is zero from an index on, and `None` where there is none.
@@ -152,11 +180,11 @@ impl<T: Register, O: Order> BitSlice<'_, T, O> {
     /// ```
     #[must_use]
     pub fn next_zero(&self, from: usize) -> Option<usize> {
-        Some(from + self.get(from..)?.first_zero()?)
+        self.next_of(from, false)
     }
 
-    /// The index of the last bit that is one before an index, and `None` where there is none, or
-    /// the index is past the length. Costs by words, down to that bit.
+    /// The index of the last bit that is one before an index, and `None` where there is none. An
+    /// index past the length is taken as the length. Costs by words, down to that bit.
     ///
     /// # Examples
     ///
@@ -167,11 +195,11 @@ impl<T: Register, O: Order> BitSlice<'_, T, O> {
     /// ```
     #[must_use]
     pub fn previous_one(&self, before: usize) -> Option<usize> {
-        self.get(..before)?.last_one()
+        self.previous_of(before, true)
     }
 
-    /// The index of the last bit that is zero before an index, and `None` where there is none, or
-    /// the index is past the length. Costs by words, down to that bit.
+    /// The index of the last bit that is zero before an index, and `None` where there is none. An
+    /// index past the length is taken as the length. Costs by words, down to that bit.
     ///
     /// # Examples
     ///
@@ -182,7 +210,7 @@ impl<T: Register, O: Order> BitSlice<'_, T, O> {
     /// ```
     #[must_use]
     pub fn previous_zero(&self, before: usize) -> Option<usize> {
-        self.get(..before)?.last_zero()
+        self.previous_of(before, false)
     }
 
     /// The first index from which on `count` bits are zero, and `None` where there is none: a free
@@ -204,6 +232,34 @@ impl<T: Register, O: Order> BitSlice<'_, T, O> {
         let found = granted(T::find_zeros(O::CODE, words, start, self.len(), count));
         // (a run of no bits may start behind the last)
         (count == 0 || found < self.len()).then_some(found)
+    }
+
+    /// The first index, not before `from` and a multiple of `multiple_of`, from which on `count` bits
+    /// are zero, and `None` where there is none. A `multiple_of` of 0 is taken as 1. Costs as
+    /// [`find_zeros`](Self::find_zeros), and once more for each run that is long enough, but not from
+    /// a multiple on.
+    ///
+    /// # Examples
+    ///
+    /// ```
+    /// use worghulen::{BitView, Lsb0};
+    ///
+    /// let words = [0x03_u8, 0x10];
+    /// let bits = words.view_bits::<Lsb0>();
+    /// assert_eq!(bits.find_zeros_from(0, 3, 1), Some(2));
+    /// assert_eq!(bits.find_zeros_from(0, 3, 4), Some(4));
+    /// assert_eq!(bits.find_zeros_from(10, 3, 4), None);
+    /// ```
+    #[must_use]
+    pub fn find_zeros_from(&self, from: usize, count: usize, multiple_of: usize) -> Option<usize> {
+        let (words, start) = self.place();
+        let len = self.len();
+        let range = (start, len);
+        let found = T::find_zeros_from(O::CODE, words, range, from, count, multiple_of);
+        let found = granted(found);
+        // (a run of no bits may start behind the last)
+        let ends = count == 0 && from <= len && len % multiple_of.max(1) == 0;
+        (found < len || ends).then_some(found)
     }
 
     /// How many zeros stand before the first one. Costs by words, up to that bit.

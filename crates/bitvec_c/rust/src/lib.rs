@@ -35,9 +35,10 @@ pub use number::Number;
 pub use order::{Lsb0, Msb0, Order};
 pub use refusal::Refusal;
 pub use register::Register;
-pub use run::{Command, Reply, Request, Spans};
+pub use run::{Command, ManySpans, Reply, Request, Spans};
 pub use slice::BitSlice;
 pub use slice_mut::{BitSliceMut, copy_bits};
+pub use sys::Span;
 pub use view::BitView;
 
 /// The number of the version of the static library that this crate is written for: 10000 times its
@@ -48,7 +49,7 @@ pub use view::BitView;
 /// ```
 /// assert_eq!(worghulen::archive_version(), worghulen::VERSION);
 /// ```
-pub const VERSION: u32 = 200;
+pub const VERSION: u32 = 300;
 
 /// The number of the version of the static library that is linked, to be compared with [`VERSION`].
 /// Constant time.
@@ -56,7 +57,7 @@ pub const VERSION: u32 = 200;
 /// # Examples
 ///
 /// ```
-/// assert_eq!(worghulen::archive_version(), 200);
+/// assert_eq!(worghulen::archive_version(), 300);
 /// ```
 #[must_use]
 pub fn archive_version() -> u32 {

@@ -1,5 +1,8 @@
 //! The types of numbers that stand in ranges of bits.
 
+use crate::refusal::Refusal;
+use crate::sys::Exports;
+
 /// A number of at most 64 bits: `u8` to `u64`, `usize`, `i8` to `i64`, `isize`, and no other.
 ///
 /// # Examples
@@ -16,63 +19,68 @@
 pub trait Number: digits::Digits + Copy {}
 
 pub(crate) mod digits {
-    /// A number as digits. Nothing outside this crate can name it.
+    use crate::refusal::Refusal;
+    use crate::sys::Exports;
+
+    /// A number, and the exports that take one of its kind: those of signed numbers where it is
+    /// signed. Nothing outside this crate can name it.
     pub trait Digits: Sized {
         /// How many digits a number of this type has.
         const WIDTH: usize;
 
-        /// The number of `count` digits, at most its width; where it is signed, in two's
-        /// complement.
-        fn of_digits(digits: u64, count: usize) -> Self;
+        /// The number of so many bits, at most its width.
+        fn load<T: Exports>(
+            order: u8,
+            big: bool,
+            words: &[T],
+            start: usize,
+            count: usize,
+        ) -> Result<Self, Refusal>;
 
-        /// The digits of the number, which where it is signed go on as its sign.
-        fn digits(self) -> u64;
+        /// Makes so many bits its lowest digits.
+        fn store<T: Exports>(
+            self,
+            order: u8,
+            big: bool,
+            words: &mut [T],
+            start: usize,
+            count: usize,
+        ) -> Result<(), Refusal>;
     }
-}
-
-/// The two's complement number of `count` digits.
-#[inline]
-fn signed(digits: u64, count: usize) -> i64 {
-    if count == 0 {
-        return 0;
-    }
-    let past = 64 - count;
-    i64::from_ne_bytes((digits << past).to_ne_bytes()) >> past
 }
 
 macro_rules! numbers {
-    ($($t:ident: $wide:ident by $of:expr;)*) => { $(
+    ($($t:ident: $wide:ident by $load:ident, $store:ident;)*) => { $(
         impl Number for $t {}
 
+        #[allow(clippy::cast_possible_truncation)] // (no digit stands past the width)
+        #[allow(clippy::cast_lossless, clippy::unnecessary_cast)]
         impl digits::Digits for $t {
             const WIDTH: usize = $t::BITS as usize;
 
             #[inline]
-            #[allow(clippy::cast_possible_truncation)] // (no digit stands past `count`)
-            #[allow(clippy::unnecessary_cast)]
-            fn of_digits(digits: u64, count: usize) -> Self {
-                let wide: $wide = $of(digits, count);
-                wide as Self
+            fn load<T: Exports>(order: u8, big: bool, words: &[T], start: usize, count: usize) -> Result<Self, Refusal> {
+                let wide = T::$load(order, big, words, start, count)?;
+                Ok(wide as Self)
             }
 
             #[inline]
-            #[allow(clippy::cast_lossless, clippy::unnecessary_cast)]
-            fn digits(self) -> u64 {
-                u64::from_ne_bytes((self as $wide).to_ne_bytes())
+            fn store<T: Exports>(self, order: u8, big: bool, words: &mut [T], start: usize, count: usize) -> Result<(), Refusal> {
+                T::$store(order, big, words, start, count, self as $wide)
             }
         }
     )* };
 }
 
 numbers! {
-    u8: u64 by |digits, _| digits;
-    u16: u64 by |digits, _| digits;
-    u32: u64 by |digits, _| digits;
-    u64: u64 by |digits, _| digits;
-    usize: u64 by |digits, _| digits;
-    i8: i64 by signed;
-    i16: i64 by signed;
-    i32: i64 by signed;
-    i64: i64 by signed;
-    isize: i64 by signed;
+    u8: u64 by load, store;
+    u16: u64 by load, store;
+    u32: u64 by load, store;
+    u64: u64 by load, store;
+    usize: u64 by load, store;
+    i8: i64 by load_signed, store_signed;
+    i16: i64 by load_signed, store_signed;
+    i32: i64 by load_signed, store_signed;
+    i64: i64 by load_signed, store_signed;
+    isize: i64 by load_signed, store_signed;
 }

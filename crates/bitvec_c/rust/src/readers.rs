@@ -47,6 +47,7 @@ readers! {
     #[must_use] previous_one(before: usize) -> Option<usize>;
     #[must_use] previous_zero(before: usize) -> Option<usize>;
     #[must_use] find_zeros(count: usize) -> Option<usize>;
+    #[must_use] find_zeros_from(from: usize, count: usize, multiple_of: usize) -> Option<usize>;
     #[must_use] any() -> bool;
     #[must_use] not_any() -> bool;
     #[must_use] all() -> bool;

@@ -29,7 +29,7 @@ pub enum Refusal {
     TooWide,
     /// Two spans of a run have a bit in common.
     Overlap,
-    /// A run has not as many replies as requests.
+    /// A run has not as many replies as requests, or room for the numbers of its spans.
     NoRoom,
     /// The command of a request is none. The types of this crate rule it out.
     NoCommand,
@@ -80,7 +80,7 @@ impl Display for Refusal {
             Self::Outside => "a range does not lie in its memory",
             Self::TooWide => "a number is to have more bits than its type",
             Self::Overlap => "two spans of a run have a bit in common",
-            Self::NoRoom => "a run has not as many replies as requests",
+            Self::NoRoom => "a run has no room for all replies or spans",
             Self::NoCommand => "the command of a request is none",
             Self::Reversed => "a range starts past its end",
             Self::Lengths => "the slices have different lengths",

@@ -4,7 +4,7 @@ use crate::order::Order;
 use crate::range::length;
 use crate::refusal::Refusal;
 use crate::register::Register;
-use crate::sys;
+use crate::sys::{self, Span};
 use core::fmt::{self, Debug, Formatter};
 use core::marker::PhantomData;
 use core::ops::Range;
@@ -149,7 +149,7 @@ pub enum Reply {
 #[derive(Clone, PartialEq, Eq, Hash)]
 pub struct Spans<O> {
     /// The spans, and behind them empty ones.
-    list: [sys::Span; MAX_SPANS],
+    list: [Span; MAX_SPANS],
     count: usize,
     order: PhantomData<O>,
 }
@@ -181,11 +181,11 @@ impl<O: Order> Spans<O> {
     /// assert_eq!(Spans::<Lsb0>::new(&vec![0..0; 65]), Err(Refusal::TooManySpans));
     /// ```
     pub fn new(ranges: &[Range<usize>]) -> Result<Self, Refusal> {
-        let mut list = [sys::Span::default(); MAX_SPANS];
+        let mut list = [Span::default(); MAX_SPANS];
         let count = ranges.len();
         let own = list.get_mut(..count).ok_or(Refusal::TooManySpans)?;
         for (own, range) in own.iter_mut().zip(ranges) {
-            *own = span(range)?;
+            *own = Span::new(range.clone())?;
         }
         Ok(Self {
             list,
@@ -195,7 +195,7 @@ impl<O: Order> Spans<O> {
     }
 
     /// The spans, as the library has them.
-    fn own(&self) -> &[sys::Span] {
+    fn own(&self) -> &[Span] {
         &self.list[..self.count]
     }
 
@@ -260,19 +260,9 @@ impl<O: Order> Spans<O> {
         }
         // (also where there are no requests)
         self.can_run(words)?;
-        let mut asked = [sys::Request::default(); AT_ONCE];
-        let mut answers = [sys::Reply::default(); AT_ONCE];
-        for (requests, replies) in requests.chunks(AT_ONCE).zip(replies.chunks_mut(AT_ONCE)) {
-            for (own, request) in asked.iter_mut().zip(requests) {
-                *own = own_request(request);
-            }
-            let (asked, answers) = (&asked[..requests.len()], &mut answers[..requests.len()]);
-            T::run(O::CODE, self.own(), words, asked, answers)?;
-            for (reply, answer) in replies.iter_mut().zip(answers) {
-                *reply = answered(*answer)?;
-            }
-        }
-        Ok(())
+        in_turn(requests, replies, |asked, answers| {
+            T::run(O::CODE, self.own(), words, asked, answers)
+        })
     }
 
     /// Serves one request, as [`run`](Self::run) does.
@@ -306,13 +296,179 @@ impl<O: Order> Spans<O> {
     }
 }
 
-/// A range as the library has it.
-fn span(range: &Range<usize>) -> Result<sys::Span, Refusal> {
-    let count = length(range.start, range.end)?;
-    Ok(sys::Span {
-        start: range.start,
-        count,
-    })
+impl Span {
+    /// The span of a range of places. Constant time.
+    ///
+    /// # Errors
+    ///
+    /// [`Refusal::Reversed`] where the range starts past its end, and [`Refusal::TooLong`] where it
+    /// has too many bits.
+    pub fn new(range: Range<usize>) -> Result<Self, Refusal> {
+        let count = length(range.start, range.end)?;
+        Ok(Self {
+            start: range.start,
+            count,
+        })
+    }
+}
+
+/// Any number of ranges of places through which a memory gets commands, with room for the number of
+/// each, which a test puts in the order in which they start. So the test of n spans costs n log n.
+///
+/// # Examples
+///
+/// ```
+/// use worghulen::{Command, Lsb0, ManySpans, Refusal, Reply, Request, Span};
+///
+/// // A hundred spans of three places each.
+/// let spans: Vec<Span> = (0..100).map(|i| Span { start: 4 * i, count: 3 }).collect();
+/// let mut room = vec![0; 100];
+/// let mut words = [0_u64; 7];
+/// let requests = [Request { span: 99, command: Command::Set(0) }];
+/// let mut replies = [Reply::Done];
+/// let mut many = ManySpans::<Lsb0>::new(&spans, &mut room)?;
+/// many.run(&mut words, &requests, &mut replies)?;
+/// assert_eq!(words[6], 0b111 << 12);
+/// # Ok::<(), Refusal>(())
+/// ```
+#[derive(Debug)]
+pub struct ManySpans<'a, O> {
+    list: &'a [Span],
+    room: &'a mut [usize],
+    order: PhantomData<O>,
+}
+
+impl<'a, O: Order> ManySpans<'a, O> {
+    /// The spans of a list, whose numbers are their indices there. Constant time.
+    ///
+    /// # Errors
+    ///
+    /// [`Refusal::NoRoom`] where there are not as many numbers of room as spans.
+    ///
+    /// # Examples
+    ///
+    /// ```
+    /// use worghulen::{Lsb0, ManySpans, Refusal, Span};
+    ///
+    /// let list = [Span::new(0..3)?, Span::new(3..8)?];
+    /// assert!(ManySpans::<Lsb0>::new(&list, &mut [0; 2]).is_ok());
+    /// assert_eq!(ManySpans::<Lsb0>::new(&list, &mut [0]).err(), Some(Refusal::NoRoom));
+    /// # Ok::<(), Refusal>(())
+    /// ```
+    pub fn new(list: &'a [Span], room: &'a mut [usize]) -> Result<Self, Refusal> {
+        if list.len() != room.len() {
+            return Err(Refusal::NoRoom);
+        }
+        Ok(Self {
+            list,
+            room,
+            order: PhantomData,
+        })
+    }
+
+    /// The numbers of the spans, each once, in the order in which they start, where a test has found
+    /// that each lies in its memory; before that, what stood in the room. Constant time.
+    ///
+    /// # Examples
+    ///
+    /// ```
+    /// use worghulen::{Lsb0, ManySpans, Span};
+    ///
+    /// let list = [Span::new(3..8)?, Span::new(0..3)?];
+    /// let mut room = [0; 2];
+    /// let mut many = ManySpans::<Lsb0>::new(&list, &mut room)?;
+    /// many.can_run(&[0_u8])?;
+    /// assert_eq!(many.in_order(), [1, 0]);
+    /// # Ok::<(), worghulen::Refusal>(())
+    /// ```
+    #[must_use]
+    pub fn in_order(&self) -> &[usize] {
+        self.room
+    }
+
+    /// Tests that each span lies within the words, and that no two have a bit in common: what
+    /// [`run`](Self::run) wants of them. Costs n log n for n spans.
+    ///
+    /// # Errors
+    ///
+    /// [`Refusal::TooLong`] where a span has too many bits, otherwise [`Refusal::Outside`] where one
+    /// ends past the last bit, otherwise [`Refusal::Overlap`].
+    ///
+    /// # Examples
+    ///
+    /// ```
+    /// use worghulen::{Lsb0, ManySpans, Refusal, Span};
+    ///
+    /// let list = [Span::new(3..8)?, Span::new(0..4)?];
+    /// let mut room = [0; 2];
+    /// let mut many = ManySpans::<Lsb0>::new(&list, &mut room)?;
+    /// assert_eq!(many.can_run(&[0_u8]), Err(Refusal::Overlap));
+    /// # Ok::<(), Refusal>(())
+    /// ```
+    pub fn can_run<T: Register>(&mut self, words: &[T]) -> Result<(), Refusal> {
+        T::can_run_in(O::CODE, self.list, words.len(), self.room)
+    }
+
+    /// Gives the spans the commands of the requests, as [`Spans::run`] does. Costs what the commands
+    /// cost, and a test of the spans for each 64 requests. It allocates nothing.
+    ///
+    /// # Errors
+    ///
+    /// [`Refusal::NoRoom`] where there are not as many replies as requests, otherwise as
+    /// [`can_run`](Self::can_run). Nothing is changed then, but for the room, and no reply is
+    /// written.
+    ///
+    /// # Examples
+    ///
+    /// ```
+    /// use worghulen::{Command, Lsb0, ManySpans, Reply, Request, Span};
+    ///
+    /// let list = [Span::new(0..3)?, Span::new(3..8)?];
+    /// let mut room = [0; 2];
+    /// let mut words = [0x5a_u8];
+    /// let requests = [Request { span: 1, command: Command::Invert(0) }];
+    /// let mut replies = [Reply::Done];
+    /// let mut many = ManySpans::<Lsb0>::new(&list, &mut room)?;
+    /// many.run(&mut words, &requests, &mut replies)?;
+    /// assert_eq!((words, replies), ([0xa2], [Reply::Word(0x58)]));
+    /// # Ok::<(), worghulen::Refusal>(())
+    /// ```
+    pub fn run<T: Register>(
+        &mut self,
+        words: &mut [T],
+        requests: &[Request],
+        replies: &mut [Reply],
+    ) -> Result<(), Refusal> {
+        if requests.len() != replies.len() {
+            return Err(Refusal::NoRoom);
+        }
+        // (also where there are no requests)
+        self.can_run(words)?;
+        in_turn(requests, replies, |asked, answers| {
+            T::run_in(O::CODE, self.list, words, asked, answers, self.room)
+        })
+    }
+}
+
+/// Serves requests by calls of some at a time, and writes reply n to request n.
+fn in_turn(
+    requests: &[Request],
+    replies: &mut [Reply],
+    mut serve: impl FnMut(&[sys::Request], &mut [sys::Reply]) -> Result<(), Refusal>,
+) -> Result<(), Refusal> {
+    let mut asked = [sys::Request::default(); AT_ONCE];
+    let mut answers = [sys::Reply::default(); AT_ONCE];
+    for (requests, replies) in requests.chunks(AT_ONCE).zip(replies.chunks_mut(AT_ONCE)) {
+        for (own, request) in asked.iter_mut().zip(requests) {
+            *own = own_request(request);
+        }
+        let answers = &mut answers[..requests.len()];
+        serve(&asked[..requests.len()], answers)?;
+        for (reply, answer) in replies.iter_mut().zip(answers) {
+            *reply = answered(*answer)?;
+        }
+    }
+    Ok(())
 }
 
 /// A request as the library has it.

@@ -283,8 +283,7 @@ impl<'a, T: Register, O: Order> BitSlice<'a, T, O> {
         if self.len > N::WIDTH {
             return Err(Refusal::TooWide);
         }
-        let digits = T::load(O::CODE, big, self.words, self.start, self.len)?;
-        Ok(N::of_digits(digits, self.len))
+        N::load(O::CODE, big, self.words, self.start, self.len)
     }
 }
 

@@ -21,11 +21,22 @@ unsafe extern "C" {
     pub safe fn bitvec_c_version() -> u32;
 }
 
-/// A range of bits: the place of the first, and how many there are.
+/// A range of places, as a run of any number of them has it: [`ManySpans`](crate::ManySpans).
+///
+/// # Examples
+///
+/// ```
+/// use worghulen::{Refusal, Span};
+///
+/// assert_eq!(Span::new(3..8), Ok(Span { start: 3, count: 5 }));
+/// assert_eq!(Span::new(8..3), Err(Refusal::Reversed));
+/// ```
 #[repr(C)]
 #[derive(Clone, Copy, Default, PartialEq, Eq, Hash, Debug)]
 pub struct Span {
+    /// The first place.
     pub start: usize,
+    /// How many there are.
     pub count: usize,
 }
 
@@ -272,6 +283,89 @@ pub trait Exports: Copy {
         target: (&mut [Self], usize),
         count: usize,
     ) -> Result<(), Refusal>;
+
+    /// Writes the bit at a place, and answers it as it was.
+    fn replace(order: u8, memory: &mut [Self], place: usize, bit: bool) -> Result<bool, Refusal>;
+
+    /// Exchanges the bits at two places.
+    fn swap(order: u8, memory: &mut [Self], place: usize, other: usize) -> Result<(), Refusal>;
+
+    /// Reads `count` bits from a place on as a signed number.
+    fn load_signed(
+        order: u8,
+        big_endian: bool,
+        memory: &[Self],
+        start: usize,
+        count: usize,
+    ) -> Result<i64, Refusal>;
+
+    /// Writes a signed number to `count` bits from a place on.
+    fn store_signed(
+        order: u8,
+        big_endian: bool,
+        memory: &mut [Self],
+        start: usize,
+        count: usize,
+        number: i64,
+    ) -> Result<(), Refusal>;
+
+    /// Finds the first bit from an index on that is `bit`, and answers `count` where there is none.
+    fn next(
+        order: u8,
+        memory: &[Self],
+        start: usize,
+        count: usize,
+        from: usize,
+        bit: bool,
+    ) -> Result<usize, Refusal>;
+
+    /// Finds the last bit before an index that is `bit`, and answers `count` where there is none.
+    fn previous(
+        order: u8,
+        memory: &[Self],
+        start: usize,
+        count: usize,
+        before: usize,
+        bit: bool,
+    ) -> Result<usize, Refusal>;
+
+    /// Finds the first run of so many zeros from an index on that starts at a multiple.
+    fn find_zeros_from(
+        order: u8,
+        memory: &[Self],
+        range: (usize, usize),
+        from: usize,
+        zeros: usize,
+        multiple_of: usize,
+    ) -> Result<usize, Refusal>;
+
+    /// Tests any number of spans, with room for the number of each.
+    fn can_run_in(
+        order: u8,
+        spans: &[Span],
+        words: usize,
+        room: &mut [usize],
+    ) -> Result<(), Refusal>;
+
+    /// Serves requests through any number of spans, with room for the number of each.
+    fn run_in(
+        order: u8,
+        spans: &[Span],
+        memory: &mut [Self],
+        requests: &[Request],
+        replies: &mut [Reply],
+        room: &mut [usize],
+    ) -> Result<(), Refusal>;
+
+    /// Finds the first bit that is not the same in two ranges, of words of any width each, and
+    /// answers `count` where there is none.
+    fn difference(
+        order: u8,
+        one: (&Words<'_>, usize),
+        other_order: u8,
+        other: (&[Self], usize),
+        count: usize,
+    ) -> Result<usize, Refusal>;
 
     /// Tests the spans of a run over a number of words.
     fn can_run(order: u8, spans: &[Span], words: usize) -> Result<(), Refusal>;
@@ -1113,6 +1207,214 @@ macro_rules! exports {
                         ),
                     }
                 })
+            }
+
+            #[inline]
+            fn replace(order: u8, memory: &mut [Self], place: usize, bit: bool) -> Result<bool, Refusal> {
+                unsafe extern "C" {
+                    #[link_name = concat!("bitvec_c_replace_", stringify!($w))]
+                    fn replace(order: u8, memory: *mut $w, words: usize, place: usize, bit: bool, before: *mut bool) -> u8;
+                }
+                let (words, len) = (memory.as_mut_ptr().cast(), memory.len());
+                let mut answer = false;
+                // SAFETY: one slice, borrowed mutably, and a variable of this call for the answer.
+                let status = unsafe { replace(order, words, len, place, bit, &raw mut answer) };
+                Refusal::check(status).map(|()| answer)
+            }
+
+            #[inline]
+            fn swap(order: u8, memory: &mut [Self], place: usize, other: usize) -> Result<(), Refusal> {
+                unsafe extern "C" {
+                    #[link_name = concat!("bitvec_c_swap_", stringify!($w))]
+                    fn swap(order: u8, memory: *mut $w, words: usize, place: usize, other_place: usize) -> u8;
+                }
+                let (words, len) = (memory.as_mut_ptr().cast(), memory.len());
+                // SAFETY: one slice, borrowed mutably.
+                Refusal::check(unsafe { swap(order, words, len, place, other) })
+            }
+
+            #[inline]
+            fn load_signed(order: u8, big_endian: bool, memory: &[Self], start: usize, count: usize) -> Result<i64, Refusal> {
+                unsafe extern "C" {
+                    #[link_name = concat!("bitvec_c_load_signed_", stringify!($w))]
+                    fn load_signed(order: u8, big_endian: bool, memory: *const $w, words: usize, start: usize, count: usize, number: *mut i64) -> u8;
+                }
+                let (words, len) = (memory.as_ptr().cast(), memory.len());
+                let mut answer = 0;
+                // SAFETY: one slice, and a variable of this call for the answer.
+                let status = unsafe { load_signed(order, big_endian, words, len, start, count, &raw mut answer) };
+                Refusal::check(status).map(|()| answer)
+            }
+
+            #[inline]
+            fn store_signed(order: u8, big_endian: bool, memory: &mut [Self], start: usize, count: usize, number: i64) -> Result<(), Refusal> {
+                unsafe extern "C" {
+                    #[link_name = concat!("bitvec_c_store_signed_", stringify!($w))]
+                    fn store_signed(order: u8, big_endian: bool, memory: *mut $w, words: usize, start: usize, count: usize, number: i64) -> u8;
+                }
+                let (words, len) = (memory.as_mut_ptr().cast(), memory.len());
+                // SAFETY: one slice, borrowed mutably.
+                Refusal::check(unsafe { store_signed(order, big_endian, words, len, start, count, number) })
+            }
+
+            #[inline]
+            fn next(order: u8, memory: &[Self], start: usize, count: usize, from: usize, bit: bool) -> Result<usize, Refusal> {
+                unsafe extern "C" {
+                    #[link_name = concat!("bitvec_c_next_", stringify!($w))]
+                    fn next(order: u8, memory: *const $w, words: usize, start: usize, count: usize, from: usize, bit: bool, index: *mut usize) -> u8;
+                }
+                let (words, len) = (memory.as_ptr().cast(), memory.len());
+                let mut answer = 0;
+                // SAFETY: one slice, and a variable of this call for the answer.
+                let status = unsafe { next(order, words, len, start, count, from, bit, &raw mut answer) };
+                Refusal::check(status).map(|()| answer)
+            }
+
+            #[inline]
+            fn previous(order: u8, memory: &[Self], start: usize, count: usize, before: usize, bit: bool) -> Result<usize, Refusal> {
+                unsafe extern "C" {
+                    #[link_name = concat!("bitvec_c_previous_", stringify!($w))]
+                    fn previous(order: u8, memory: *const $w, words: usize, start: usize, count: usize, before: usize, bit: bool, index: *mut usize) -> u8;
+                }
+                let (words, len) = (memory.as_ptr().cast(), memory.len());
+                let mut answer = 0;
+                // SAFETY: one slice, and a variable of this call for the answer.
+                let status = unsafe { previous(order, words, len, start, count, before, bit, &raw mut answer) };
+                Refusal::check(status).map(|()| answer)
+            }
+
+            #[inline]
+            fn find_zeros_from(order: u8, memory: &[Self], (start, count): (usize, usize), from: usize, zeros: usize, multiple_of: usize) -> Result<usize, Refusal> {
+                unsafe extern "C" {
+                    #[link_name = concat!("bitvec_c_find_zeros_from_", stringify!($w))]
+                    fn find_zeros_from(order: u8, memory: *const $w, words: usize, start: usize, count: usize, from: usize, zeros: usize, multiple_of: usize, index: *mut usize) -> u8;
+                }
+                let (words, len) = (memory.as_ptr().cast(), memory.len());
+                let mut answer = 0;
+                // SAFETY: one slice, and a variable of this call for the answer.
+                let status = unsafe { find_zeros_from(order, words, len, start, count, from, zeros, multiple_of, &raw mut answer) };
+                Refusal::check(status).map(|()| answer)
+            }
+
+            #[inline]
+            fn can_run_in(order: u8, spans: &[Span], words: usize, room: &mut [usize]) -> Result<(), Refusal> {
+                unsafe extern "C" {
+                    #[link_name = concat!("bitvec_c_can_run_in_", stringify!($w))]
+                    fn can_run_in(order: u8, spans: *const Span, span_count: usize, words: usize, room: *mut usize, room_count: usize) -> u8;
+                }
+                let (first_span, span_count) = (spans.as_ptr(), spans.len());
+                let (numbers, number_count) = (room.as_mut_ptr(), room.len());
+                // SAFETY: two slices, the second borrowed mutably, and a span is laid out as C lays it out.
+                Refusal::check(unsafe { can_run_in(order, first_span, span_count, words, numbers, number_count) })
+            }
+
+            #[inline]
+            fn run_in(order: u8, spans: &[Span], memory: &mut [Self], requests: &[Request], replies: &mut [Reply], room: &mut [usize]) -> Result<(), Refusal> {
+                unsafe extern "C" {
+                    #[link_name = concat!("bitvec_c_run_in_", stringify!($w))]
+                    fn run_in(order: u8, spans: *const Span, span_count: usize, memory: *mut $w, words: usize, requests: *const Request, request_count: usize, replies: *mut Reply, reply_count: usize, room: *mut usize, room_count: usize) -> u8;
+                }
+                let (words, len) = (memory.as_mut_ptr().cast(), memory.len());
+                let (first_span, span_count) = (spans.as_ptr(), spans.len());
+                let (asked, asked_count) = (requests.as_ptr(), requests.len());
+                let (answers, answer_count) = (replies.as_mut_ptr(), replies.len());
+                let (numbers, number_count) = (room.as_mut_ptr(), room.len());
+                // SAFETY: five slices, of which those that are written are borrowed mutably, and whose items are
+                // laid out as C lays them out.
+                Refusal::check(unsafe { run_in(order, first_span, span_count, words, len, asked, asked_count, answers, answer_count, numbers, number_count) })
+            }
+
+            #[inline]
+            fn difference(
+                order: u8,
+                (one, start): (&Words<'_>, usize),
+                other_order: u8,
+                (other, other_start): (&[Self], usize),
+                count: usize,
+            ) -> Result<usize, Refusal> {
+                unsafe extern "C" {
+                    #[link_name = concat!("bitvec_c_first_difference_u8_with_", stringify!($w))]
+                    fn difference_u8(
+                        order: u8,
+                        memory: *const u8,
+                        words: usize,
+                        start: usize,
+                        other_order: u8,
+                        other: *const $w,
+                        other_words: usize,
+                        other_start: usize,
+                        count: usize,
+                        index: *mut usize,
+                    ) -> u8;
+                    #[link_name = concat!("bitvec_c_first_difference_u16_with_", stringify!($w))]
+                    fn difference_u16(
+                        order: u8,
+                        memory: *const u16,
+                        words: usize,
+                        start: usize,
+                        other_order: u8,
+                        other: *const $w,
+                        other_words: usize,
+                        other_start: usize,
+                        count: usize,
+                        index: *mut usize,
+                    ) -> u8;
+                    #[link_name = concat!("bitvec_c_first_difference_u32_with_", stringify!($w))]
+                    fn difference_u32(
+                        order: u8,
+                        memory: *const u32,
+                        words: usize,
+                        start: usize,
+                        other_order: u8,
+                        other: *const $w,
+                        other_words: usize,
+                        other_start: usize,
+                        count: usize,
+                        index: *mut usize,
+                    ) -> u8;
+                    #[link_name = concat!("bitvec_c_first_difference_u64_with_", stringify!($w))]
+                    fn difference_u64(
+                        order: u8,
+                        memory: *const u64,
+                        words: usize,
+                        start: usize,
+                        other_order: u8,
+                        other: *const $w,
+                        other_words: usize,
+                        other_start: usize,
+                        count: usize,
+                        index: *mut usize,
+                    ) -> u8;
+                }
+                let (others, len) = (other.as_ptr().cast(), other.len());
+                let mut index = 0;
+                // SAFETY: two slices, of which none is written, and a variable of this call for
+                // the answer.
+                let status = unsafe {
+                    match one {
+                        Words::U8(one) => difference_u8(
+                            order, one.as_ptr(), one.len(), start, other_order, others, len,
+                            other_start, count, &raw mut index,
+                        ),
+                        Words::U16(one) => difference_u16(
+                            order, one.as_ptr(), one.len(), start, other_order, others, len,
+                            other_start, count, &raw mut index,
+                        ),
+                        Words::U32(one) => difference_u32(
+                            order, one.as_ptr(), one.len(), start, other_order, others, len,
+                            other_start, count, &raw mut index,
+                        ),
+                        Words::U64(one) => difference_u64(
+                            order, one.as_ptr(), one.len(), start, other_order, others, len,
+                            other_start, count, &raw mut index,
+                        ),
+                        Words::Usize(one) => difference_u64(
+                            order, one.as_ptr().cast(), one.len(), start, other_order, others, len,
+                            other_start, count, &raw mut index,
+                        ),
+                    }
+                };
+                Refusal::check(status).map(|()| index)
             }
 
             #[inline]

@@ -215,7 +215,8 @@ mod cases {
             (bits.next_one(from), bits.next_zero(from)),
             (next(true), next(false))
         );
-        let previous = |bit| model.get(..from)?.iter().rposition(|it| *it == bit);
+        let upto = from.min(model.len());
+        let previous = |bit| model[..upto].iter().rposition(|it| *it == bit);
         assert_eq!(
             (bits.previous_one(from), bits.previous_zero(from)),
             (previous(true), previous(false))
@@ -231,6 +232,16 @@ mod cases {
                 .is_some_and(|bits| !bits.contains(&true))
         });
         assert_eq!(bits.find_zeros(run), free);
+        let (from, of) = (random.place(model.len()), random.below(9));
+        let free = (0..=model.len()).find(|i| {
+            let end = i.checked_add(run);
+            from <= *i
+                && i % of.max(1) == 0
+                && end
+                    .and_then(|end| model.get(*i..end))
+                    .is_some_and(|bits| !bits.contains(&true))
+        });
+        assert_eq!(bits.find_zeros_from(from, run, of), free);
         assert_eq!((bits.any(), bits.all()), (ones != 0, ones == model.len()));
         assert_eq!(
             (bits.not_any(), bits.not_all()),

@@ -4,15 +4,16 @@
 mod common;
 
 use common::{CASES, Random, for_all_memories};
-use worghulen::{Command, Lsb0, Msb0, Refusal, Reply, Request, Spans};
+use worghulen::{Command, Lsb0, ManySpans, Msb0, Refusal, Reply, Request, Span, Spans};
 
 for_all_memories!(a_run_serves_each_request, 16);
 for_all_memories!(can_run_tests_the_spans, 17);
+for_all_memories!(many_spans_run_as_few, 18);
 
 mod cases {
     use crate::common::{Layout, MAX_BITS, Random, Word, bits_of, checked, word_and_digit};
     use std::ops::Range;
-    use worghulen::{Command, Refusal, Reply, Request, Spans};
+    use worghulen::{Command, ManySpans, Refusal, Reply, Request, Span, Spans};
 
     /// Mostly ranges that lie among `len` bits and have none in common, in any order.
     fn ranges(random: &mut Random, len: usize) -> Vec<Range<usize>> {
@@ -38,6 +39,11 @@ mod cases {
         if ranges.len() > 64 {
             return Err(Refusal::TooManySpans);
         }
+        many_refusal(ranges, len)
+    }
+
+    /// The same of any number of spans.
+    fn many_refusal(ranges: &[Range<usize>], len: usize) -> Result<(), Refusal> {
         for range in ranges {
             // (what a range of its own is refused for comes before what the memory is asked for)
             checked(range, usize::MAX)?;
@@ -192,6 +198,57 @@ mod cases {
         let answer = Spans::<O>::new(&ranges).and_then(|spans| spans.can_run(&words));
         assert_eq!(answer, refusal(&ranges, len), "{ranges:?}");
     }
+
+    /// What spans with room answer, and that the room has their numbers in the order of their
+    /// starts where each lies in the memory.
+    pub fn many_spans_run_as_few<T: Word, O: Layout>(random: &mut Random) {
+        let mut words = random.words::<T>();
+        let len = words.len() * T::BITS;
+        let ranges = ranges(random, len);
+        let request = |random: &mut Random| Request {
+            span: random.below(ranges.len() + 1),
+            command: command::<T>(random, 9),
+        };
+        let requests: Vec<_> = (0..random.below(12)).map(|_| request(random)).collect();
+        let expected = many_refusal(&ranges, len);
+        let list = ranges
+            .iter()
+            .cloned()
+            .map(Span::new)
+            .collect::<Result<Vec<_>, _>>();
+        let Ok(list) = list else {
+            assert_eq!(list.map(|_| ()), expected);
+            return;
+        };
+        let mut room = vec![usize::MAX; list.len()];
+        let mut many = ManySpans::<O>::new(&list, &mut room).unwrap();
+        assert_eq!(many.can_run(&words), expected, "{ranges:?}");
+        let mut numbers = many.in_order().to_vec();
+        if matches!(expected, Ok(()) | Err(Refusal::Overlap)) {
+            assert!(numbers.is_sorted_by_key(|i| list[*i].start));
+            numbers.sort_unstable();
+            assert!(numbers.into_iter().eq(0..list.len()));
+        } else {
+            assert!(numbers.iter().all(|i| *i == usize::MAX));
+        }
+        let (mut replies, mut other) = (vec![Reply::Done; requests.len()], words.clone());
+        let answer = many.run(&mut words, &requests, &mut replies);
+        assert_eq!(answer, expected);
+        if list.len() <= 64 {
+            let mut same = vec![Reply::Done; requests.len()];
+            let few = Spans::<O>::new(&ranges).unwrap();
+            assert_eq!(few.run(&mut other, &requests, &mut same), expected);
+            assert_eq!((replies, words), (same, other));
+        }
+    }
+}
+
+#[test]
+fn many_spans_want_as_much_room() {
+    let list = [Span { start: 0, count: 3 }; 3];
+    assert!(ManySpans::<Lsb0>::new(&list, &mut [0; 3]).is_ok());
+    let refused = ManySpans::<Msb0>::new(&list, &mut [0; 4]).err();
+    assert_eq!(refused, Some(Refusal::NoRoom));
 }
 
 #[test]

@@ -12,20 +12,10 @@ run_requests-requires-clause-replies g c = c.test_run-status.ensures.room c.if-s
 pub run_requests-requires-clause-commands : goal.run_requests-requires-clause-commands
 run_requests-requires-clause-commands g c = c.test_run-status.ensures.commands c.if-status-eq-OK.true
 
-pub returns-then-status-eq-OK-clause-status : goal.returns-then-status-eq-OK-clause-status
-returns-then-status-eq-OK-clause-status g c = c.test_run-status.ensures.status
-
-pub returns-then-status-eq-OK-clause-run : goal.returns-then-status-eq-OK-clause-run
-returns-then-status-eq-OK-clause-run g c done = c.run_requests.ensures
-
-pub returns-then-status-eq-OK-clause-kept : goal.returns-then-status-eq-OK-clause-kept
-returns-then-status-eq-OK-clause-kept g c refused = absurd (refused c.if-status-eq-OK.true)
-
-pub returns-then-status-eq-OK-clause-unanswered : goal.returns-then-status-eq-OK-clause-unanswered
-returns-then-status-eq-OK-clause-unanswered g c refused = absurd (refused c.if-status-eq-OK.true)
-
-pub returns-else-status-eq-OK-clause-status : goal.returns-else-status-eq-OK-clause-status
-returns-else-status-eq-OK-clause-status g c = c.test_run-status.ensures.status
-
-pub returns-else-status-eq-OK-clause-run : goal.returns-else-status-eq-OK-clause-run
-returns-else-status-eq-OK-clause-run g c done = absurd (c.if-status-eq-OK.false done)
+pub returns-then-status-eq-OK : goal.returns-then-status-eq-OK
+returns-then-status-eq-OK g c = record {
+  status = c.test_run-status.ensures.status;
+  done = λ done. c.run_requests.ensures;
+  kept = λ refused. absurd (refused c.if-status-eq-OK.true);
+  unanswered = λ refused. absurd (refused c.if-status-eq-OK.true);
+}

@@ -60,6 +60,10 @@ mod cases {
             T::first_one(order, &memory, start, count).map(|_| ()),
             T::equal(order, (&memory, start), (&memory, 0), count).map(|_| ()),
             T::equal(order, (&memory, 0), (&memory, start), count).map(|_| ()),
+            T::next(order, &memory, start, count, 0, true).map(|_| ()),
+            T::previous(order, &memory, start, count, 9, true).map(|_| ()),
+            T::find_zeros_from(order, &memory, (start, count), 0, 1, 0).map(|_| ()),
+            T::can_run_in(order, &[Span { start, count }], 3, &mut [0]),
             T::can_run(order, &[Span { start, count }], 3),
             T::run(order, &[Span { start, count }], &mut memory, &[], &mut []),
         ];
@@ -75,6 +79,11 @@ mod cases {
         let mut memory = [T::ZERO; 3];
         let answer = T::set(order, &mut memory, place, true);
         assert_eq!(T::get(order, &memory, place).map(|_| ()), answer);
+        assert_eq!(
+            T::replace(order, &mut memory, place, true),
+            answer.map(|()| true)
+        );
+        assert_eq!(T::swap(order, &mut memory, place, place), answer);
         assert_eq!(memory == [T::ZERO; 3], answer.is_err());
         answer
     }
@@ -88,8 +97,11 @@ mod cases {
             T::store(order, true, &mut memory, start, count, u64::MAX),
             T::load(order, false, &memory, start, count).map(|_| ()),
             T::load(order, true, &memory, start, count).map(|_| ()),
+            T::store_signed(order, true, &mut memory, start, count, -1),
+            T::load_signed(order, false, &memory, start, count).map(|_| ()),
+            T::load_signed(order, true, &memory, start, count).map(|_| ()),
         ];
-        assert_eq!(others, [answer; 3]);
+        assert_eq!(others, [answer; 6]);
         answer
     }
 

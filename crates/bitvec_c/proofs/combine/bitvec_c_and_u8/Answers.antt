@@ -1,5 +1,0 @@
-use Rattle.std.proofs.lemmas.List.{map-id}
-use Rattle.bitvec_c.proofs.combine.bitvec_c_and_u8.Goals as goal
-
-pub returns : goal.returns
-returns c = rw (map-id c.args.source.now, map-id c.args.target.now, map-id c.combine.new.target) at c.combine.ensures

@@ -1,5 +1,0 @@
-use Rattle.std.proofs.lemmas.List.{map-id}
-use Rattle.bitvec_c.proofs.question.bitvec_c_count_and_u16.Goals as goal
-
-pub returns : goal.returns
-returns c = rw (map-id c.args.memory.now, map-id c.args.other.now) at c.count_with.ensures

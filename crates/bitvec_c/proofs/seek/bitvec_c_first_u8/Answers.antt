@@ -1,5 +1,0 @@
-use Rattle.std.proofs.lemmas.List.{map-id}
-use Rattle.bitvec_c.proofs.seek.bitvec_c_first_u8.Goals as goal
-
-pub returns : goal.returns
-returns c = rw (map-id c.args.memory.now) at c.first.ensures
