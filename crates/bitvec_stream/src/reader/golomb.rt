@@ -94,6 +94,7 @@ fn signed_code_value<R: BitRegister, O: BitOrder<R>, N: SignedNumber>(
 }
 
 // The number whose code a reader's bits begin with, and how long that code is, whatever it is.
+#[cold]
 #[inline(never)]
 fn far_code<R: BitRegister, O: BitOrder<R>, N: BitRegister>(
     reader: BitReader<'_, R, O>,

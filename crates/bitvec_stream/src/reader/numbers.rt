@@ -2,6 +2,7 @@
 
 ghost use Rattle.std.specs.Prelude.{◌≡◌, ◌≤◌, ◌↔◌, IsOk, IfOk, IfErr, MatchResult, length, take};
 ghost use Rattle.bitvec_stream.specs.Numbers.{number_le, number_be};
+ghost use Rattle.bitvec_stream.specs.Reader.{rest};
 
 use crate::error::ReadError;
 use crate::reader::BitReader;
@@ -9,6 +10,22 @@ use crate::reader::window::first_digits;
 use bitvec::mem;
 use bitvec::mem::BitRegister;
 use bitvec::order::BitOrder;
+
+// The number of a reader's next `count` bits, the first the highest digit, apart from the calls that
+// read what is kept.
+#[cold]
+#[inline(never)]
+fn far_be<R: BitRegister, O: BitOrder<R>, N: BitRegister>(
+    reader: BitReader<'_, R, O>,
+    count: usize,
+) -> N
+    requires small { count ≤ N.BITS }
+    requires inside { count ≤ length (rest reader) }
+    ensures { N.number result ≡ number_be (take count (rest reader.entry)) }
+{
+    let position = reader.position();
+    reader.slice.load_digits_be(position, position + count)
+}
 
 impl<'a, R: BitRegister, O: BitOrder<R>> BitReader<'a, R, O> {
     ghost use Rattle.bitvec_stream.specs.Reader.{rest, Passes};
@@ -39,7 +56,10 @@ impl<'a, R: BitRegister, O: BitOrder<R>> BitReader<'a, R, O> {
                 return Ok(value);
             }
         }
-        let value = self.peek_be(count)?;
+        if self.remaining() < count {
+            return Err(ReadError::TooFew);
+        }
+        let value = far_be(Self::at(self.slice, self.position()), count);
         self.pass(count);
         Ok(value)
     }
@@ -60,7 +80,6 @@ impl<'a, R: BitRegister, O: BitOrder<R>> BitReader<'a, R, O> {
     /// assert_eq!(rt; reader.read_le::<u32>(4), Ok(11));
     /// assert_eq!(rt; reader.read_le::<u32>(3), Err(ReadError::TooFew));
     /// ```
-    #[inline(always)]
     pub fn read_le<N: BitRegister>(&mut self, count: usize) -> Result<N, ReadError>
         requires { count ≤ N.BITS }
         ensures accepted { IsOk result ↔ (count ≤ length (rest self.old)) }
@@ -76,7 +95,6 @@ impl<'a, R: BitRegister, O: BitOrder<R>> BitReader<'a, R, O> {
 
     /// What [`read_be`](BitReader::read_be) gives; the reader stays before the bits. Requires and
     /// costs the same. Not in the Rust crate.
-    #[inline(always)]
     pub fn peek_be<N: BitRegister>(&self, count: usize) -> Result<N, ReadError>
         requires { count ≤ N.BITS }
         ensures accepted { IsOk result ↔ (count ≤ length (rest self.now)) }
@@ -93,7 +111,6 @@ impl<'a, R: BitRegister, O: BitOrder<R>> BitReader<'a, R, O> {
 
     /// What [`read_le`](BitReader::read_le) gives; the reader stays before the bits. Requires and
     /// costs the same. Not in the Rust crate.
-    #[inline(always)]
     pub fn peek_le<N: BitRegister>(&self, count: usize) -> Result<N, ReadError>
         requires { count ≤ N.BITS }
         ensures accepted { IsOk result ↔ (count ≤ length (rest self.now)) }
