@@ -342,7 +342,8 @@ static struct buffer any_spans(size_t bits) {
 /* Room for the numbers of spans, mostly for each of them. */
 static struct buffer any_room(size_t count) {
     struct buffer buffer = take(NUMBERS, (one_in(16) ? below(MOST_SPANS) : count) * sizeof(size_t));
-    memset(buffer.at, 0x5a, buffer.size);
+    if (buffer.size != 0)
+        memset(buffer.at, 0x5a, buffer.size);
     return buffer;
 }
 
