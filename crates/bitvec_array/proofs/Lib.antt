@@ -1,0 +1,2 @@
+pub mod ArrayLemmas
+mod SameArray

@@ -1,0 +1,24 @@
+use Rattle.std.proofs.Common.{◌+◌, ◌∙◌, rules, Bool, List, length, ap, arith}
+use Rattle.bitvec.specs.BitSpan.{span_of}
+use Rattle.bitvec.specs.Span.{Span}
+use Rattle.bitvec_slice.specs.BitSlice.{slice_len, bits_of}
+use Rattle.bitvec_slice.specs.BitSliceMut.{lent_span}
+use Rattle.bitvec_slice.specs.Ranges.{with_range}
+use Rattle.bitvec_array.proofs.ArrayLemmas.{span-fits, bits-lent}
+use Rattle.bitvec_array.proofs.array.edit.put_slice.Goals as goal
+
+pub new_unchecked-bits-requires : goal.new_unchecked-bits-requires
+new_unchecked-bits-requires g c =
+    span-fits g.row.N (span_of c.span_of_all.result) (length c.args.words.now) c.span_of_all.ensures.span c.requires.many
+
+pub copy_from_range-requires : goal.copy_from_range-requires
+copy_from_range-requires g c =
+    omega (arith, c.requires.inside, ap (λ (s : Span). s.len) (c.new_unchecked-bits.ensures.span ∙ c.span_of_all.ensures.span))
+
+pub returns : goal.returns
+returns g c =
+    let slice = c.new_unchecked-bits.result in
+    let left = c.copy_from_range.new.self.memory.now in
+    bits-lent g.O.BitAt.at_of g.row.N (lent_span slice) (c.new_unchecked-bits.ensures.span ∙ c.span_of_all.ensures.span) c.args.words.now slice.memory.now left _
+    (λ (xs : List Bool). with_range xs c.args.from (c.args.from + slice_len c.args.source) (bits_of c.args.source))
+    c.new_unchecked-bits.ensures.memory (search rules) c.copy_from_range.ensures.bits.3

@@ -1,0 +1,3 @@
+pub mod Array
+pub mod BitArray
+pub mod Lends

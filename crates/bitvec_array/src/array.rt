@@ -1,0 +1,12 @@
+//! Arrays of bits.
+
+mod bit_array;
+mod edit;
+mod equal;
+mod operators;
+mod readers;
+mod text;
+mod zero;
+
+pub use self::bit_array::BitArray;
+pub use self::zero::ZeroArray;

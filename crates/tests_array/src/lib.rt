@@ -1,0 +1,8 @@
+//! Arrays of bits, by the names that a user writes.
+#![tactic(auto)]
+
+pub mod callers;
+#[cfg(test)]
+mod examples;
+#[cfg(test)]
+mod values;
