@@ -1,4 +1,5 @@
 pub mod ByteNumbers
+pub mod DigitListLemmas
 pub mod EditRangeLemmas
 mod FieldJoinLemmas
 pub mod FieldLemmas

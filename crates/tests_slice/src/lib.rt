@@ -9,6 +9,8 @@ mod bytes;
 mod callers;
 mod cursor;
 #[cfg(test)]
+mod digits;
+#[cfg(test)]
 mod examples;
 #[cfg(test)]
 mod header;
@@ -18,6 +20,8 @@ mod lists;
 mod moves;
 #[cfg(test)]
 mod numbers;
+#[cfg(test)]
+mod pieces;
 #[cfg(test)]
 mod sets;
 #[cfg(test)]

@@ -1,7 +1,7 @@
 //! Numbers of the bits of slices by their order in the slice alone, the first bit the lowest digit
 //! or the highest, so the same under every order and register.
 
-ghost use Rattle.std.specs.Prelude.{◌≡◌, ◌-◌, ◌≤◌, length, slice_range};
+ghost use Rattle.std.specs.Prelude.{◌≡◌, ◌-◌, ◌%◌, ◌^◌, ◌≤◌, length, slice_range};
 ghost use Rattle.bitvec.specs.BitSpan.{span_of, list_by, Becomes};
 ghost use Rattle.bitvec.specs.Order.{Rises, Falls};
 ghost use Rattle.bitvec.specs.Span.{Fits};
@@ -183,6 +183,32 @@ impl<'a, R: BitRegister, O: BitOrder<R>> BitSlice<'a, R, O> {
 impl<'a, R: BitRegister, O: BitOrder<R>> BitSliceMut<'a, R, O> {
     ghost use Rattle.bitvec_slice.specs.BitSliceMut.{lent_len, lent_bits, BecomesBits};
 
+    /// The number that [`load_digits_le`](BitSlice::load_digits_le) of
+    /// [`as_bitslice`](BitSliceMut::as_bitslice) gives, with what that requires. By words where
+    /// positions rise with the index, else by bits. Not in the Rust crate.
+    #[inline(always)]
+    pub fn load_digits_le<N: BitRegister>(&self, from: usize, to: usize) -> N
+        requires ordered { from ≤ to }
+        requires inside { to ≤ lent_len self.now }
+        requires small { to - from ≤ N.BITS }
+        ensures { N.number result ≡ number_le (slice_range (lent_bits self.now) from to) }
+    {
+        self.as_bitslice().load_digits_le(from, to)
+    }
+
+    /// The number that [`load_digits_be`](BitSlice::load_digits_be) of
+    /// [`as_bitslice`](BitSliceMut::as_bitslice) gives, with what that requires. By words where
+    /// positions fall with the index, else by bits. Not in the Rust crate.
+    #[inline(always)]
+    pub fn load_digits_be<N: BitRegister>(&self, from: usize, to: usize) -> N
+        requires ordered { from ≤ to }
+        requires inside { to ≤ lent_len self.now }
+        requires small { to - from ≤ N.BITS }
+        ensures { N.number result ≡ number_be (slice_range (lent_bits self.now) from to) }
+    {
+        self.as_bitslice().load_digits_be(from, to)
+    }
+
     // The edit of `store_digits_le`, in an order whose positions rise.
     #[inline(always)]
     fn store_rising_range<N: BitRegister>(&mut self, from: usize, to: usize, value: N)
@@ -192,6 +218,8 @@ impl<'a, R: BitRegister, O: BitOrder<R>> BitSliceMut<'a, R, O> {
         requires small { to - from ≤ N.BITS }
         ensures bits { BecomesBits self.old self.new (with_range (lent_bits self.old) from to
             (digits_le (to - from) (N.number value))) }
+        ensures loaded { number_le (slice_range (lent_bits self.new) from to)
+            ≡ N.number value % 2 ^ (to - from) }
         ensures beside { KeepsStretches from to (lent_bits self.old) (lent_bits self.new) }
     {
         let part = self.part(from, to);
@@ -208,6 +236,8 @@ impl<'a, R: BitRegister, O: BitOrder<R>> BitSliceMut<'a, R, O> {
         requires small { to - from ≤ N.BITS }
         ensures bits { BecomesBits self.old self.new (with_range (lent_bits self.old) from to
             (digits_be (to - from) (N.number value))) }
+        ensures loaded { number_be (slice_range (lent_bits self.new) from to)
+            ≡ N.number value % 2 ^ (to - from) }
         ensures beside { KeepsStretches from to (lent_bits self.old) (lent_bits self.new) }
     {
         let part = self.part(from, to);
@@ -223,6 +253,8 @@ impl<'a, R: BitRegister, O: BitOrder<R>> BitSliceMut<'a, R, O> {
         requires small { to - from ≤ N.BITS }
         ensures bits { BecomesBits self.old self.new (with_range (lent_bits self.old) from to
             (digits_le (to - from) (N.number value))) }
+        ensures loaded { number_le (slice_range (lent_bits self.new) from to)
+            ≡ N.number value % 2 ^ (to - from) }
         ensures beside { KeepsStretches from to (lent_bits self.old) (lent_bits self.new) }
     {
         let words = [value.to_u128()];
@@ -239,6 +271,8 @@ impl<'a, R: BitRegister, O: BitOrder<R>> BitSliceMut<'a, R, O> {
         requires small { to - from ≤ N.BITS }
         ensures bits { BecomesBits self.old self.new (with_range (lent_bits self.old) from to
             (digits_be (to - from) (N.number value))) }
+        ensures loaded { number_be (slice_range (lent_bits self.new) from to)
+            ≡ N.number value % 2 ^ (to - from) }
         ensures beside { KeepsStretches from to (lent_bits self.old) (lent_bits self.new) }
     {
         let words = [value.to_u128()];
@@ -270,6 +304,8 @@ impl<'a, R: BitRegister, O: BitOrder<R>> BitSliceMut<'a, R, O> {
         requires small { to - from ≤ N.BITS }
         ensures bits { BecomesBits self.old self.new (with_range (lent_bits self.old) from to
             (digits_le (to - from) (N.number value))) }
+        ensures loaded { number_le (slice_range (lent_bits self.new) from to)
+            ≡ N.number value % 2 ^ (to - from) }
         ensures beside { KeepsStretches from to (lent_bits self.old) (lent_bits self.new) }
     {
         match direction_of::<R, O>() {
@@ -292,6 +328,8 @@ impl<'a, R: BitRegister, O: BitOrder<R>> BitSliceMut<'a, R, O> {
         requires small { to - from ≤ N.BITS }
         ensures bits { BecomesBits self.old self.new (with_range (lent_bits self.old) from to
             (digits_be (to - from) (N.number value))) }
+        ensures loaded { number_be (slice_range (lent_bits self.new) from to)
+            ≡ N.number value % 2 ^ (to - from) }
         ensures beside { KeepsStretches from to (lent_bits self.old) (lent_bits self.new) }
     {
         match direction_of::<R, O>() {

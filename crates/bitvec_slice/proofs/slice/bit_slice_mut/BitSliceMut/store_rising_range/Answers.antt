@@ -1,7 +1,8 @@
-use Rattle.std.proofs.Common.{◌-◌, map, refl, ap}
+use Rattle.std.proofs.Common.{◌≤◌, ◌-◌, length, map, refl, ap, arith}
 use Rattle.bitvec.proofs.MemoryLemmas.{length-tabulate}
-use Rattle.bitvec_slice.specs.BitSliceMut.{lent_span, lent_words}
+use Rattle.bitvec_slice.specs.BitSliceMut.{lent_span, lent_words, lent_bits}
 use Rattle.bitvec_slice.specs.Numbers.{digits_le}
+use Rattle.bitvec_slice.proofs.DigitListLemmas.{number_le-range}
 use Rattle.bitvec_slice.proofs.EditRangeLemmas.{range_edited}
 use Rattle.bitvec_slice.proofs.slice.bit_slice_mut.BitSliceMut.store_rising_range.Goals as goal
 
@@ -16,4 +17,10 @@ returns g c =
     let count = c.args.to - c.args.from in
     let done = range_edited width g.O.BitAt.at_of (lent_span slice) old new c.args.from c.args.to _ (digits_le count value) (ap (λ n. digits_le n value) part.len)
     c.requires.ordered c.requires.inside (length-tabulate count _) (part.edits new _ c.store_rising.ensures) in
-    record { bits = (done.0.list, refl, refl, done.0); beside = done.1 }
+    let xs = lent_bits slice in
+    let inside : c.args.to ≤ length xs = omega (arith, c.requires.inside, slice.many old) in
+    record {
+      bits = (done.0.list, refl, refl, done.0);
+      loaded = number_le-range xs _ c.args.from c.args.to value c.requires.ordered inside done.0.list;
+      beside = done.1;
+    }

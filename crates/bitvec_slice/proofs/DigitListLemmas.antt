@@ -1,12 +1,15 @@
 -- Numbers as lists of their digits, and back.
-use Rattle.std.proofs.Common.{◌≡◌, ℕ, ◌-◌, ◌%◌, ◌^◌, ◌<◌, Bool, true, false, List, length, sym, ap, ◌∙◌, arith}
+use Rattle.std.proofs.Common.{◌≡◌, ℕ, ◌-◌, ◌%◌, ◌^◌, ◌<◌, ◌≤◌, Bool, true, false, List, length, sym, ap, ◌∙◌, arith}
+use Rattle.std.specs.Prelude.{slice_range}
 use Rattle.std.proofs.Math.Nat.{mod-eq_of_lt}
 use Rattle.bitvec.specs.Digit.{digit}
 use Rattle.bitvec.specs.Span.{element}
 use Rattle.bitvec.proofs.MemoryLemmas.{length-tabulate, tabulate-from_elements}
+use Rattle.bitvec_slice.specs.Numbers.{number_le, number_be, digits_le, digits_be}
+use Rattle.bitvec_slice.specs.Ranges.{with_range}
+use Rattle.bitvec_slice.proofs.EditRangeLemmas.{range_within}
 use Rattle.bitvec_slice.proofs.FieldLemmas.{field_digit, field_below}
 use Rattle.bitvec_slice.proofs.FieldStoreLemmas.{stored_loads, field_list_low}
-use Rattle.bitvec_stream.specs.Numbers.{number_le, number_be, digits_le, digits_be}
 
 pub length-digits_le : (count n : ℕ) → length (digits_le count n) ≡ count
 length-digits_le count n = length-tabulate count (digit n)
@@ -57,3 +60,17 @@ digits_le-low count n m h = field_list_low false true 8 0 count n m (omega arith
 
 pub digits_be-low : (count n m : ℕ) → n % 2 ^ count ≡ m → digits_be count n ≡ digits_be count m
 digits_be-low count n m h = field_list_low true false 8 0 count n m (omega arith) (omega arith) h
+
+-- a list with a number's digits put into a stretch has that number there, as far as the stretch goes
+module _ (xs new : List Bool) (from to n : ℕ) (rises : from ≤ to) (inside : to ≤ length xs) where
+  pub number_le-range : new ≡ with_range xs from to (digits_le (to - from) n) → number_le (slice_range new from to) ≡ n % 2 ^ (to - from)
+  number_le-range is =
+      ap (λ us. number_le (slice_range us from to)) is
+      ∙ ap number_le (range_within xs (digits_le (to - from) n) from to rises inside (length-digits_le (to - from) n))
+      ∙ number_le-digits (to - from) n
+
+  pub number_be-range : new ≡ with_range xs from to (digits_be (to - from) n) → number_be (slice_range new from to) ≡ n % 2 ^ (to - from)
+  number_be-range is =
+      ap (λ us. number_be (slice_range us from to)) is
+      ∙ ap number_be (range_within xs (digits_be (to - from) n) from to rises inside (length-digits_be (to - from) n))
+      ∙ number_be-digits (to - from) n
