@@ -9,12 +9,14 @@
 
 mod calls;
 pub mod history;
+pub mod level;
 pub mod leveled;
 pub mod map;
 mod runs;
 #[cfg(test)]
 mod tests;
 
-pub use crate::leveled::LeveledMap;
+pub use crate::level::Level;
+pub use crate::leveled::{LeveledMap, StackedLevel, TwoLevels, two_levels};
 pub use crate::map::FreeMap;
 pub use crate::runs::FreeRuns;

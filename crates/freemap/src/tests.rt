@@ -2,7 +2,7 @@
 
 mod callers;
 
-use crate::leveled::{LeveledMap, summary_words_for};
+use crate::leveled::{LeveledMap, StackedLevel, summary_words_for, two_levels};
 use crate::map::{FreeMap, has_room, words_for};
 use bitvec::order::{Lsb0, Msb0};
 use std::test::Fail;
@@ -59,7 +59,7 @@ fn free_runs_across_words(rt: HostRuntime) -> Result<(), Fail> {
     let mut words = [0x0FFF_FFFF_FFFF_FFFFu64, 0, 0x8000_0000_0000_00F0];
     let mut summary = [0; 2];
     let map = FreeMap::<Lsb0>::from_words_unchecked(&mut words, 191);
-    let map = LeveledMap::over(map, &mut summary);
+    let map = two_levels(map, &mut summary);
     let mut runs = map.iter_free_runs();
     assert_eq!(rt; runs.next(), Some((60, 72)));
     assert_eq!(rt; runs.clone().unwrap().next(), Some((136, 55)));
@@ -89,7 +89,7 @@ fn levels(rt: HostRuntime) -> Result<(), Fail> {
     let mut summary = [u64::MAX; 3];
     assert_eq!(rt; summary_words_for(5000), 3);
     let map = FreeMap::<Lsb0>::new_unchecked(&mut words, 5000);
-    let mut map = LeveledMap::over(map, &mut summary);
+    let mut map = two_levels(map, &mut summary);
     assert!(rt; map.reserve(0, 4900));
     assert_eq!(rt; map.alloc(), Some(4900));
     assert_eq!(rt; map.alloc_run_aligned(8, 8), Some(4904));
@@ -106,5 +106,55 @@ fn levels(rt: HostRuntime) -> Result<(), Fail> {
     assert_eq!(rt; map.alloc(), None);
     assert_eq!(rt; map.alloc_at_or_after(0), None);
     assert_eq!(rt; map.into_map().largest_run(), 0);
+    Ok(())
+}
+
+#[test]
+fn three_levels(rt: HostRuntime) -> Result<(), Fail> {
+    let mut words = [u64::MAX; 80];
+    let mut marks = [0u64; 2];
+    let mut groups = [u64::MAX; 1];
+    let mut top = [u64::MAX; 1];
+    let map = FreeMap::<Lsb0>::new_unchecked(&mut words, 5000);
+    let top = FreeMap::<Lsb0>::new_unchecked(&mut top, 1);
+    let groups = FreeMap::<Lsb0>::new_unchecked(&mut groups, 2);
+    let marks = FreeMap::<Lsb0>::new_unchecked(&mut marks, 79);
+    let levels = StackedLevel::over(marks, StackedLevel::over(groups, top));
+    let mut map = LeveledMap::over(map, levels);
+    assert!(rt; map.reserve(0, 4508) && map.reserve(4516, 484));
+    assert_eq!(rt; map.next_free_run(7), Some((4508, 8)));
+    assert_eq!(rt; map.alloc(), Some(4508));
+    assert_eq!(rt; map.alloc_run_aligned(2, 2), Some(4510));
+    assert_eq!(rt; map.alloc_run(5), None);
+    assert_eq!(rt; map.alloc_run(4), Some(4512));
+    assert_eq!(rt; map.alloc_at_or_after(4510), None);
+    assert_eq!(rt; map.alloc_at_or_after(4509), Some(4509));
+    assert_eq!(rt; map.next_free_run(0), None);
+    if map.as_map().is_in_use(0, 5000) {
+        map.free(4000, 1000);
+    }
+    if map.as_map().is_in_use(1, 1) {
+        map.free(1, 1);
+    }
+    assert_eq!(rt; map.alloc_run(2), Some(4000));
+    assert_eq!(rt; map.alloc(), Some(1));
+    assert_eq!(rt; map.next_free_run(0), Some((4002, 998)));
+    assert_eq!(rt; map.next_free_run(4500), Some((4500, 500)));
+    Ok(())
+}
+
+#[test]
+fn runs_behind_full_words(rt: HostRuntime) -> Result<(), Fail> {
+    let mut words = [0; 800];
+    let mut summary = [0; 14];
+    let map = FreeMap::<Lsb0>::new_unchecked(&mut words, 51200);
+    let mut map = two_levels(map, &mut summary);
+    assert!(rt; map.reserve(0, 8) && map.reserve(16, 19240));
+    assert!(rt; map.reserve(19272, 25528) && map.reserve(44864, 6336));
+    assert_eq!(rt; map.alloc_run(17), Some(44800));
+    assert_eq!(rt; map.alloc_run(9), Some(19256));
+    assert_eq!(rt; map.alloc_run_aligned(8, 32), Some(44832));
+    assert_eq!(rt; map.alloc_run(64), None);
+    assert_eq!(rt; map.alloc_run_aligned(3, 7), Some(44821));
     Ok(())
 }
