@@ -22,7 +22,7 @@ use bitvec::order::{BitOrder, Lsb0};
 // How many blocks a search for a run goes through before it asks the levels again.
 const STRETCH: usize = 16384;
 
-/// A map under two levels, as [`two_levels`] makes it. The levels are under the order that finds a
+/// A map under two levels, as [`two_levels`](crate::two_levels) makes it. The levels are under the order that finds a
 /// mark the fastest, whatever the order of the map is.
 pub type TwoLevels<'a, O> = LeveledMap<'a, O, StackedLevel<'a, FreeMap<'a, Lsb0>>>;
 
@@ -35,11 +35,10 @@ pub fn summary_words_for(blocks: usize) -> usize
 }
 
 /// A [`FreeMap`] under levels, of which the lowest has a mark for each word of blocks that has no
-/// free block. That level can be a [`StackedLevel`], with a level over it: so there can be as many
-/// levels as one wants. They lie in words beside those of the map, and are made from it, so the map
-/// alone is worth storing.
+/// free block. That level can be a [`StackedLevel`], with a level over it. Levels lie in words
+/// beside those of the map, and are made from it, so the map alone is worth storing.
 ///
-/// Under [`two_levels`], the lowest free block of 1048576 is found in the four words of the upper
+/// Under [`two_levels`](crate::two_levels), the lowest free block of 1048576 is found in the four words of the upper
 /// level, one of the lower and one of the map. What blocks are handed out, and which are in use
 /// after a call, is as of the map without levels.
 ///
@@ -66,23 +65,6 @@ pub struct LeveledMap<'a, O: BitOrder<u64>, S: Level> {
 #[derive(Drop)]
 pub struct StackedLevel<'a, S: Level> {
     map: LeveledMap<'a, Lsb0, S>,
-}
-
-/// A map under two levels, in words of their own. Requires that the words have room for them:
-/// [`summary_words_for`] says how many are wanted. Costs by the words of the map.
-pub fn two_levels<'a, O: BitOrder<u64>>(
-    blocks: FreeMap<'a, O>,
-    summary: &'a mut [u64],
-) -> TwoLevels<'a, O>
-    requires { summary_words (length (in_use blocks)) ≤ length summary.old }
-    ensures { map_of result ≡ blocks.entry }
-{
-    let words = words_for(blocks.blocks());
-    let groups = words_for(words);
-    let (low, high) = summary.split_at_mut(groups);
-    let top: FreeMap<'a, Lsb0> = FreeMap::new_unchecked(high, groups);
-    let marks = FreeMap::new_unchecked(low, words);
-    LeveledMap::over(blocks, StackedLevel::over(marks, top))
 }
 
 // Makes a level say of word `w` of a map whether it is full.
@@ -156,7 +138,8 @@ impl<'a, O: BitOrder<u64>, S: Level> LeveledMap<'a, O, S> {
     /// A map under a level, whose marks are set as the map is, whatever they were. Requires that it
     /// has a mark for each word of the map: [`words_for`] says how many are wanted.
     ///
-    /// Sets each mark. [`two_levels`] makes the levels from words alone.
+    /// Sets each mark. [`two_levels`](crate::two_levels) makes both of the
+    /// usual two from words.
     pub fn over(blocks: FreeMap<'a, O>, level: S) -> Self
         requires { length (S.marks level) ≡ word_count (length (in_use blocks)) }
         ensures { map_of result ≡ blocks.entry }

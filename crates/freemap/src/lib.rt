@@ -13,10 +13,12 @@ pub mod level;
 pub mod leveled;
 pub mod map;
 mod runs;
+mod stack;
 #[cfg(test)]
 mod tests;
 
 pub use crate::level::Level;
-pub use crate::leveled::{LeveledMap, StackedLevel, TwoLevels, two_levels};
+pub use crate::leveled::{LeveledMap, StackedLevel, TwoLevels};
 pub use crate::map::FreeMap;
 pub use crate::runs::FreeRuns;
+pub use crate::stack::two_levels;

@@ -2,8 +2,9 @@
 
 mod callers;
 
-use crate::leveled::{LeveledMap, StackedLevel, summary_words_for, two_levels};
+use crate::leveled::summary_words_for;
 use crate::map::{FreeMap, has_room, words_for};
+use crate::stack::two_levels;
 use bitvec::order::{Lsb0, Msb0};
 use std::test::Fail;
 
@@ -105,41 +106,7 @@ fn levels(rt: HostRuntime) -> Result<(), Fail> {
     assert!(rt; map.reserve(4902, 1) && map.reserve(4917, 83));
     assert_eq!(rt; map.alloc(), None);
     assert_eq!(rt; map.alloc_at_or_after(0), None);
-    assert_eq!(rt; map.into_map().largest_run(), 0);
-    Ok(())
-}
-
-#[test]
-fn three_levels(rt: HostRuntime) -> Result<(), Fail> {
-    let mut words = [u64::MAX; 80];
-    let mut marks = [0u64; 2];
-    let mut groups = [u64::MAX; 1];
-    let mut top = [u64::MAX; 1];
-    let map = FreeMap::<Lsb0>::new_unchecked(&mut words, 5000);
-    let top = FreeMap::<Lsb0>::new_unchecked(&mut top, 1);
-    let groups = FreeMap::<Lsb0>::new_unchecked(&mut groups, 2);
-    let marks = FreeMap::<Lsb0>::new_unchecked(&mut marks, 79);
-    let levels = StackedLevel::over(marks, StackedLevel::over(groups, top));
-    let mut map = LeveledMap::over(map, levels);
-    assert!(rt; map.reserve(0, 4508) && map.reserve(4516, 484));
-    assert_eq!(rt; map.next_free_run(7), Some((4508, 8)));
-    assert_eq!(rt; map.alloc(), Some(4508));
-    assert_eq!(rt; map.alloc_run_aligned(2, 2), Some(4510));
-    assert_eq!(rt; map.alloc_run(5), None);
-    assert_eq!(rt; map.alloc_run(4), Some(4512));
-    assert_eq!(rt; map.alloc_at_or_after(4510), None);
-    assert_eq!(rt; map.alloc_at_or_after(4509), Some(4509));
-    assert_eq!(rt; map.next_free_run(0), None);
-    if map.as_map().is_in_use(0, 5000) {
-        map.free(4000, 1000);
-    }
-    if map.as_map().is_in_use(1, 1) {
-        map.free(1, 1);
-    }
-    assert_eq!(rt; map.alloc_run(2), Some(4000));
-    assert_eq!(rt; map.alloc(), Some(1));
-    assert_eq!(rt; map.next_free_run(0), Some((4002, 998)));
-    assert_eq!(rt; map.next_free_run(4500), Some((4500, 500)));
+    assert_eq!(rt; map.as_map().largest_run(), 0);
     Ok(())
 }
 
@@ -156,5 +123,6 @@ fn runs_behind_full_words(rt: HostRuntime) -> Result<(), Fail> {
     assert_eq!(rt; map.alloc_run_aligned(8, 32), Some(44832));
     assert_eq!(rt; map.alloc_run(64), None);
     assert_eq!(rt; map.alloc_run_aligned(3, 7), Some(44821));
+    assert_eq!(rt; map.next_free_run(44800), Some((44817, 4)));
     Ok(())
 }

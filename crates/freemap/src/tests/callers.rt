@@ -10,8 +10,9 @@ ghost use Rattle.freemap.specs.Leveled.{map_of};
 ghost use Rattle.freemap.specs.Map.{in_use};
 
 use crate::level::Level;
-use crate::leveled::{LeveledMap, two_levels};
+use crate::leveled::LeveledMap;
 use crate::map::FreeMap;
+use crate::stack::two_levels;
 use bitvec::order::{BitOrder, Lsb0};
 use std::test::Fail;
 

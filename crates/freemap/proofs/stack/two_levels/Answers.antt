@@ -2,7 +2,7 @@ use Rattle.std.proofs.Common.{◌≡◌, ◌+◌, ◌/◌, ◌∙◌, length, sy
 use Rattle.std.proofs.lemmas.List.{length-replicate}
 use Rattle.freemap.specs.Blocks.{word_count}
 use Rattle.freemap.specs.Map.{in_use}
-use Rattle.freemap.proofs.leveled.two_levels.Goals as goal
+use Rattle.freemap.proofs.stack.two_levels.Goals as goal
 
 pub over-requires : goal.over-requires
 over-requires g c =
