@@ -6,7 +6,7 @@ use crate::timer::{Job, Mode, Name, tell, time};
 use bitvec::order::Lsb0;
 use freemap::leveled::summary_words_for;
 use freemap::map::has_room;
-use freemap::{FreeMap, LeveledMap};
+use freemap::{FreeMap, LeveledMap, TwoLevels, two_levels};
 use std::alloc::AllocError;
 use std::io;
 
@@ -45,7 +45,7 @@ trait Blocks {
     fn these(&mut self, at: usize, count: usize) -> Option<usize>;
 }
 
-impl Blocks for LeveledMap<'_, Lsb0> {
+impl Blocks for TwoLevels<'_, Lsb0> {
     #[inline(always)]
     fn alloc(&mut self) -> Option<usize> {
         LeveledMap::alloc(self)
@@ -274,7 +274,7 @@ fn answer<M: Blocks>(map: &mut M, live: &mut [(usize, usize)], task: Task) -> us
 // A map with levels, the ranges that are live, and a task.
 #[derive(Drop)]
 struct Leveled<'a, 'b> {
-    map: LeveledMap<'a, Lsb0>,
+    map: TwoLevels<'a, Lsb0>,
     live: &'b mut [(usize, usize)],
     task: Task,
     answer: usize,
@@ -332,7 +332,7 @@ fn map_of<'a>(
     words: &'a mut [u64],
     summary: &'a mut [u64],
     blocks: usize,
-) -> Option<LeveledMap<'a, Lsb0>> {
+) -> Option<TwoLevels<'a, Lsb0>> {
     if !has_room(words.len(), blocks) {
         return None;
     }
@@ -340,7 +340,7 @@ fn map_of<'a>(
     if summary.len() < summary_words_for(map.blocks()) {
         return None;
     }
-    Some(LeveledMap::over(map, summary))
+    Some(two_levels(map, summary))
 }
 
 // Does a task with a map of words under levels, and compares or times.

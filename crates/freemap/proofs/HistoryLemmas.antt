@@ -124,6 +124,13 @@ handed_out old new at count is inside same = (
   λ k first last. ap (λ us. element us k) is ∙ filled_new old at (at + count) true (omega arith) inside k first last,
 )
 
+-- what is taken back is free
+pub taken_back : (old new : List Bool) (at count : ℕ) → new ≡ with_filled old at (at + count) false → at + count ≤ length old → length new ≡ length old → AreFree new at count
+taken_back old new at count is inside same = (
+  omega (arith, inside, same),
+  λ k first last. ap (λ us. element us k) is ∙ filled_new old at (at + count) false (omega arith) inside k first last,
+)
+
 -- one call
 call_keeps : (call : Call) (used after : List Bool) (live left : List (ℕ × ℕ)) → Owns used live → IsCall call used live after left → Owns after left
 call_keeps (HandsOut at count) used after live left owns is = subst (Owns after) (sym is.2) (owned_more used after at count is.1 is.0 live owns)

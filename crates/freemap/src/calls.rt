@@ -1,10 +1,10 @@
 //! Blocks that are handed out, taken back and reserved.
 
-ghost use Rattle.std.specs.Prelude.{◌≡◌, ◌↔◌, ℕ, ◌+◌, ◌<◌, ◌≤◌, true, false, IsTrue, IsFalse};
-ghost use Rattle.std.specs.Prelude.{IfSome, List, ◌∷◌, ◌++◌};
+ghost use Rattle.std.specs.Prelude.{◌≡◌, ◌↔◌, ℕ, ◌+◌, ◌<◌, ◌≤◌, true, false, IsTrue, IsFalse, length};
+ghost use Rattle.std.specs.Prelude.{IfSome, MatchOption, List, ◌∷◌, ◌++◌};
 ghost use Rattle.bitvec.specs.Span.{with_filled};
 ghost use Rattle.bitvec_slice.specs.Bits.{AreFree};
-ghost use Rattle.bitvec_slice.specs.Patterns.{AreFreeFrom};
+ghost use Rattle.bitvec_slice.specs.Patterns.{AreFreeFrom, IsLeast};
 ghost use Rattle.freemap.specs.Blocks.{AreInUse, IsLowest};
 ghost use Rattle.freemap.specs.History.{Owns, OwnsMore};
 
@@ -101,6 +101,7 @@ impl<'a, O: BitOrder<u64>> FreeMap<'a, O> {
         ensures answer { IsTrue result ↔ AreFree (in_use self.old) at count }
         ensures taken { IsTrue result → BecomesBlocks self.old self.new
             (with_filled (in_use self.old) at (at + count) true) }
+        ensures handed { IsTrue result → AreInUse (in_use self.new) at count }
         ensures owned { IsTrue result → (live : List (ℕ × ℕ)) → Owns (in_use self.old) live
             → Owns (in_use self.new) ((at, count) ∷ live) }
         ensures refused { IsFalse result → self.new ≡ self.old }
@@ -122,6 +123,7 @@ impl<'a, O: BitOrder<u64>> FreeMap<'a, O> {
         requires { AreInUse (in_use self.old) at count }
         ensures freed { BecomesBlocks self.old self.new
             (with_filled (in_use self.old) at (at + count) false) }
+        ensures back { AreFree (in_use self.new) at count }
         ensures owned { (before later : List (ℕ × ℕ))
             → Owns (in_use self.old) (before ++ (at, count) ∷ later)
             → Owns (in_use self.new) (before ++ later) }
@@ -162,5 +164,22 @@ impl<'a, O: BitOrder<u64>> FreeMap<'a, O> {
         ensures { IsLowest (AreFreeFrom (in_use self.now) start count alignment) result }
     {
         self.bits().find_zeros_from(start, count, alignment)
+    }
+
+    // The same of blocks up to before block `end`: `None` where none of them are such.
+    pub(crate) fn run_upto(
+        &self,
+        end: usize,
+        start: usize,
+        count: usize,
+        alignment: usize,
+    ) -> Option<usize>
+        requires alignment { 0 < alignment }
+        requires end { end ≤ length (in_use self.now) }
+        ensures { let IsRun = AreFreeFrom (in_use self.now) start count alignment
+            in MatchOption result ((at : ℕ) → at + count ≤ end → ¬ IsRun at) (IsLeast IsRun) }
+    {
+        let part = self.bits().get_range(0, end)?;
+        part.find_zeros_from(start, count, alignment)
     }
 }

@@ -1,23 +1,32 @@
-//! A free map under two levels that say which words are full, so that the lowest free block is
-//! found in a few words.
+//! A free map under levels that say which words are full, so that the lowest free block is found
+//! in a few words.
 
 ghost use Rattle.std.specs.Prelude.{◌≡◌, ◌↔◌, ℕ, ◌+◌, ◌<◌, ◌≤◌, true, false, IsTrue, IsFalse};
-ghost use Rattle.std.specs.Prelude.{IfSome, List, length, ◌∷◌, ◌++◌};
+ghost use Rattle.std.specs.Prelude.{IfSome, MatchOption, List, length, ◌∷◌, ◌++◌};
 ghost use Rattle.bitvec.specs.Span.{element, with_filled};
-ghost use Rattle.bitvec_slice.specs.Bits.{AreFree};
+ghost use Rattle.bitvec_slice.specs.Bits.{AllBetween, AreFree};
 ghost use Rattle.bitvec_slice.specs.Patterns.{AreFreeFrom};
 ghost use Rattle.bitvec_slice.specs.Ranges.{KeepsBeside};
 ghost use Rattle.freemap.specs.Blocks.{word_count, AreInUse, IsLowest};
+ghost use Rattle.freemap.specs.FreeRuns.{IsNextRun};
 ghost use Rattle.freemap.specs.History.{Owns, OwnsMore};
 ghost use Rattle.freemap.specs.Map.{in_use, BecomesBlocks, Takes};
 ghost use Rattle.freemap.specs.Summary.{summary_words, IsFull, SaysOf, Summarises};
 ghost use Rattle.freemap.specs.Summary.{SummarisesBeside};
 
+use crate::level::Level;
 use crate::map::{FreeMap, words_for};
 use crate::runs::FreeRuns;
-use bitvec::order::BitOrder;
+use bitvec::order::{BitOrder, Lsb0};
 
-/// How many words the levels over a map of `blocks` blocks take. Constant time.
+// How many blocks a search for a run goes through before it asks the levels again.
+const STRETCH: usize = 16384;
+
+/// A map under two levels, as [`two_levels`](crate::two_levels) makes it. The levels are under the order that finds a
+/// mark the fastest, whatever the order of the map is.
+pub type TwoLevels<'a, O> = LeveledMap<'a, O, StackedLevel<'a, FreeMap<'a, Lsb0>>>;
+
+/// How many words the two levels over a map of `blocks` blocks take. Constant time.
 pub fn summary_words_for(blocks: usize) -> usize
     ensures { result ≡ summary_words blocks }
 {
@@ -25,13 +34,13 @@ pub fn summary_words_for(blocks: usize) -> usize
     full + words_for(full)
 }
 
-/// A [`FreeMap`] under two levels: each bit of the one says that a word of blocks has no free
-/// block, and each of the other says so of a word of the first level. They lie in words that the
-/// caller lends beside those of the map, and are made from it, so the map alone is worth storing.
+/// A [`FreeMap`] under levels, of which the lowest has a mark for each word of blocks that has no
+/// free block. That level can be a [`StackedLevel`], with a level over it. Levels lie in words
+/// beside those of the map, and are made from it, so the map alone is worth storing.
 ///
-/// So the lowest free block of 1048576 is found in the four words of the upper level, one of the
-/// lower and one of the map. What blocks are handed out, and which are in use after a call, is as
-/// of the map without levels.
+/// Under [`two_levels`](crate::two_levels), the lowest free block of 1048576 is found in the four words of the upper
+/// level, one of the lower and one of the map. What blocks are handed out, and which are in use
+/// after a call, is as of the map without levels.
 ///
 /// # Examples
 ///
@@ -39,75 +48,58 @@ pub fn summary_words_for(blocks: usize) -> usize
 /// let mut words = [0u64; 64];
 /// let mut summary = [0u64; 2];
 /// let map = FreeMap::<Lsb0>::new_unchecked(&mut words, 4096);
-/// let mut map = LeveledMap::over(map, &mut summary);
+/// let mut map = two_levels(map, &mut summary);
 /// assert!(rt; map.reserve(0, 4000));
 /// assert_eq!(rt; map.alloc(), Some(4000));
 /// assert_eq!(rt; map.alloc_run_aligned(8, 8), Some(4008));
 /// assert_eq!(rt; map.as_map().count_free(), 87);
 /// ```
 #[derive(Drop)]
-pub struct LeveledMap<'a, O: BitOrder<u64>> {
+pub struct LeveledMap<'a, O: BitOrder<u64>, S: Level> {
     blocks: FreeMap<'a, O>,
-    full: FreeMap<'a, O>,
-    top: FreeMap<'a, O>,
-    pub ghost words: { Summarises (in_use blocks) (in_use full) },
-    pub ghost groups: { Summarises (in_use full) (in_use top) },
+    full: S,
+    pub ghost words: { Summarises (in_use blocks) (S.marks full) },
 }
 
-// Makes a map of words say of word `w` of a map whether it is full.
-fn say_word<O: BitOrder<u64>>(map: &FreeMap<'_, O>, full: &mut FreeMap<'_, O>, w: usize)
-    requires many { length (in_use full.old) ≡ word_count (length (in_use map.now)) }
-    requires inside { w < length (in_use full.old) }
-    ensures said { SaysOf (in_use map.now) (in_use full.new) w }
-    ensures beside { KeepsBeside w (w + 1) (in_use full.old) (in_use full.new) }
-    ensures many { length (in_use full.new) ≡ length (in_use full.old) }
+/// A level with another level over it, which marks those of its words that are all marked.
+#[derive(Drop)]
+pub struct StackedLevel<'a, S: Level> {
+    map: LeveledMap<'a, Lsb0, S>,
+}
+
+// Makes a level say of word `w` of a map whether it is full.
+fn say_word<O: BitOrder<u64>, S: Level>(map: &FreeMap<'_, O>, full: &mut S, w: usize)
+    requires many { length (S.marks full.old) ≡ word_count (length (in_use map.now)) }
+    requires inside { w < length (S.marks full.old) }
+    ensures said { SaysOf (in_use map.now) (S.marks full.new) w }
+    ensures beside { KeepsBeside w (w + 1) (S.marks full.old) (S.marks full.new) }
+    ensures many { length (S.marks full.new) ≡ length (S.marks full.old) }
 {
-    full.mark(w, 1, map.is_word_full(w));
+    full.set_mark(w, map.is_word_full(w));
 }
 
-// The same, and whether the map of words said something else.
-#[inline(always)]
-fn say_anew<O: BitOrder<u64>>(map: &FreeMap<'_, O>, full: &mut FreeMap<'_, O>, w: usize) -> bool
-    requires many { length (in_use full.old) ≡ word_count (length (in_use map.now)) }
-    requires inside { w < length (in_use full.old) }
-    ensures said { SaysOf (in_use map.now) (in_use full.new) w }
-    ensures beside { KeepsBeside w (w + 1) (in_use full.old) (in_use full.new) }
-    ensures many { length (in_use full.new) ≡ length (in_use full.old) }
-    ensures same { IsFalse result → in_use full.new ≡ in_use full.old }
-{
-    let is_full = map.is_word_full(w);
-    if full.is_set(w) == is_full {
-        return false;
-    }
-    full.set(w, is_full);
-    true
-}
-
-// Makes a map of words say of every word of a map whether it is full.
-fn say_words<O: BitOrder<u64>>(map: &FreeMap<'_, O>, full: &mut FreeMap<'_, O>, words: usize)
-    requires { SummarisesBeside (in_use map.now) (in_use full.old) 0 words }
-    ensures { Summarises (in_use map.now) (in_use full.new) }
+// Makes a level say of every word of a map whether it is full.
+fn say_words<O: BitOrder<u64>, S: Level>(map: &FreeMap<'_, O>, full: &mut S, words: usize)
+    requires { SummarisesBeside (in_use map.now) (S.marks full.old) 0 words }
+    ensures { Summarises (in_use map.now) (S.marks full.new) }
 {
     for w in 0..words {
         say_word(map, full, w);
     }
 }
 
-// Makes a map of words say of the words of a map from word `from` to before word `to` whether they
-// are full. All but the first and the last are, or none is, as `used` says.
-fn refresh<O: BitOrder<u64>>(
+// Makes a level say of the words of a map from word `from` to before word `to` whether they are
+// full. All but the first and the last are, or none is, as `used` says.
+fn refresh<O: BitOrder<u64>, S: Level>(
     map: &FreeMap<'_, O>,
-    full: &mut FreeMap<'_, O>,
+    full: &mut S,
     from: usize,
     to: usize,
     used: bool,
 )
-    requires rest { SummarisesBeside (in_use map.now) (in_use full.old) from to }
+    requires rest { SummarisesBeside (in_use map.now) (S.marks full.old) from to }
     requires inner { (w : ℕ) → from < w → w + 1 < to → (used ≡ true) ↔ IsFull (in_use map.now) w }
-    ensures right { Summarises (in_use map.now) (in_use full.new) }
-    ensures beside { KeepsBeside from to (in_use full.old) (in_use full.new) }
-    ensures inner { (w : ℕ) → from < w → w + 1 < to → element (in_use full.new) w ≡ used }
-    ensures many { length (in_use full.new) ≡ length (in_use full.old) }
+    ensures { Summarises (in_use map.now) (S.marks full.new) }
 {
     if to <= from {
         return;
@@ -119,47 +111,43 @@ fn refresh<O: BitOrder<u64>>(
 }
 
 // The same where all but the last are full, or none is.
-fn refresh_rest<O: BitOrder<u64>>(
+fn refresh_rest<O: BitOrder<u64>, S: Level>(
     map: &FreeMap<'_, O>,
-    full: &mut FreeMap<'_, O>,
+    full: &mut S,
     from: usize,
     to: usize,
     used: bool,
 )
     requires some { from < to }
-    requires rest { SummarisesBeside (in_use map.now) (in_use full.old) from to }
+    requires rest { SummarisesBeside (in_use map.now) (S.marks full.old) from to }
     requires inner { (w : ℕ) → from ≤ w → w + 1 < to → (used ≡ true) ↔ IsFull (in_use map.now) w }
-    ensures right { Summarises (in_use map.now) (in_use full.new) }
-    ensures beside { KeepsBeside from to (in_use full.old) (in_use full.new) }
-    ensures inner { (w : ℕ) → from ≤ w → w + 1 < to → element (in_use full.new) w ≡ used }
-    ensures many { length (in_use full.new) ≡ length (in_use full.old) }
+    ensures { Summarises (in_use map.now) (S.marks full.new) }
 {
     let last = to - 1;
     say_word(map, full, last);
     if from < last {
-        full.mark(from, last - from, used);
+        full.set_marks(from, last - from, used);
     }
 }
 
-impl<'a, O: BitOrder<u64>> LeveledMap<'a, O> {
+impl<'a, O: BitOrder<u64>, S: Level> LeveledMap<'a, O, S> {
     ghost use Rattle.freemap.specs.Leveled.{map_of};
     ghost use Rattle.freemap.specs.FreeRuns.{free_runs};
     ghost use Rattle.freemap.specs.RunsLeft.{free_runs_left};
 
-    /// A map under levels in words of their own. Requires that the words have room for them:
-    /// [`summary_words_for`] says how many are wanted. Costs by the words of the map.
-    pub fn over(blocks: FreeMap<'a, O>, summary: &'a mut [u64]) -> Self
-        requires { summary_words (length (in_use blocks)) ≤ length summary.old }
+    /// A map under a level, whose marks are set as the map is, whatever they were. Requires that it
+    /// has a mark for each word of the map: [`words_for`] says how many are wanted.
+    ///
+    /// Sets each mark. [`two_levels`](crate::two_levels) makes both of the
+    /// usual two from words.
+    pub fn over(blocks: FreeMap<'a, O>, level: S) -> Self
+        requires { length (S.marks level) ≡ word_count (length (in_use blocks)) }
         ensures { map_of result ≡ blocks.entry }
     {
+        let mut full = level;
         let words = words_for(blocks.blocks());
-        let groups = words_for(words);
-        let (low, high) = summary.split_at_mut(groups);
-        let mut full = FreeMap::new_unchecked(low, words);
         say_words(&blocks, &mut full, words);
-        let mut top = FreeMap::new_unchecked(high, groups);
-        say_words(&full, &mut top, groups);
-        LeveledMap { blocks, full, top }
+        LeveledMap { blocks, full }
     }
 
     /// The map without its levels, for what it is asked. Constant time.
@@ -175,6 +163,18 @@ impl<'a, O: BitOrder<u64>> LeveledMap<'a, O> {
         ensures { free_runs_left result ≡ free_runs (in_use (map_of self.now)) }
     {
         self.blocks.iter_free_runs()
+    }
+
+    /// The first run of free blocks from block `from` on, as
+    /// [`next_free_run`](FreeMap::next_free_run) of the map says it. The levels find its first
+    /// block, and its end costs by words.
+    pub fn next_free_run(&self, from: usize) -> Option<(usize, usize)>
+        ensures { let used = in_use (map_of self.now)
+            in MatchOption result (AllBetween true used from (length used))
+            (λ run. IsNextRun used from run.0 run.1) }
+    {
+        let at = self.free_from(from)?;
+        Some((at, self.blocks.end_of_run(at) - at))
     }
 
     /// The map alone, without its levels. Constant time.
@@ -208,21 +208,46 @@ impl<'a, O: BitOrder<u64>> LeveledMap<'a, O> {
         let from = at / 64;
         let to = words_for(at + count);
         refresh(&self.blocks, &mut self.full, from, to, used);
-        refresh(&self.full, &mut self.top, from / 64, words_for(to), used);
     }
 
-    // The same of one block. The upper level is looked at only where the lower says something new.
+    // The same of one block.
     #[inline(always)]
     fn mark_one(&mut self, at: usize, used: bool)
         requires { at < length (in_use (map_of self.old)) }
         ensures { let old = map_of self.old in BecomesBlocks old (map_of self.new)
             (with_filled (in_use old) at (at + 1) used) }
     {
-        self.blocks.set(at, used);
-        if !say_anew(&self.blocks, &mut self.full, at / 64) {
-            return;
+        if used {
+            self.put_in_use(at);
+        } else {
+            self.put_free(at);
         }
-        say_anew(&self.full, &mut self.top, at / 64 / 64);
+    }
+
+    // Puts one block in use. The level is told only where its word became full.
+    #[inline(always)]
+    fn put_in_use(&mut self, at: usize)
+        requires { at < length (in_use (map_of self.old)) }
+        ensures { let old = map_of self.old in BecomesBlocks old (map_of self.new)
+            (with_filled (in_use old) at (at + 1) true) }
+    {
+        if self.blocks.put_in_use(at) {
+            self.full.set_mark(at / 64, true);
+        }
+    }
+
+    // Makes one block free. The level is told only where its word was full.
+    #[inline(always)]
+    fn put_free(&mut self, at: usize)
+        requires { at < length (in_use (map_of self.old)) }
+        ensures { let old = map_of self.old in BecomesBlocks old (map_of self.new)
+            (with_filled (in_use old) at (at + 1) false) }
+    {
+        let was_full = self.blocks.is_word_full(at / 64);
+        self.blocks.set(at, false);
+        if was_full {
+            self.full.set_mark(at / 64, false);
+        }
     }
 
     // Hands out `count` free blocks from block `at` on.
@@ -239,11 +264,11 @@ impl<'a, O: BitOrder<u64>> LeveledMap<'a, O> {
     }
 
     // The lowest free block.
+    #[inline(always)]
     fn lowest_free(&self) -> Option<usize>
         ensures { IsLowest (λ at. AreFree (in_use (map_of self.now)) at 1) result }
     {
-        let group = self.top.lowest_free()?;
-        let word = self.full.free_in_word(group)?;
+        let word = self.full.lowest_unmarked()?;
         self.blocks.free_in_word(word)
     }
 
@@ -254,13 +279,13 @@ impl<'a, O: BitOrder<u64>> LeveledMap<'a, O> {
         if let Some(at) = self.blocks.free_to_word_end(block) {
             return Some(at);
         }
-        let word = self.full.free_from(block / 64 + 1)?;
+        let word = self.full.lowest_unmarked_from(block / 64 + 1)?;
         self.blocks.free_in_word(word)
     }
 
     /// Hands out the lowest block that is free, and returns it; `None` exactly where none is, and
-    /// then the map stays as it is. Looks through the words of the upper level up to the one that
-    /// says where, and into one word of each other level.
+    /// then the map stays as it is. Looks through the words of the uppermost level up to the one
+    /// that says where, and into one word of each other level.
     pub fn alloc(&mut self) -> Option<usize>
         ensures answer { IsLowest (λ at. AreFree (in_use (map_of self.old)) at 1) result }
         ensures taken { Takes (map_of self.old) (map_of self.new) 1 result }
@@ -273,8 +298,8 @@ impl<'a, O: BitOrder<u64>> LeveledMap<'a, O> {
     }
 
     /// Hands out the lowest free block that is not before `block`, and returns it; `None` exactly
-    /// where none is, and then the map stays as it is. Looks into the rest of the word of `block`,
-    /// and then through the words of the lower level up to the one that says where.
+    /// where none is, and then the map stays as it is. Looks into the rest of a word of each level,
+    /// and through the words of the uppermost up to the one that says where.
     pub fn alloc_at_or_after(&mut self, block: usize) -> Option<usize>
         ensures answer { let used = in_use (map_of self.old)
             in IsLowest (λ at. (block ≤ at) × AreFree used at 1) result }
@@ -291,8 +316,9 @@ impl<'a, O: BitOrder<u64>> LeveledMap<'a, O> {
     /// of them; `None` exactly where there are none, and then the map stays as it is. No blocks at
     /// all are found at block 0.
     ///
-    /// The levels give the lowest free block; from there on it costs as
-    /// [`alloc_run`](FreeMap::alloc_run) of the map does.
+    /// The levels pass full words wherever they are: from a free block on, 16384 blocks, or twice
+    /// as many as are wanted, are looked through as [`alloc_run`](FreeMap::alloc_run) of the map
+    /// does, and then the levels say where the next free block is.
     pub fn alloc_run(&mut self, count: usize) -> Option<usize>
         ensures answer { IsLowest (λ at. AreFree (in_use (map_of self.old)) at count) result }
         ensures taken { Takes (map_of self.old) (map_of self.new) count result }
@@ -300,15 +326,17 @@ impl<'a, O: BitOrder<u64>> LeveledMap<'a, O> {
         ensures owned { OwnsMore (in_use (map_of self.old)) (in_use (map_of self.new)) count
             result }
     {
-        let at = self.lowest_run(count)?;
+        let at = self.first_run(count)?;
         self.take(at, count);
         Some(at)
     }
 
     /// Hands out `count` blocks in a row, the first such that are all free and begin at a multiple
     /// of `alignment`, and returns the first of them; `None` exactly where there are none, and then
-    /// the map stays as it is. Requires that `alignment` is not 0. Costs as
-    /// [`alloc_run_aligned`](FreeMap::alloc_run_aligned) of the map does.
+    /// the map stays as it is. Requires that `alignment` is not 0.
+    ///
+    /// The levels pass full words as in [`alloc_run`](LeveledMap::alloc_run); what is looked
+    /// through costs as [`alloc_run_aligned`](FreeMap::alloc_run_aligned) of the map does.
     pub fn alloc_run_aligned(&mut self, count: usize, alignment: usize) -> Option<usize>
         requires { 0 < alignment }
         ensures answer { IsLowest (AreFreeFrom (in_use (map_of self.old)) 0 count alignment)
@@ -318,7 +346,7 @@ impl<'a, O: BitOrder<u64>> LeveledMap<'a, O> {
         ensures owned { OwnsMore (in_use (map_of self.old)) (in_use (map_of self.new)) count
             result }
     {
-        let at = self.blocks.run_from(0, count, alignment)?;
+        let at = self.lowest_run(count, alignment)?;
         self.take(at, count);
         Some(at)
     }
@@ -330,6 +358,7 @@ impl<'a, O: BitOrder<u64>> LeveledMap<'a, O> {
         ensures answer { IsTrue result ↔ AreFree (in_use (map_of self.old)) at count }
         ensures taken { IsTrue result → BecomesBlocks (map_of self.old) (map_of self.new)
             (with_filled (in_use (map_of self.old)) at (at + count) true) }
+        ensures handed { IsTrue result → AreInUse (in_use (map_of self.new)) at count }
         ensures owned { IsTrue result → (live : List (ℕ × ℕ))
             → Owns (in_use (map_of self.old)) live
             → Owns (in_use (map_of self.new)) ((at, count) ∷ live) }
@@ -353,6 +382,7 @@ impl<'a, O: BitOrder<u64>> LeveledMap<'a, O> {
         requires { AreInUse (in_use (map_of self.old)) at count }
         ensures freed { let old = map_of self.old in BecomesBlocks old (map_of self.new)
             (with_filled (in_use old) at (at + count) false) }
+        ensures back { AreFree (in_use (map_of self.new)) at count }
         ensures owned { (before later : List (ℕ × ℕ))
             → Owns (in_use (map_of self.old)) (before ++ (at, count) ∷ later)
             → Owns (in_use (map_of self.new)) (before ++ later) }
@@ -361,13 +391,91 @@ impl<'a, O: BitOrder<u64>> LeveledMap<'a, O> {
     }
 
     // The first `count` blocks in a row that are all free.
-    fn lowest_run(&self, count: usize) -> Option<usize>
+    fn first_run(&self, count: usize) -> Option<usize>
         ensures { IsLowest (λ at. AreFree (in_use (map_of self.now)) at count) result }
+    {
+        self.lowest_run(count, 1)
+    }
+
+    // The first `count` blocks in a row that are all free and begin at a multiple of `alignment`.
+    fn lowest_run(&self, count: usize, alignment: usize) -> Option<usize>
+        requires { 0 < alignment }
+        ensures { IsLowest (AreFreeFrom (in_use (map_of self.now)) 0 count alignment) result }
     {
         if count == 0 {
             return Some(0);
         }
-        let first = self.lowest_free()?;
-        self.blocks.run_from(first, count, 1)
+        self.run_by_levels(count, alignment)
+    }
+
+    // The same of some blocks. Wherever words are full, the levels say where the next free block
+    // is, but for a stretch of words that is looked through at once.
+    fn run_by_levels(&self, count: usize, alignment: usize) -> Option<usize>
+        requires some { 0 < count }
+        requires alignment { 0 < alignment }
+        ensures { IsLowest (AreFreeFrom (in_use (map_of self.now)) 0 count alignment) result }
+    {
+        let mut first = self.lowest_free()?;
+        while let Some(end) = self.end_of_stretch(first, count) {
+            if let Some(at) = self.blocks.run_upto(end, first, count, alignment) {
+                return Some(at);
+            }
+            first = self.free_from(end + 1 - count)?;
+        }
+        self.blocks.run_from(first, count, alignment)
+    }
+
+    // Where to ask the levels again in a search for `count` blocks from block `first` on; `None`
+    // where what is left is short.
+    fn end_of_stretch(&self, first: usize, count: usize) -> Option<usize>
+        ensures { IfSome result (λ end. (first + count ≤ end)
+            × (end ≤ length (in_use (map_of self.now)))) }
+    {
+        let room = self.blocks.blocks().checked_sub(first)?;
+        let long = STRETCH.max(count.saturating_mul(2));
+        if room <= long {
+            return None;
+        }
+        Some(first + long)
+    }
+}
+
+impl<'a, S: Level> StackedLevel<'a, S> {
+    ghost use Rattle.freemap.specs.Leveled.{marks_of};
+
+    /// The level whose marks a map has, a block in use for each, under another level, whose marks
+    /// are set as these are. Requires that it has a mark for each word of the map, as
+    /// [`LeveledMap::over`] does.
+    pub fn over(marks: FreeMap<'a, Lsb0>, level: S) -> Self
+        requires { length (S.marks level) ≡ word_count (length (in_use marks)) }
+        ensures { marks_of result ≡ in_use marks.entry }
+    {
+        StackedLevel {
+            map: LeveledMap::over(marks, level),
+        }
+    }
+}
+
+impl<'a, S: Level> Level for StackedLevel<'a, S> {
+    ghost use Rattle.freemap.specs.Leveled.{marks_of};
+
+    ghost marks = { λ level. marks_of level };
+
+    #[inline(always)]
+    fn set_mark(&mut self, word: usize, marked: bool) {
+        self.map.mark_one(word, marked);
+    }
+
+    fn set_marks(&mut self, word: usize, count: usize, marked: bool) {
+        self.map.mark(word, count, marked);
+    }
+
+    #[inline(always)]
+    fn lowest_unmarked(&self) -> Option<usize> {
+        self.map.lowest_free()
+    }
+
+    fn lowest_unmarked_from(&self, from: usize) -> Option<usize> {
+        self.map.free_from(from)
     }
 }

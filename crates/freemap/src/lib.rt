@@ -9,12 +9,16 @@
 
 mod calls;
 pub mod history;
+pub mod level;
 pub mod leveled;
 pub mod map;
 mod runs;
+mod stack;
 #[cfg(test)]
 mod tests;
 
-pub use crate::leveled::LeveledMap;
+pub use crate::level::Level;
+pub use crate::leveled::{LeveledMap, StackedLevel, TwoLevels};
 pub use crate::map::FreeMap;
 pub use crate::runs::FreeRuns;
+pub use crate::stack::two_levels;

@@ -1,6 +1,6 @@
 //! The map, how it is made, and what it is asked.
 
-ghost use Rattle.std.specs.Prelude.{◌≡◌, ◌↔◌, ◌+◌, ◌*◌, ◌≤◌, ◌<◌, false, IsTrue, IsOk, IfOk, IfErr};
+ghost use Rattle.std.specs.Prelude.{◌≡◌, ◌↔◌, ◌+◌, ◌*◌, ◌/◌, ◌≤◌, ◌<◌, true, false, IsTrue, IsOk, IfOk, IfErr};
 ghost use Rattle.std.specs.Prelude.{MatchOption, Some, length, replicate};
 ghost use Rattle.bitvec.specs.Place.{region_max_bits};
 ghost use Rattle.bitvec.specs.Span.{KeepsOthers, BecomesList, element, with_filled};
@@ -13,6 +13,7 @@ ghost use Rattle.freemap.specs.Summary.{IsFull, IsFullFrom, IsFirstFreeOf};
 use bitvec::mem;
 use bitvec::mem::BitRegister;
 use bitvec::order::{BitOrder, first_index};
+use bitvec::ptr::single::BitPtr;
 use bitvec::ptr::span::BitSpan;
 use bitvec_slice::slice::{BitSlice, BitSliceMut};
 use std::marker::PhantomData;
@@ -81,6 +82,31 @@ fn fill_words<O: BitOrder<u64>>(
     bits.fill_range(at, at + count, used);
 }
 
+// The same of one block.
+#[inline(always)]
+fn set_in_words<O: BitOrder<u64>>(words: &mut [u64], blocks: usize, at: usize, used: bool)
+    requires room { HasRoom (length words.old) blocks }
+    requires inside { at < blocks }
+    ensures { BecomesList 64 O.at_of (map_span blocks) words.old words.new
+        (with_filled (stored_blocks O.at_of blocks words.old) at (at + 1) used) }
+{
+    let pointer: BitPtr<u64, O> = BitPtr::at(at);
+    pointer.write(words, used);
+}
+
+// The lowest free block of word `w` of the words of a map.
+#[inline(always)]
+fn free_in_words<O: BitOrder<u64>>(words: &[u64], blocks: usize, w: usize) -> Option<usize>
+    requires room { HasRoom (length words.now) blocks }
+    requires inside { w < word_count blocks }
+    ensures { let used = stored_blocks O.at_of blocks words.now
+        in MatchOption result (IsFull used w) (IsFirstFreeOf used w) }
+{
+    let i = first_index::<u64, O>(words[w].not())?;
+    let block = w * 64 + usize::from(i);
+    if block < blocks { Some(block) } else { None }
+}
+
 impl<'a, O: BitOrder<u64>> FreeMap<'a, O> {
     ghost use Rattle.freemap.specs.Map.{map_words, in_use, BecomesBlocks};
 
@@ -120,9 +146,7 @@ impl<'a, O: BitOrder<u64>> FreeMap<'a, O> {
         ensures { BecomesBlocks self.old self.new
             (with_filled (in_use self.old) at (at + 1) used) }
     {
-        let span: BitSpan<u64, O> = BitSpan::at_unchecked(0, self.blocks);
-        let words = &mut *self.words;
-        span.write(words, at, used);
+        set_in_words::<O>(self.words, self.blocks, at, used);
     }
 
     /// A map of `blocks` blocks that are all free. Requires that the words have room:
@@ -215,6 +239,9 @@ impl<'a, O: BitOrder<u64>> FreeMap<'a, O> {
         if !self.has_blocks(at, count) {
             return false;
         }
+        if count == 1 {
+            return self.is_set(at);
+        }
         self.bits().all_in(at, at + count)
     }
 
@@ -224,6 +251,9 @@ impl<'a, O: BitOrder<u64>> FreeMap<'a, O> {
     {
         if !self.has_blocks(at, count) {
             return false;
+        }
+        if count == 1 {
+            return !self.is_set(at);
         }
         !self.bits().any_in(at, at + count)
     }
@@ -252,13 +282,21 @@ impl<'a, O: BitOrder<u64>> FreeMap<'a, O> {
         ensures { MatchOption result (IsFull (in_use self.now) w)
             (IsFirstFreeOf (in_use self.now) w) }
     {
-        let i = first_index::<u64, O>(self.words[w].not())?;
-        let block = w * 64 + usize::from(i);
-        if block < self.blocks {
-            Some(block)
-        } else {
-            None
-        }
+        free_in_words::<O>(&*self.words, self.blocks, w)
+    }
+
+    // Puts one block in use, and returns whether its word is full then.
+    #[inline(always)]
+    pub(crate) fn put_in_use(&mut self, at: usize) -> bool
+        requires { at < length (in_use self.old) }
+        ensures becomes { BecomesBlocks self.old self.new
+            (with_filled (in_use self.old) at (at + 1) true) }
+        ensures full { IsTrue result ↔ IsFull (in_use self.new) (at / 64) }
+    {
+        let blocks = self.blocks;
+        let words = &mut *self.words;
+        set_in_words::<O>(words, blocks, at, true);
+        free_in_words::<O>(words, blocks, at / 64).is_none()
     }
 
     // The lowest free block from block `block` on in its word.
@@ -278,6 +316,7 @@ impl<'a, O: BitOrder<u64>> FreeMap<'a, O> {
     }
 
     // Whether no block of word `w` is free.
+    #[inline(always)]
     pub(crate) fn is_word_full(&self, w: usize) -> bool
         requires { w < word_count (length (in_use self.now)) }
         ensures { IsTrue result ↔ IsFull (in_use self.now) w }

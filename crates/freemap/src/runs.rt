@@ -3,7 +3,7 @@
 ghost use Rattle.std.specs.Prelude.{◌≡◌, ⊤, ◌<◌, ◌≤◌, true, false, MatchOption, length};
 ghost use Rattle.bitvec.specs.Span.{element};
 ghost use Rattle.bitvec_slice.specs.BitSlice.{bits_of};
-ghost use Rattle.bitvec_slice.specs.Bits.{AllBetween};
+ghost use Rattle.bitvec_slice.specs.Bits.{AllBetween, AreFree};
 ghost use Rattle.freemap.specs.Blocks.{IsLargestRun};
 ghost use Rattle.freemap.specs.FreeRuns.{IsEnd, IsNextRun, free_runs};
 
@@ -133,6 +133,14 @@ impl<'a, O: BitOrder<u64>> FreeMap<'a, O> {
             (λ run. IsNextRun (in_use self.now) from run.0 run.1) }
     {
         run_after(&self.bits(), from)
+    }
+
+    // One past the free blocks in a row from a free one on.
+    pub(crate) fn end_of_run(&self, at: usize) -> usize
+        requires { AreFree (in_use self.now) at 1 }
+        ensures { IsEnd (in_use self.now) at result }
+    {
+        end_of_free(&self.bits(), at)
     }
 
     /// How many blocks the largest run of free blocks has; 0 where none is free. Costs by words,

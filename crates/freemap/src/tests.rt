@@ -2,8 +2,9 @@
 
 mod callers;
 
-use crate::leveled::{LeveledMap, summary_words_for};
+use crate::leveled::summary_words_for;
 use crate::map::{FreeMap, has_room, words_for};
+use crate::stack::two_levels;
 use bitvec::order::{Lsb0, Msb0};
 use std::test::Fail;
 
@@ -59,7 +60,7 @@ fn free_runs_across_words(rt: HostRuntime) -> Result<(), Fail> {
     let mut words = [0x0FFF_FFFF_FFFF_FFFFu64, 0, 0x8000_0000_0000_00F0];
     let mut summary = [0; 2];
     let map = FreeMap::<Lsb0>::from_words_unchecked(&mut words, 191);
-    let map = LeveledMap::over(map, &mut summary);
+    let map = two_levels(map, &mut summary);
     let mut runs = map.iter_free_runs();
     assert_eq!(rt; runs.next(), Some((60, 72)));
     assert_eq!(rt; runs.clone().unwrap().next(), Some((136, 55)));
@@ -89,7 +90,7 @@ fn levels(rt: HostRuntime) -> Result<(), Fail> {
     let mut summary = [u64::MAX; 3];
     assert_eq!(rt; summary_words_for(5000), 3);
     let map = FreeMap::<Lsb0>::new_unchecked(&mut words, 5000);
-    let mut map = LeveledMap::over(map, &mut summary);
+    let mut map = two_levels(map, &mut summary);
     assert!(rt; map.reserve(0, 4900));
     assert_eq!(rt; map.alloc(), Some(4900));
     assert_eq!(rt; map.alloc_run_aligned(8, 8), Some(4904));
@@ -105,6 +106,23 @@ fn levels(rt: HostRuntime) -> Result<(), Fail> {
     assert!(rt; map.reserve(4902, 1) && map.reserve(4917, 83));
     assert_eq!(rt; map.alloc(), None);
     assert_eq!(rt; map.alloc_at_or_after(0), None);
-    assert_eq!(rt; map.into_map().largest_run(), 0);
+    assert_eq!(rt; map.as_map().largest_run(), 0);
+    Ok(())
+}
+
+#[test]
+fn runs_behind_full_words(rt: HostRuntime) -> Result<(), Fail> {
+    let mut words = [0; 800];
+    let mut summary = [0; 14];
+    let map = FreeMap::<Lsb0>::new_unchecked(&mut words, 51200);
+    let mut map = two_levels(map, &mut summary);
+    assert!(rt; map.reserve(0, 8) && map.reserve(16, 19240));
+    assert!(rt; map.reserve(19272, 25528) && map.reserve(44864, 6336));
+    assert_eq!(rt; map.alloc_run(17), Some(44800));
+    assert_eq!(rt; map.alloc_run(9), Some(19256));
+    assert_eq!(rt; map.alloc_run_aligned(8, 32), Some(44832));
+    assert_eq!(rt; map.alloc_run(64), None);
+    assert_eq!(rt; map.alloc_run_aligned(3, 7), Some(44821));
+    assert_eq!(rt; map.next_free_run(44800), Some((44817, 4)));
     Ok(())
 }

@@ -9,7 +9,7 @@ say_word-requires g c = (let was = c.loop-w.invariant in record { many = was.wor
 pub loop-w-preserved : goal.loop-w-preserved
 loop-w-preserved g c =
     let said = c.say_word.ensures in
-    said_first (in_use c.args.map.now) (in_use c.loop-w.full) (in_use c.say_word.new.full) c.loop-w.w said.many said.said said.beside c.args.words c.loop-w.invariant
+    said_first (in_use c.args.map.now) (g.S.Level.marks c.loop-w.full) (g.S.Level.marks c.say_word.new.full) c.loop-w.w said.many said.said said.beside c.args.words c.loop-w.invariant
 
 pub returns : goal.returns
-returns g c = said_all (in_use c.args.map.now) (in_use c.loop-w.full) c.loop-w.w c.args.words c.loop-w.invariant c.loop-w-test.false
+returns g c = said_all (in_use c.args.map.now) (g.S.Level.marks c.loop-w.full) c.loop-w.w c.args.words c.loop-w.invariant c.loop-w-test.false

@@ -3,4 +3,4 @@ use Rattle.freemap.specs.Summary.{SummarisesBeside}
 use Rattle.freemap.proofs.leveled.say_words.Given as goal
 
 abbrev pub invariant-loop-w : goal.invariant-loop-w
-invariant-loop-w g l = SummarisesBeside (in_use l.map) (in_use l.full) l.w l.words
+invariant-loop-w g l = SummarisesBeside (in_use l.map) (g.S.Level.marks l.full) l.w l.words

@@ -6,7 +6,7 @@ use Rattle.freemap.proofs.leveled.LeveledMap.free_from.Goals as goal
 pub returns-in_err-word : goal.returns-in_err-word
 returns-in_err-word g c =
     let map = c.args.self.now in
-    rw c.from_residual.ensures (λ b both. none_after (in_use map.blocks) (in_use map.full) map.words c.args.block c.in_default.ensures (λ k later free. c.in_err-word.ensures k (later, free)) b both.0 both.1)
+    rw c.from_residual.ensures (λ b both. none_after (in_use map.blocks) (g.S.Level.marks map.full) map.words c.args.block c.in_default.ensures (λ k later free. c.in_err-word.ensures k (later, free)) b both.0 both.1)
 
 pub free_in_word-requires : goal.free_in_word-requires
 free_in_word-requires g c = (let there = c.in_ok-word.ensures.0.1.0 in omega (arith, there, c.args.self.now.words.words))
@@ -14,4 +14,4 @@ free_in_word-requires g c = (let there = c.in_ok-word.ensures.0.1.0 in omega (ar
 pub returns : goal.returns
 returns g c =
     let map = c.args.self.now in
-    after_word (in_use map.blocks) (in_use map.full) map.words c.in_ok-word.word c.args.block c.in_default.ensures c.in_ok-word.ensures c.free_in_word.result c.free_in_word.ensures
+    after_word (in_use map.blocks) (g.S.Level.marks map.full) map.words c.in_ok-word.word c.args.block c.in_default.ensures c.in_ok-word.ensures c.free_in_word.result c.free_in_word.ensures

@@ -1,6 +1,9 @@
 use Rattle.freemap.specs.Map.{in_use}
-use Rattle.freemap.proofs.HistoryLemmas.{owned_less}
+use Rattle.freemap.proofs.HistoryLemmas.{owned_less, taken_back}
 use Rattle.freemap.proofs.map.FreeMap.free.Goals as goal
 
 pub returns-clause-owned : goal.returns-clause-owned
 returns-clause-owned g c = owned_less (in_use c.args.self.now) (in_use c.mark.new.self) c.args.at c.args.count c.mark.ensures.used c.requires.0
+
+pub returns-clause-back : goal.returns-clause-back
+returns-clause-back g c = taken_back (in_use c.args.self.now) (in_use c.mark.new.self) c.args.at c.args.count c.mark.ensures.used c.requires.0 c.mark.ensures.many
