@@ -57,8 +57,11 @@ fn numbers_are_put_and_read(rt: HostRuntime) {
     let mut bytes = [0xFFu8, 0xFF];
     let mut bits = BitSliceMut::<u8, Msb0>::all_unchecked(&mut bytes);
     assert_eq!(rt; put_and_read_le(&mut bits, 2, 6, 13u32), 13);
+    assert_eq!(rt; bytes, [0xEF, 0xFF]);
+    let mut pair = [0xFFu8, 0xFF];
+    let mut bits = BitSliceMut::<u8, Msb0>::all_unchecked(&mut pair);
     assert_eq!(rt; put_two_be(&mut bits, 0, 8, 12, (0xA5u16, 3)), (0xA5, 3));
-    assert_eq!(rt; bytes, [0xA5, 0x3F]);
+    assert_eq!(rt; pair, [0xA5, 0x3F]);
     let mut words = [0u64];
     let mut bits = BitSliceMut::<u64, Lsb0>::all_unchecked(&mut words);
     assert_eq!(rt; put_and_read_le(&mut bits, 2, 6, 13u32), 13);
