@@ -23,6 +23,10 @@ module _ (xs ys : List Bool) (from to : ℕ) (rises : from ≤ to) (inside : to 
   grouped : with_range xs from to ys ≡ take from xs ++ (ys ++ drop to xs)
   grouped = append_assoc (take from xs) ys (drop to xs)
 
+  -- the list is as long as before
+  pub range_length : length (with_range xs from to ys) ≡ length xs
+  range_length = length-append (take from xs ++ ys) (drop to xs) ∙ omega (arith, length-append (take from xs) ys, front_long, long, length-drop to xs, rises, inside)
+
   pub range_behind : drop to (with_range xs from to ys) ≡ drop to xs
   range_behind =
       let long_both : length (take from xs ++ ys) ≡ to = length-append (take from xs) ys ∙ omega (arith, front_long, long, rises) in

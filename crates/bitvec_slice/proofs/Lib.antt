@@ -28,5 +28,6 @@ pub mod SlicePartLemmas
 mod SliceTextLemmas
 mod SpanEdits
 mod SpanTurns
+mod WholeWordLemmas
 mod WordListLemmas
 mod WordTurns

@@ -1,6 +1,7 @@
 -- Words of a memory that have the digits of a number, and words merged of two.
-use Rattle.std.specs.Prelude.{◌≡◌, ℕ, ◌+◌, ◌-◌, ◌<◌, ◌≤◌, ◌&&◌, Bool, nat_le, nat_lt, if◌then◌else◌, List, slice_index}
+use Rattle.std.specs.Prelude.{◌≡◌, ℕ, ◌+◌, ◌-◌, ◌*◌, ◌%◌, ◌<◌, ◌≤◌, ◌&&◌, Bool, nat_le, nat_lt, if◌then◌else◌, List, slice_index}
 use Rattle.bitvec.specs.Digit.{digit}
+use Rattle.bitvec.specs.Span.{Span, with_word}
 
 -- the words of a memory from word `from` to before word `upto` have the `bits` lowest digits of a number
 abbrev pub HaveDigits : ℕ → ℕ → List ℕ → ℕ → ℕ → Type 0
@@ -14,3 +15,11 @@ merged_digit bits by low high p = if nat_lt (by + p) bits then digit low (by + p
 -- before number `len` first. This is the one at index m.
 abbrev pub digit_from : Bool → ℕ → ℕ → ℕ → ℕ → Bool
 digit_from rises head len word m = if rises then nat_le head m && digit word (m - head) else nat_lt m (head + len) && digit word (head + len - 1 - m)
+
+-- a span has word k of those that it meets whole
+abbrev pub HasWord : ℕ → Span → ℕ → Type 0
+HasWord bits span k = (span.head ≤ k * bits) × (k * bits + bits ≤ span.head + span.len)
+
+-- a list with the digits of a word, by an order's positions, in place of the elements that lie in word k
+abbrev pub with_digits : ℕ → (ℕ → ℕ) → ℕ → List Bool → ℕ → ℕ → List Bool
+with_digits bits at head xs k w = with_word bits head xs k (λ j. digit w (at ((head + j) % bits)))

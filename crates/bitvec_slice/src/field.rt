@@ -293,9 +293,19 @@ fn load<R: BitRegister, O: Sequential<R>, N: BitRegister>(
     load_words(span, memory, big)
 }
 
-// The lowest digits of a number, as many as a word has.
+/// The lowest digits of a number as a word, as many as the word has: what Rust's `as` makes of an
+/// integer.
+///
+/// Constant time. Not in the Rust crate.
+///
+/// # Examples
+///
+/// ```
+/// assert_eq!(rt; low_digits::<u8, u32>(0x1234), 0x34);
+/// assert_eq!(rt; low_digits::<u32, u8>(0xFF), 0xFF);
+/// ```
 #[inline(always)]
-fn low_digits<R: BitRegister, N: BitRegister>(value: N) -> R
+pub fn low_digits<R: BitRegister, N: BitRegister>(value: N) -> R
     ensures below { R.number result < 2 ^ R.BITS }
     ensures digits { (p : ℕ) → p < R.BITS
         → digit (R.number result) p ≡ digit (N.number value) p }
@@ -338,7 +348,7 @@ fn word_mask<R: BitRegister, O: Sequential<R>>(span: BitSpan<R, O>, k: usize) ->
 // Puts the digits of a word that are one in a mask in their places in the `k`-th word that a span
 // meets, where the mask has the span's positions there.
 #[inline(always)]
-fn put_word<R: BitRegister, O: BitOrder<R>>(
+pub(crate) fn put_word<R: BitRegister, O: BitOrder<R>>(
     span: BitSpan<R, O>,
     memory: &mut [R],
     k: usize,

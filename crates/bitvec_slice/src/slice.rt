@@ -26,6 +26,7 @@ mod text;
 mod turn;
 mod whole;
 mod windows;
+mod words;
 
 pub use self::bit_slice::BitSlice;
 pub use self::bit_slice_mut::BitSliceMut;

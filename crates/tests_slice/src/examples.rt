@@ -4,6 +4,7 @@ use bitvec::index::BitIdx;
 use bitvec::order::{Lsb0, Msb0};
 use bitvec::ptr::combine::{Or, Xor};
 use bitvec::ptr::span::BitSpan;
+use bitvec_slice::field::low_digits;
 use bitvec_slice::slice::{BitSlice, BitSliceMut};
 use std::cmp::Ordering;
 use std::test::Fail;
@@ -353,6 +354,12 @@ fn a_run_of_zeros_at_a_multiple(rt: HostRuntime) {
     assert_eq!(rt; slice.find_zeros_from(0, 3, 4), Some(4));
     assert_eq!(rt; slice.find_zeros_from(10, 3, 4), None);
     assert_eq!(rt; slice.find_zeros_from(10, 3, 1), Some(13));
+}
+
+#[test]
+fn the_lowest_digits_of_a_number(rt: HostRuntime) {
+    assert_eq!(rt; low_digits::<u8, u32>(0x1234), 0x34);
+    assert_eq!(rt; low_digits::<u32, u8>(0xFF), 0xFF);
 }
 
 #[test]
