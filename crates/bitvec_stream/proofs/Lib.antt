@@ -2,6 +2,7 @@ mod CodeLemmas
 mod DigitRangeLemmas
 pub mod GolombLemmas
 pub mod ItemLemmas
+mod KnownLemmas
 mod MultipleLemmas
 mod ReadLemmas
 pub mod SignedGolombLemmas

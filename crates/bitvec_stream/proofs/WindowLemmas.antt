@@ -11,7 +11,7 @@ use Rattle.bitvec.specs.Span.{element}
 use Rattle.bitvec.proofs.DigitLemmas.{digit_above, digit-zero}
 use Rattle.bitvec.proofs.MemoryLemmas.{tabulate-from_elements}
 use Rattle.bitvec_slice.proofs.FieldLemmas.{small_from_digits}
-use Rattle.bitvec_stream.specs.Golomb.{golomb, StartsWith, BeginsWithCode}
+use Rattle.bitvec_stream.specs.Golomb.{BeginsWithCode}
 use Rattle.bitvec_stream.specs.Numbers.{number_be, digits_be}
 use Rattle.bitvec_stream.specs.Window.{IsWindow}
 use Rattle.bitvec_stream.proofs.GolombLemmas.{code_found, code_of, number_be-first}

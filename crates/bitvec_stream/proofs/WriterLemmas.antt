@@ -5,7 +5,7 @@ use Rattle.bitvec.proofs.BecomesLemmas.{becomes-same, becomes-then}
 use Rattle.bitvec_slice.specs.BitSliceMut.{lent_span, lent_words, lent_bits, BecomesBits}
 use Rattle.bitvec_slice.specs.Ranges.{with_range}
 use Rattle.bitvec_slice.specs.declared.slice.bit_slice_mut.BitSliceMut.{BitSliceMut}
-use Rattle.bitvec_stream.specs.Writer.{bits_written, written, room, Writes}
+use Rattle.bitvec_stream.specs.Writer.{target, bits_written, written, room, Writes}
 use Rattle.bitvec_stream.specs.declared.writer.BitWriter.{BitWriter}
 use Rattle.bitvec_stream.proofs.WriteLemmas.{IsWritten, range_written, written_both, room_both}
 
@@ -44,3 +44,31 @@ writes-both old mid new xs ys first second =
 -- the same write by another name of its list
 pub writes-as : {R O : Type 0} {a b c d e f g h i : _} → (old new : BitWriter R O a b c d e f g h i) (xs ys : List Bool) → xs ≡ ys → Writes old new xs → Writes old new ys
 writes-as old new xs ys same write = subst (Writes old new) same write
+
+-- a write from where another writer stands, or to there: of the same slice, behind as many bits
+pub writes-from : {R O : Type 0} {a b c d e f g h i : _} → (old mid new : BitWriter R O a b c d e f g h i) (xs : List Bool) → target mid ≡ target old → bits_written mid ≡ bits_written old → Writes mid new xs → Writes old new xs
+writes-from old mid new xs same place write =
+    let from = λ (slice : BitSliceMut _ _ _ _ _ _ _ _ _ _ _) (p : ℕ).
+    (written new ≡ take p (lent_bits slice) ++ xs) × (room new ≡ drop (length xs) (drop p (lent_bits slice))) × (bits_written new ≡ p + length xs)
+    × BecomesBits slice (target new) (take p (lent_bits slice) ++ xs ++ drop (length xs) (drop p (lent_bits slice))) in
+    subst (from old.slice) place (subst (λ slice. from slice (bits_written mid)) same write)
+
+pub writes-to : {R O : Type 0} {a b c d e f g h i : _} → (old mid new : BitWriter R O a b c d e f g h i) (xs : List Bool) → target new ≡ target mid → bits_written new ≡ bits_written mid → Writes old mid xs → Writes old new xs
+writes-to old mid new xs same place write =
+    let to = λ (slice : BitSliceMut _ _ _ _ _ _ _ _ _ _ _) (p : ℕ).
+    (take p (lent_bits slice) ≡ written old ++ xs) × (drop p (lent_bits slice) ≡ drop (length xs) (room old)) × (p ≡ bits_written old + length xs)
+    × BecomesBits (target old) slice (written old ++ xs ++ drop (length xs) (room old)) in
+    subst (to new.slice) (sym place) (subst (λ slice. to slice (bits_written mid)) (sym same) write)
+
+-- a stretch is written behind the bits that were, by the place that its call was handed: what becomes of all of it
+pub stretch_at : {R O : Type 0} {a b c d e f g h i : _} → (old new : BitSliceMut R O a b c d e f g h i) (ys : List Bool) (p q at n : ℕ) → at ≡ p → q ≡ at + n → length ys ≡ n → at + n ≤ length (lent_bits old)
+    → BecomesBits old new (with_range (lent_bits old) at (at + n) ys)
+    → (take q (lent_bits new) ≡ take p (lent_bits old) ++ ys) × (drop q (lent_bits new) ≡ drop (length ys) (drop p (lent_bits old))) × (q ≡ p + length ys)
+    × BecomesBits old new (take p (lent_bits old) ++ ys ++ drop (length ys) (drop p (lent_bits old)))
+stretch_at old new ys p q at n from to long inside edit =
+    let done = stretch_written old new ys at n long inside edit in (
+      ap (λ m. take m (lent_bits new)) to ∙ done.0.front ∙ ap (λ m. take m (lent_bits old) ++ ys) from,
+      ap (λ m. drop m (lent_bits new)) to ∙ done.0.behind ∙ ap (λ m. drop (length ys) (drop m (lent_bits old))) from,
+      omega (arith, from, to, long),
+      subst (λ m. BecomesBits old new (take m (lent_bits old) ++ ys ++ drop (length ys) (drop m (lent_bits old)))) from done.1,
+    )

@@ -1,5 +1,5 @@
 -- What a `BitWriter` shows.
-use Rattle.std.specs.Prelude.{◌≡◌, ℕ, ◌+◌, Bool, List, ◌++◌, length, take, drop}
+use Rattle.std.specs.Prelude.{◌≡◌, ℕ, ◌+◌, ◌-◌, Bool, List, ◌++◌, length, take, drop}
 use Rattle.bitvec_slice.specs.BitSliceMut.{lent_bits, BecomesBits}
 use Rattle.bitvec_slice.specs.declared.slice.bit_slice_mut.BitSliceMut.{BitSliceMut}
 use Rattle.bitvec_stream.specs.declared.writer.BitWriter.{BitWriter}
@@ -10,15 +10,15 @@ target writer = writer.slice
 
 -- how many bits of the slice are behind it
 abbrev pub bits_written : {R O : Type 0} {a b c d e f g h i : _} → BitWriter R O a b c d e f g h i → ℕ
-bits_written writer = writer.position
+bits_written writer = writer.end - writer.kept
 
 -- the bits that are behind it, in order
 abbrev pub written : {R O : Type 0} {a b c d e f g h i : _} → BitWriter R O a b c d e f g h i → List Bool
-written writer = take writer.position (lent_bits writer.slice)
+written writer = take (writer.end - writer.kept) (lent_bits writer.slice)
 
 -- the bits before it, which it may still write, as they are
 abbrev pub room : {R O : Type 0} {a b c d e f g h i : _} → BitWriter R O a b c d e f g h i → List Bool
-room writer = drop writer.position (lent_bits writer.slice)
+room writer = drop (writer.end - writer.kept) (lent_bits writer.slice)
 
 -- A writer has written a list: it stands behind what was written, in place of as many bits of the room, and all else
 -- stays: the bits behind it, and what lies outside the slice.

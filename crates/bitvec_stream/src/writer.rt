@@ -4,13 +4,15 @@ ghost use Rattle.std.specs.Prelude.{◌≡◌, ◌+◌, ◌<◌, ◌≤◌, ◌%
 ghost use Rattle.std.specs.Prelude.{MatchResult};
 ghost use Rattle.std.specs.Prelude.{length};
 ghost use Rattle.bitvec_slice.specs.BitSlice.{slice_len, bits_of};
-ghost use Rattle.bitvec_slice.specs.BitSliceMut.{lent_len, lent_bits};
+ghost use Rattle.bitvec_slice.specs.BitSliceMut.{lent_span, lent_len, lent_bits};
 ghost use Rattle.bitvec_stream.specs.Multiples.{to_multiple};
+ghost use Rattle.bitvec_stream.specs.Window.{IsKnown};
 
 mod golomb;
 mod numbers;
 mod signed;
 mod unary;
+mod window;
 
 use crate::error::WriteError;
 use bitvec::mem::BitRegister;
@@ -40,8 +42,17 @@ use bitvec_slice::slice::{BitSlice, BitSliceMut};
 #[derive(Drop)]
 pub struct BitWriter<'a, R: BitRegister, O: BitOrder<R>> {
     slice: BitSliceMut<'a, R, O>,
-    position: usize,
-    pub ghost within: { position ≤ lent_len slice },
+    // How many bits were written, or stand behind those in a word that is known; and of them, how
+    // many stand there: 0 where no word is known.
+    end: usize,
+    kept: usize,
+    // Which word of the slice that is, and its digits.
+    word: usize,
+    window: R,
+    pub ghost within: { end ≤ lent_len slice },
+    pub ghost behind: { kept ≤ end },
+    pub ghost shown: { IsKnown R.BITS O.at_of (lent_span slice).head (lent_bits slice) end kept word
+        (R.number window) },
 }
 
 impl<'a, R: BitRegister, O: BitOrder<R>> BitWriter<'a, R, O> {
@@ -54,7 +65,13 @@ impl<'a, R: BitRegister, O: BitOrder<R>> BitWriter<'a, R, O> {
         ensures position { bits_written result ≡ 0 }
         ensures room { room result ≡ lent_bits slice.entry }
     {
-        BitWriter { slice, position: 0 }
+        BitWriter {
+            slice,
+            end: 0,
+            kept: 0,
+            word: 0,
+            window: R::ZERO,
+        }
     }
 
     /// How many bits were written or passed over. Constant time. Not in the Rust crate.
@@ -62,14 +79,14 @@ impl<'a, R: BitRegister, O: BitOrder<R>> BitWriter<'a, R, O> {
         ensures value { result ≡ bits_written self.now }
         ensures list { result ≡ length (written self.now) }
     {
-        self.position
+        self.end - self.kept
     }
 
     /// For how many bits there is room. Constant time. Not in the Rust crate.
     pub fn remaining(&self) -> usize
         ensures { result ≡ length (room self.now) }
     {
-        self.slice.len() - self.position
+        self.slice.len() - self.position()
     }
 
     /// What was written or passed over, for reading. Constant time. Not in the Rust crate.
@@ -88,7 +105,7 @@ impl<'a, R: BitRegister, O: BitOrder<R>> BitWriter<'a, R, O> {
     pub fn written(&self) -> BitSlice<'_, R, O>
         ensures { bits_of result ≡ written self.now }
     {
-        let (written, _) = self.slice.as_bitslice().split_at(self.position);
+        let (written, _) = self.slice.as_bitslice().split_at(self.position());
         written
     }
 
@@ -108,11 +125,13 @@ impl<'a, R: BitRegister, O: BitOrder<R>> BitWriter<'a, R, O> {
         ensures written { MatchResult result (λ _. Writes self.old self.new (bit ∷ []))
             (λ error. (error ≡ WriteError.NoRoom) × (self.new ≡ self.old)) }
     {
-        if self.slice.len() <= self.position {
+        let position = self.position();
+        if self.slice.len() <= position {
             return Err(WriteError::NoRoom);
         }
-        self.slice.set(self.position, bit);
-        self.position += 1;
+        self.kept = 0;
+        self.slice.set(position, bit);
+        self.end = position + 1;
         Ok(())
     }
 
@@ -121,9 +140,10 @@ impl<'a, R: BitRegister, O: BitOrder<R>> BitWriter<'a, R, O> {
         requires { slice_len source ≤ length (room self.old) }
         ensures { Writes self.old self.new (bits_of source.entry) }
     {
-        let count = source.len();
-        self.slice.copy_from_range(self.position, source);
-        self.position += count;
+        let (position, count) = (self.position(), source.len());
+        self.kept = 0;
+        self.slice.copy_from_range(position, source);
+        self.end = position + count;
     }
 
     /// Writes the bits of a slice, of any register and order. It refuses with `NoRoom` exactly
@@ -170,7 +190,9 @@ impl<'a, R: BitRegister, O: BitOrder<R>> BitWriter<'a, R, O> {
         if self.remaining() < count {
             return Err(WriteError::NoRoom);
         }
-        self.position += count;
+        let position = self.position();
+        self.kept = 0;
+        self.end = position + count;
         Ok(())
     }
 
@@ -189,6 +211,6 @@ impl<'a, R: BitRegister, O: BitOrder<R>> BitWriter<'a, R, O> {
         ensures multiple { IfOk result (λ _. bits_written self.new % of ≡ 0) }
         ensures near { IfOk result (λ _. bits_written self.new < bits_written self.old + of) }
     {
-        self.skip((of - self.position % of) % of)
+        self.skip((of - self.position() % of) % of)
     }
 }

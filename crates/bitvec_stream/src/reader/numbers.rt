@@ -80,6 +80,7 @@ impl<'a, R: BitRegister, O: BitOrder<R>> BitReader<'a, R, O> {
     /// assert_eq!(rt; reader.read_le::<u32>(4), Ok(11));
     /// assert_eq!(rt; reader.read_le::<u32>(3), Err(ReadError::TooFew));
     /// ```
+    #[inline(always)]
     pub fn read_le<N: BitRegister>(&mut self, count: usize) -> Result<N, ReadError>
         requires { count ≤ N.BITS }
         ensures accepted { IsOk result ↔ (count ≤ length (rest self.old)) }
@@ -111,6 +112,7 @@ impl<'a, R: BitRegister, O: BitOrder<R>> BitReader<'a, R, O> {
 
     /// What [`read_le`](BitReader::read_le) gives; the reader stays before the bits. Requires and
     /// costs the same. Not in the Rust crate.
+    #[inline(always)]
     pub fn peek_le<N: BitRegister>(&self, count: usize) -> Result<N, ReadError>
         requires { count ≤ N.BITS }
         ensures accepted { IsOk result ↔ (count ≤ length (rest self.now)) }

@@ -31,9 +31,11 @@ impl<'a, R: BitRegister, O: BitOrder<R>> BitWriter<'a, R, O> {
         requires inside { count ≤ length (room self.old) }
         ensures { Writes self.old self.new (digits_be count (N.number digits)) }
     {
-        let end = self.position + count;
-        self.slice.store_digits_be(self.position, end, digits);
-        self.position = end;
+        if 0 < count && count <= self.kept {
+            self.put_kept(count, digits);
+        } else {
+            self.put_past(count, digits);
+        }
     }
 
     // Writes the `count` lowest digits of a number, the lowest first. There is room for them.
@@ -43,9 +45,11 @@ impl<'a, R: BitRegister, O: BitOrder<R>> BitWriter<'a, R, O> {
         requires inside { count ≤ length (room self.old) }
         ensures { Writes self.old self.new (digits_le count (N.number digits)) }
     {
-        let end = self.position + count;
-        self.slice.store_digits_le(self.position, end, digits);
-        self.position = end;
+        let position = self.position();
+        let end = position + count;
+        self.kept = 0;
+        self.slice.store_digits_le(position, end, digits);
+        self.end = end;
     }
 
     /// Writes a number in `count` bits, the first the highest digit. It refuses with `NoRoom`
@@ -54,6 +58,7 @@ impl<'a, R: BitRegister, O: BitOrder<R>> BitWriter<'a, R, O> {
     ///
     /// Requires that `count` is at most the width of the number's type: `count <= N::BITS`. Costs
     /// by words. Not in the Rust crate.
+    #[inline(always)]
     pub fn write_be<N: BitRegister>(&mut self, count: usize, value: N) -> Result<(), WriteError>
         requires { count ≤ N.BITS }
         ensures accepted { IsOk result
@@ -63,13 +68,20 @@ impl<'a, R: BitRegister, O: BitOrder<R>> BitWriter<'a, R, O> {
             (λ _. Writes self.old self.new (digits_be count (N.number value)))
             (λ _. self.new ≡ self.old) }
     {
+        if 0 < count && count <= self.kept {
+            if !has_digits(value, count) {
+                return Err(WriteError::TooManyDigits);
+            }
+            self.put_kept(count, value);
+            return Ok(());
+        }
         if self.remaining() < count {
             return Err(WriteError::NoRoom);
         }
         if !has_digits(value, count) {
             return Err(WriteError::TooManyDigits);
         }
-        self.put_be(count, value);
+        self.put_past(count, value);
         Ok(())
     }
 

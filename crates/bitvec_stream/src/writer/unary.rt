@@ -17,9 +17,11 @@ impl<'a, R: BitRegister, O: BitOrder<R>> BitWriter<'a, R, O> {
         requires { count ≤ length (room self.old) }
         ensures { Writes self.old self.new (replicate count bit) }
     {
-        let end = self.position + count;
-        self.slice.fill_range(self.position, end, bit);
-        self.position = end;
+        let position = self.position();
+        let end = position + count;
+        self.kept = 0;
+        self.slice.fill_range(position, end, bit);
+        self.end = end;
     }
 
     /// Writes `count` bits that are `bit`, and one that is not, so that

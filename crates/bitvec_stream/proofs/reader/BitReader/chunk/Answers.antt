@@ -1,4 +1,4 @@
-use Rattle.std.proofs.Common.{◌≡◌, ◌+◌, ◌≤◌, length, arith}
+use Rattle.std.proofs.Common.{◌+◌, ◌≤◌, length, arith}
 use Rattle.bitvec_slice.specs.BitSlice.{slice_len, bits_of}
 use Rattle.bitvec_stream.proofs.WindowLemmas.{window_chunk}
 use Rattle.bitvec_stream.proofs.reader.BitReader.chunk.Goals as goal

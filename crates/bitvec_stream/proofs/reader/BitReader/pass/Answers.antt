@@ -1,4 +1,4 @@
-use Rattle.std.proofs.Common.{◌≤◌, arith}
+use Rattle.std.proofs.Common.{arith}
 use Rattle.bitvec_stream.proofs.reader.BitReader.pass.Goals as goal
 
 pub overflow_add-position : goal.overflow_add-position

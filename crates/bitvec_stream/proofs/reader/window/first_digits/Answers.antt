@@ -1,4 +1,4 @@
-use Rattle.std.proofs.Common.{◌≡◌, ◌+◌, ◌-◌, ◌<◌, ◌≤◌, ◌^◌, take, drop, ap, ◌∙◌, arith, rules}
+use Rattle.std.proofs.Common.{◌≡◌, ◌≤◌, ◌^◌, ◌∙◌, arith, rules}
 use Rattle.std.proofs.Math.Pow.{pow_mono}
 use Rattle.bitvec_slice.proofs.FieldLemmas.{some_unless}
 use Rattle.bitvec_stream.proofs.WindowLemmas.{first_small, first_number}
