@@ -39,6 +39,11 @@ module _ {R : Type 0} (bits : ℕ) (at : ℕ → ℕ) (number : R → ℕ) (len 
       ∙ edit.list
       ∙ ap f (front-shown old lent span is out)
 
+  -- what a span of the first bits has once its words come back
+  pub front-left : (new left : List R) (span : Span) → span ≡ front_span len → new ≡ left → front_bits bits at len (map number new) ≡ list_of bits at span (map number left)
+  front-left new left span is back =
+      ap (λ us. front_bits bits at len (map number us)) back ∙ ap (λ (s : Span). list_of bits at s (map number left)) (sym is)
+
   -- what a vector of words has after that
   module _ {A : Type 0} (words : Vec R A) (lent ws : List R) (out : lent ≡ words.items) (long : length lent ≡ words.len) where
     pub vec-put : (f : List Bool → List Bool) → length ws ≡ length lent
@@ -48,6 +53,9 @@ module _ {R : Type 0} (bits : ℕ) (at : ℕ → ℕ) (number : R → ℕ) (len 
         ap (λ us. front_bits bits at len (map number us)) (with_items_is words ws (many ∙ long))
         ∙ edit
         ∙ ap (λ us. f (front_bits bits at len (map number us))) out
+
+    pub vec-left : length ws ≡ length lent → front_bits bits at len (map number (with_items words ws).items) ≡ front_bits bits at len (map number ws)
+    vec-left many = ap (λ us. front_bits bits at len (map number us)) (with_items_is words ws (many ∙ long))
 
     pub vec-edited : (span : Span) (f : List Bool → List Bool) → span ≡ front_span len
         → BecomesList bits at span (map number lent) (map number ws) (f (list_of bits at span (map number lent)))

@@ -8,6 +8,9 @@ mod front;
 mod grow;
 mod insert;
 mod make;
+mod moves;
+mod readers;
+mod sets;
 mod text;
 
 pub use self::bit_vec::BitVec;

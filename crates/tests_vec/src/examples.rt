@@ -1,6 +1,7 @@
 //! The examples in the documents of vectors.
 
 use bitvec::order::{Lsb0, Msb0};
+use bitvec::ptr::combine::AndNot;
 use bitvec::ptr::span::BitSpan;
 use bitvec_slice::slice::BitSlice;
 use bitvec_vec::vec::{BitVec, FromTextError};
@@ -157,5 +158,82 @@ fn bits_of_a_text(rt: HostRuntime) -> Result<(), Fail> {
         Ok(_) => assert!(rt; false),
         Err(error) => assert_eq!(rt; error, FromTextError::NotADigit(2)),
     }
+    Ok(())
+}
+
+#[test]
+fn sets_combined(rt: HostRuntime) -> Result<(), Fail> {
+    let mut bits = BitVec::<u8, Msb0>::from_text(rt.alloc(), "001110")?;
+    let memory = [0b010110u16];
+    let span: BitSpan<u16, Lsb0> = BitSpan::at(0, 6).unwrap();
+    let other = BitSlice::new(span, &memory).ok_or("outside")?;
+    if bits.len() == other.len() {
+        bits.combine_from::<AndNot, u16, Lsb0>(other);
+    }
+    assert_eq!(rt; format!(in rt.alloc(); "{bits}")?.as_str(), "000100");
+    Ok(())
+}
+
+#[test]
+fn what_two_sets_have(rt: HostRuntime) -> Result<(), Fail> {
+    let mut bits = BitVec::<u8, Lsb0>::from_text(rt.alloc(), "0011")?;
+    let other = BitVec::<u32, Msb0>::from_text(rt.alloc(), "0101")?;
+    if bits.len() == other.len() {
+        bits.and_from(other.as_bitslice());
+    }
+    assert_eq!(rt; format!(in rt.alloc(); "{bits}")?.as_str(), "0001");
+    Ok(())
+}
+
+#[test]
+fn all_bits_turned(rt: HostRuntime) -> Result<(), Fail> {
+    let mut bits = BitVec::<u8, Msb0>::from_text(rt.alloc(), "0011100111")?;
+    bits.invert();
+    assert_eq!(rt; format!(in rt.alloc(); "{bits}")?.as_str(), "1100011000");
+    Ok(())
+}
+
+#[test]
+fn the_opposite_order(rt: HostRuntime) -> Result<(), Fail> {
+    let mut bits = BitVec::<u8, Msb0>::from_text(rt.alloc(), "0010110010")?;
+    bits.reverse();
+    assert_eq!(rt; format!(in rt.alloc(); "{bits}")?.as_str(), "0100110100");
+    Ok(())
+}
+
+#[test]
+fn the_first_behind_the_others(rt: HostRuntime) -> Result<(), Fail> {
+    let mut bits = BitVec::<u8, Lsb0>::from_text(rt.alloc(), "001011")?;
+    if 2 <= bits.len() {
+        bits.rotate_left(2);
+    }
+    assert_eq!(rt; format!(in rt.alloc(); "{bits}")?.as_str(), "101100");
+    Ok(())
+}
+
+#[test]
+fn a_number_in_a_vector(rt: HostRuntime) -> Result<(), Fail> {
+    let mut bits = BitVec::<u8, Lsb0>::repeat(rt.alloc(), false, 12)?;
+    if 9 <= bits.len() {
+        bits.store_digits_be(4, 9, 11u32);
+        assert_eq!(rt; bits.load_digits_be::<u8>(4, 9), 11);
+    }
+    assert_eq!(rt; format!(in rt.alloc(); "{bits}")?.as_str(), "000001011000");
+    Ok(())
+}
+
+#[test]
+fn questions_of_a_vector(rt: HostRuntime) -> Result<(), Fail> {
+    let bits = BitVec::<u8, Msb0>::from_text(rt.alloc(), "0010110010")?;
+    assert_eq!(rt; bits.count_ones(), 4);
+    assert_eq!(rt; bits.count_zeros(), 6);
+    assert_eq!(rt; bits.first_one(), Some(2));
+    assert_eq!(rt; bits.last_one(), Some(8));
+    assert_eq!(rt; bits.first_zero(), Some(0));
+    assert!(rt; bits.any() && bits.not_all());
+    let mut ones = bits.iter_ones();
+    assert_eq!(rt; ones.next(), Some(2));
+    assert_eq!(rt; ones.next_back(), Some(8));
+    assert_eq!(rt; ones.next(), Some(4));
     Ok(())
 }

@@ -1,6 +1,7 @@
 //! How vectors are made, and their words.
 
-ghost use Rattle.std.specs.Prelude.{◌≡◌, ◌≤◌, ◌*◌, [], IfOk, length, map, replicate, vec_len};
+ghost use Rattle.std.specs.Prelude.{◌≡◌, ◌≤◌, ◌<◌, ◌*◌, [], IfOk, OnErr, length, map, replicate};
+ghost use Rattle.std.specs.Prelude.{vec_len};
 ghost use Rattle.bitvec.specs.Memory.{memory_bits};
 ghost use Rattle.bitvec.specs.Place.{region_max_bits};
 ghost use Rattle.bitvec_slice.specs.BitSlice.{bits_of};
@@ -28,10 +29,11 @@ impl<R: BitRegister, O: BitOrder<R>, A: Allocator> BitVec<R, O, A> {
     }
 
     /// No bits, and memory for so many. It refuses where memory is refused, or where there would be
-    /// more than 2305843009213693951 bits.
+    /// more than 2305843009213693951 bits; for none it asks for no memory, and never refuses.
     pub fn with_capacity(alloc: A, capacity: usize) -> Result<Self, AllocError>
         ensures bits { IfOk result (λ vec. vec_bits vec ≡ []) }
         ensures capacity { IfOk result (λ vec. capacity ≤ bit_capacity vec) }
+        ensures full { OnErr result (0 < capacity) }
     {
         let mut vec = BitVec::new(alloc);
         vec.reserve(capacity)?;
@@ -39,7 +41,7 @@ impl<R: BitRegister, O: BitOrder<R>, A: Allocator> BitVec<R, O, A> {
     }
 
     /// The same bit `len` times. It refuses where memory is refused, or where there would be more
-    /// than 2305843009213693951 bits. Costs by words.
+    /// than 2305843009213693951 bits; no bits take no memory, and are never refused. Costs by words.
     ///
     /// # Examples
     ///
@@ -51,15 +53,17 @@ impl<R: BitRegister, O: BitOrder<R>, A: Allocator> BitVec<R, O, A> {
     /// assert_eq!(rt; ones.as_bitslice().count_ones(), 50);
     /// ```
     pub fn repeat(alloc: A, bit: bool, len: usize) -> Result<Self, AllocError>
-        ensures { IfOk result (λ vec. vec_bits vec ≡ replicate len bit) }
+        ensures bits { IfOk result (λ vec. vec_bits vec ≡ replicate len bit) }
+        ensures full { OnErr result (0 < len) }
     {
         let mut vec = BitVec::new(alloc);
         vec.resize(len, bit)?;
         Ok(vec)
     }
 
-    /// The bits of a slice, of any register and order. It refuses where memory is refused. By words
-    /// where the positions of both orders rise or those of both fall, else by bits.
+    /// The bits of a slice, of any register and order. It refuses where memory is refused; no bits
+    /// take none, and are never refused. By words where the positions of both orders rise or those
+    /// of both fall, else by bits.
     ///
     /// # Examples
     ///
@@ -76,7 +80,8 @@ impl<R: BitRegister, O: BitOrder<R>, A: Allocator> BitVec<R, O, A> {
         alloc: A,
         slice: BitSlice<'_, R2, O2>,
     ) -> Result<Self, AllocError>
-        ensures { IfOk result (λ vec. vec_bits vec ≡ bits_of slice.entry) }
+        ensures bits { IfOk result (λ vec. vec_bits vec ≡ bits_of slice.entry) }
+        ensures full { OnErr result (0 < length (bits_of slice.entry)) }
     {
         let mut vec = BitVec::new(alloc);
         vec.extend_from_bitslice(slice)?;

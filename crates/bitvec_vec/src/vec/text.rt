@@ -1,16 +1,17 @@
 //! The bits of a vector as text, and a vector that is read from one.
 
-ghost use Rattle.std.specs.Prelude.{◌≡◌, ◌≤◌, Some, IfOk, IfErr, length, map};
+ghost use Rattle.std.specs.Prelude.{◌≡◌, ◌≤◌, ◌<◌, Some, IfOk, IfErr, length, map};
 ghost use Rattle.std.specs.Fmt.{DisplaysOnOk, WritesOnOk, WritesStyledOnOk};
 ghost use Rattle.bitvec.specs.Place.{region_max_bits};
 ghost use Rattle.bitvec_slice.specs.SliceText.{digits_text, truths_text, text_bits};
 ghost use Rattle.bitvec_slice.specs.TextError.{IsRefusal};
+ghost use Rattle.bitvec_vec.specs.FromText.{IsTextRefusal};
 ghost use Rattle.bitvec_vec.specs.Front.{front_bits, words_for};
 
 use crate::vec::BitVec;
 use crate::vec::front::span_of_front;
 use bitvec::mem::BitRegister;
-use bitvec::order::BitOrder;
+use bitvec::order::{BitOrder, Lsb0};
 use bitvec::ptr::span::BitSpan;
 use bitvec_slice::slice::{BitSliceMut, TextError};
 use std::alloc::{AllocError, Allocator};
@@ -104,14 +105,28 @@ fn put_text<R: BitRegister, O: BitOrder<R>>(
     bits.copy_from_text(text)
 }
 
+// Why a text is refused where there is no memory for its bits: its first character that is no
+// digit, or else the memory.
+fn refusal(text: &str) -> FromTextError
+    requires { 0 < length text.now }
+    ensures { IsTextRefusal text.now result }
+{
+    let span: BitSpan<u8, Lsb0> = span_of_front(0);
+    let mut bits = BitSliceMut::new_unchecked(span, &mut []);
+    match bits.copy_from_text(text) {
+        Err(TextError::NotADigit(at)) => FromTextError::NotADigit(at),
+        Ok(()) | Err(TextError::OtherLength(_)) => FromTextError::NoMemory,
+    }
+}
+
 impl<R: BitRegister, O: BitOrder<R>, A: Allocator> BitVec<R, O, A> {
     ghost use Rattle.bitvec_vec.specs.BitVec.{vec_bits};
-    ghost use Rattle.bitvec_vec.specs.FromText.{IsTextRefusal};
 
     /// The bits of a text of zeros and ones, in order, so that its `Display` is the text.
     ///
-    /// It refuses where memory is refused, and a text with another character, of which it says
-    /// which is the first. Costs by the text's characters. Not in the Rust crate, whose macro
+    /// It refuses a text with another character, and says which is the first, whatever memory there
+    /// is; and one of zeros and ones alone where memory is refused. An empty text takes no memory,
+    /// and is never refused. Costs by the text's characters. Not in the Rust crate, whose macro
     /// `bitvec!` reads such a list.
     ///
     /// # Examples
@@ -133,7 +148,7 @@ impl<R: BitRegister, O: BitOrder<R>, A: Allocator> BitVec<R, O, A> {
     {
         let mut vec: BitVec<R, O, A> = match BitVec::repeat(alloc, false, text.len()) {
             Ok(vec) => vec,
-            Err(_) => return Err(FromTextError::NoMemory),
+            Err(_) => return Err(refusal(text)),
         };
         let len = vec.len;
         match put_text::<R, O>(vec.words.as_mut_slice(), len, text) {

@@ -10,4 +10,4 @@ split_at-requires g c =
 
 pub returns-clause-rest : goal.returns-clause-rest
 returns-clause-rest g c =
-    c.in_ok-rest.ensures ∙ c.split_at.ensures.back ∙ ap (λ (xs : List Bool). drop c.args.at xs) c.as_bitslice.ensures
+    c.in_ok-rest.ensures.bits ∙ c.split_at.ensures.back ∙ ap (λ (xs : List Bool). drop c.args.at xs) c.as_bitslice.ensures

@@ -1,0 +1,32 @@
+use Rattle.std.proofs.Common.{◌-◌, ◌∙◌, rules, Bool, List, length, ap, arith}
+use Rattle.std.specs.Prelude.{slice_range}
+use Rattle.bitvec.specs.BitSpan.{span_of}
+use Rattle.bitvec.specs.Span.{Span}
+use Rattle.bitvec_slice.specs.BitSliceMut.{lent_span}
+use Rattle.bitvec_slice.specs.Numbers.{number_be, digits_be}
+use Rattle.bitvec_slice.specs.Ranges.{with_range}
+use Rattle.bitvec_vec.proofs.VecLemmas.{front-fits, front-lent, front-left}
+use Rattle.bitvec_vec.proofs.vec.moves.store_front_be.Goals as goal
+
+pub new_unchecked-bits-requires : goal.new_unchecked-bits-requires
+new_unchecked-bits-requires g c =
+    front-fits g.R.BitRegister.BITS c.args.len (length c.args.words.now) (span_of c.span_of_front-span.result) c.span_of_front-span.ensures.span c.requires.room
+
+pub store_digits_be-requires-clause-inside : goal.store_digits_be-requires-clause-inside
+store_digits_be-requires-clause-inside g c =
+    omega (arith, c.requires.inside, c.span_of_front-span.ensures.len, ap (λ (s : Span). s.len) c.new_unchecked-bits.ensures.span)
+
+pub returns-clause-bits : goal.returns-clause-bits
+returns-clause-bits g c =
+    let slice = c.new_unchecked-bits.result in
+    front-lent g.R.BitRegister.BITS g.O.BitAt.at_of g.R.BitRegister.number c.args.len c.args.words.now slice.memory.now c.store_digits_be.new.self.memory.now _ (lent_span slice)
+    (λ (xs : List Bool). with_range xs c.args.from c.args.to (digits_be (c.args.to - c.args.from) (g.N.BitRegister.number c.args.value)))
+    (c.new_unchecked-bits.ensures.span ∙ c.span_of_front-span.ensures.span) c.new_unchecked-bits.ensures.memory (search rules) c.store_digits_be.ensures.bits.3
+
+pub returns-clause-loaded : goal.returns-clause-loaded
+returns-clause-loaded g c =
+    let now = c.store_digits_be.new.self in
+    let is = c.store_digits_be.ensures.bits.1 ∙ c.new_unchecked-bits.ensures.span ∙ c.span_of_front-span.ensures.span in
+    ap (λ (xs : List Bool). number_be (slice_range xs c.args.from c.args.to))
+    (front-left g.R.BitRegister.BITS g.O.BitAt.at_of g.R.BitRegister.number c.args.len _ now.memory.now (lent_span now) is (search rules))
+    ∙ c.store_digits_be.ensures.loaded

@@ -1,0 +1,160 @@
+//! Each request for memory of each call that asks for some, refused in turn: a call that refuses
+//! leaves its vectors as they were.
+
+use super::refusing::{Plan, Refusing};
+use bitvec::mem::BitRegister;
+use bitvec::order::{BitOrder, Lsb0, Msb0};
+use bitvec_vec::vec::{BitVec, FromTextError};
+use std::alloc::{AllocError, Allocator, Global};
+use std::process::Abort;
+use std::test::Fail;
+
+// The digits of a vector of 64 bits, but for the first, which is one.
+const REST: &str = "011000110110001101100011011000110110001101100011011000110110001";
+
+// All of them.
+const TEXT: &str = "1011000110110001101100011011000110110001101100011011000110110001";
+
+// The digits of another vector.
+const MORE: &str = "0110";
+
+// Whether a vector's bits are the digits of three texts, one behind the other.
+fn is<R: BitRegister, O: BitOrder<R>, A: Allocator>(
+    bits: &BitVec<R, O, A>,
+    texts: [&str; 3],
+) -> bool {
+    let mut at: usize = 0;
+    for text in texts {
+        for digit in text.bytes() {
+            if bits.get(at) != Some(digit == b'1') {
+                return false;
+            }
+            at = at.wrapping_add(1);
+        }
+    }
+    bits.len() == at
+}
+
+// One of the calls that take memory.
+fn call<A: Allocator + Clone>(
+    bits: &mut BitVec<u8, Msb0, A>,
+    more: &mut BitVec<u32, Lsb0, A>,
+    number: u32,
+) -> Result<(), AllocError> {
+    match number {
+        0 => bits.push(true),
+        1 => {
+            if 1 <= bits.len() {
+                bits.insert(1, true)?;
+            }
+            Ok(())
+        }
+        2 => bits.resize(70, true),
+        3 => bits.reserve(1000),
+        4 => bits.extend_from_bitslice(more.as_bitslice()),
+        5 => bits.append(more),
+        6 => {
+            if 3 <= bits.len() {
+                drop(bits.split_off(3)?);
+            }
+            Ok(())
+        }
+        _ => {
+            let copy = bits.clone()?;
+            more.extend_from_bitslice(copy.as_bitslice())
+        }
+    }
+}
+
+// Whether the vectors are what the call makes of them.
+fn is_done<A: Allocator>(
+    bits: &BitVec<u8, Msb0, A>,
+    more: &BitVec<u32, Lsb0, A>,
+    number: u32,
+) -> bool {
+    let left = match number {
+        0 => is(bits, ["1", REST, "1"]),
+        1 => is(bits, ["11", REST, ""]),
+        2 => is(bits, ["1", REST, "111111"]),
+        4 | 5 => is(bits, ["1", REST, MORE]),
+        6 => is(bits, ["101", "", ""]),
+        _ => is(bits, [TEXT, "", ""]),
+    };
+    let theirs = match number {
+        5 => more.is_empty(),
+        7 => is(more, [MORE, TEXT, ""]),
+        _ => is(more, [MORE, "", ""]),
+    };
+    left && theirs
+}
+
+// Makes the call under a plan, and answers whether it refused, and `None` where the vectors
+// themselves were refused.
+fn asks<A: Allocator + Clone>(
+    rt: &impl Abort,
+    alloc: A,
+    number: u32,
+) -> Result<Option<bool>, AllocError> {
+    let Ok(mut bits) = BitVec::<u8, Msb0, A>::from_text(alloc.clone()?, TEXT) else {
+        return Ok(None);
+    };
+    let Ok(mut more) = BitVec::<u32, Lsb0, A>::from_text(alloc, MORE) else {
+        return Ok(None);
+    };
+    let done = call(&mut bits, &mut more, number);
+    if done.is_ok() {
+        assert!(rt; is_done(&bits, &more, number), "call {number}");
+    } else {
+        assert!(rt; is(&bits, [TEXT, "", ""]), "call {number}");
+        assert!(rt; is(&more, [MORE, "", ""]), "call {number}");
+    }
+    Ok(Some(done.is_err()))
+}
+
+#[test]
+fn each_request_for_memory_may_be_refused(rt: HostRuntime) -> Result<(), Fail> {
+    for number in 0..8u32 {
+        let mut refusals: u32 = 0;
+        for first in 0..8 {
+            for plan in [Plan::only(first), Plan::all_from(first)] {
+                let memory = Refusing::new(rt.alloc(), plan);
+                if asks(&rt, &memory, number)? == Some(true) {
+                    refusals = refusals.wrapping_add(1);
+                }
+            }
+        }
+        assert!(rt; 0 < refusals, "call {number}");
+    }
+    Ok(())
+}
+
+// What a text is refused for: its first character that is no digit, whatever memory there is.
+#[test]
+fn a_text_where_there_is_no_memory(rt: HostRuntime) -> Result<(), Fail> {
+    for (text, error) in [
+        ("0110", FromTextError::NoMemory),
+        ("0x10", FromTextError::NotADigit(1)),
+        ("", FromTextError::NoMemory),
+    ] {
+        let memory = Refusing::new(rt.alloc(), Plan::all_from(0));
+        match BitVec::<u8, Lsb0, _>::from_text(&memory, text) {
+            Ok(bits) => assert!(rt; bits.is_empty() && text.is_empty()),
+            Err(other) => assert_eq!(rt; other, error),
+        }
+    }
+    Ok(())
+}
+
+// No bits take no memory.
+#[test]
+fn none_is_never_refused(rt: HostRuntime) -> Result<(), Fail> {
+    let memory = Refusing::new(rt.alloc(), Plan::all_from(0));
+    let none: BitVec<u8, Msb0, _> = BitVec::with_capacity(&memory, 0)?;
+    assert!(rt; none.is_empty());
+    let none: BitVec<u8, Msb0, _> = BitVec::repeat(&memory, true, 0)?;
+    assert!(rt; none.is_empty());
+    let copy: BitVec<u64, Lsb0, _> = BitVec::from_bitslice(&memory, none.as_bitslice())?;
+    assert!(rt; copy.is_empty());
+    assert!(rt; BitVec::<u8, Msb0, _>::repeat(&memory, true, 1).is_err());
+    Ok(())
+}
