@@ -1684,6 +1684,95 @@ fn time_streams(source: &[u64], target: &mut [u64]) {
     });
 }
 
+// ---- vectors
+
+/// Bits that grow, in words that are as many as they take.
+struct Bits {
+    words: Vec<u64>,
+    len: usize,
+}
+
+impl Bits {
+    #[inline(always)]
+    fn push(&mut self, bit: bool) {
+        let at = self.len % 64;
+        if at == 0 {
+            self.words.push(bit as u64);
+        } else {
+            let word = self.words.last_mut().unwrap();
+            *word = *word & !(1 << at) | (bit as u64) << at;
+        }
+        self.len += 1;
+    }
+
+    fn truncate(&mut self, len: usize) {
+        self.words.truncate(len.div_ceil(64));
+        self.len = len;
+    }
+
+    /// The bits of words from a place on behind the others, which do not end where a word does, by whole words that are
+    /// put behind without being cleared first.
+    #[inline(never)]
+    fn extend(&mut self, source: &[u64], from: usize, count: usize) {
+        let at = self.len % 64;
+        let head = (64 - at).min(count);
+        let last = self.words.last_mut().unwrap();
+        put::<true>(last, word_at::<true>(source, from, at, head), at, head);
+        let (first, shift) = ((from + head) / 64, (from + head) % 64);
+        let whole = (count - head) / 64;
+        let (down, up) = shifts::<true>(shift);
+        let (a, b) = (&source[first..first + whole], &source[first + 1..first + 1 + whole]);
+        self.words.extend(a.iter().zip(b).map(|(a, b)| joined::<true>(*a, *b, down, up)));
+        let done = head + whole * 64;
+        if done < count {
+            self.words.push(word_at::<true>(source, from + done, 0, count - done));
+        }
+        self.len += count;
+    }
+
+    /// A bit before all others.
+    #[inline(never)]
+    fn insert_front(&mut self, bit: bool) {
+        if self.len % 64 == 0 {
+            self.words.push(0);
+        }
+        copy_up::<true>(&mut self.words, 0, 1, self.len);
+        self.words[0] = self.words[0] & !1 | bit as u64;
+        self.len += 1;
+    }
+}
+
+fn time_vectors(source: &[u64]) {
+    let list: Vec<bool> = (0..WORDS).map(|i| source[i / 64] >> (i % 64) & 1 == 1).collect();
+    let count = WORDS * 64 - 7;
+    let mut bits = Bits { words: Vec::new(), len: 0 };
+    time("vec-push", WORDS, || {
+        bits.truncate(0);
+        for bit in black_box(&list) {
+            bits.push(*bit);
+        }
+        black_box(&mut bits);
+    });
+    let mut bools: Vec<bool> = Vec::new();
+    time("vec-push-bools", WORDS, || {
+        bools.clear();
+        for bit in black_box(&list) {
+            bools.push(*bit);
+        }
+        black_box(&mut bools);
+    });
+    bits.truncate(3);
+    time("vec-extend-shifted", WORDS, || {
+        bits.truncate(3);
+        bits.extend(black_box(source), 5, count);
+    });
+    time("vec-insert-front", WORDS, || {
+        bits.insert_front(true);
+        bits.truncate(bits.len - 1);
+        black_box(&mut bits);
+    });
+}
+
 fn main() {
     let source = words();
     let mut target = words();
@@ -1702,5 +1791,6 @@ fn main() {
     time_places::<true>("lsb0");
     time_places::<false>("msb0");
     time_streams(&source, &mut target);
+    time_vectors(&source);
     time_maps();
 }

@@ -1,7 +1,7 @@
 //! How long the layer's calls take, and whether they do what plain loops do.
 //!
-//! With no argument it copies, runs, fills and searches a few thousand words, and hands out blocks
-//! of free maps, compares each memory or answer with what a plain loop makes, and prints a line for
+//! With no argument it copies, runs, fills and searches a few thousand words, lets vectors grow, and
+//! hands out blocks of free maps, compares each memory or answer with what a plain loop makes, and prints a line for
 //! each that agrees. With the argument `time` it prints a name, a unit and the nanoseconds of one
 //! for each job; with `grow` it does so three times, each time with memories four times as large,
 //! so that what grows faster than its input shows; free maps have as many blocks each time.
@@ -17,6 +17,7 @@ mod sets;
 mod slices;
 mod streams;
 mod timer;
+mod vectors;
 mod words;
 
 use crate::timer::{Mode, Size};
@@ -44,5 +45,6 @@ fn jobs(rt: HostRuntime, mode: Mode) -> io::Result<()> {
     edits::edits(rt, mode)?;
     places::all_acts(rt, mode)?;
     streams::streams(rt, mode)?;
+    vectors::vectors(rt, mode)?;
     maps::maps(rt, mode)
 }

@@ -1,7 +1,9 @@
 //! Numbers read and written one behind the other, under a rising and a falling order: of 13 bits, of
 //! widths from a list, and Exp-Golomb codes.
 
-ghost use Rattle.std.specs.Prelude.{⊤, ◌≤◌};
+ghost use Rattle.std.specs.Prelude.{⊤, ◌≤◌, length};
+ghost use Rattle.bitvec.specs.BitSpan.{span_of};
+ghost use Rattle.bitvec.specs.Span.{Fits};
 
 use crate::timer::{Job, Mode, Name, tell, time};
 use crate::words::{Formula, bit, put, words};
@@ -95,11 +97,15 @@ fn read_codes<O: Sequential<u64>>(
     Ok(sum)
 }
 
-// Writes numbers of 13 bits.
+// Writes numbers of 13 bits from the first bit of a span on.
 fn write_all<O: Sequential<u64>>(
-    writer: &mut BitWriter<'_, u64, O>,
+    span: BitSpan<u64, O>,
+    memory: &mut [u64],
     count: usize,
-) -> Result<(), WriteError> {
+) -> Result<(), WriteError>
+    requires { Fits 64 (span_of span) (length memory.old) }
+{
+    let mut writer = BitWriter::new(BitSliceMut::new_unchecked(span, memory));
     for n in 0..count {
         let value = (n % 8192) as u64;
         if O::RISES {
@@ -122,9 +128,7 @@ impl<O: Sequential<u64>> Job for Numbers<'_, '_, O> {
             return;
         }
         if let Act::Write = self.act {
-            let slice = BitSliceMut::new_unchecked(span, memory);
-            let mut writer = BitWriter::new(slice);
-            let _ = write_all(&mut writer, widths.len());
+            let _ = write_all(span, memory, widths.len());
             return;
         }
         let Some(slice) = BitSlice::new(span, memory) else {
