@@ -72,6 +72,22 @@ static uint8_t show_word(void) {
     return BITVEC_OK;
 }
 
+/* The fields of the same bytes, each read behind the one before. */
+static uint8_t show_stream(void) {
+    const uint8_t bytes[4] = {0x4b, 0x82, 0x05, 0xdc};
+    uint64_t numbers[FIELDS] = {0};
+    size_t place = 0;
+    for (size_t i = 0; i < FIELDS; i++) {
+        uint8_t status = bitvec_c_read_u8(BITVEC_MSB0, true, bytes, 4, &place, 32,
+                                          fields[i].count, &numbers[i]);
+        if (status != BITVEC_OK)
+            return status;
+    }
+    printf("at place %zu", place);
+    print_numbers(numbers);
+    return BITVEC_OK;
+}
+
 /* Eight bits of one memory, copied to others of another. */
 static uint8_t show_copy(void) {
     uint8_t source[2] = {0x0f, 0xf0}, target[3] = {0};
@@ -93,6 +109,8 @@ int main(void) {
     uint8_t status = show_bytes();
     if (status == BITVEC_OK)
         status = show_word();
+    if (status == BITVEC_OK)
+        status = show_stream();
     if (status == BITVEC_OK)
         status = show_copy();
     if (status == BITVEC_OK)

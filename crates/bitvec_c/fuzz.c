@@ -62,12 +62,12 @@ struct buffer {
     const struct guarded *in;
 };
 
-enum { MEMORY, OTHER, SPANS, REQUESTS, REPLIES, NUMBERS, ANSWER, PLACES };
+enum { MEMORY, OTHER, SPANS, REQUESTS, REPLIES, NUMBERS, ANSWER, PLACE, ROOMS };
 
-static struct guarded rooms[PLACES];
+static struct guarded rooms[ROOMS];
 
 static void map_rooms(void) {
-    for (int i = 0; i < PLACES; i++) {
+    for (int i = 0; i < ROOMS; i++) {
         uint8_t *all = mmap(NULL, ROOM + 2 * PAGE, PROT_READ | PROT_WRITE,
                             MAP_PRIVATE | MAP_ANONYMOUS, -1, 0);
         if (all == MAP_FAILED || mprotect(all, PAGE, PROT_NONE) != 0 ||
@@ -1032,6 +1032,164 @@ QUESTION(first_difference_u64_with_u16, uint64_t, uint16_t, XOR, false)
 QUESTION(first_difference_u64_with_u32, uint64_t, uint32_t, XOR, false)
 QUESTION(first_difference_u64_with_u64, uint64_t, uint64_t, XOR, false)
 
+/* A stream: its place and its end, which mostly lie in a memory, and what may be asked of it. */
+struct stream {
+    size_t place, end, count;
+    bool big, bit;
+};
+
+static uint64_t lowest_digits(size_t count) {
+    return count < 64 ? (UINT64_C(1) << count) - 1 : UINT64_MAX;
+}
+
+/* A number of that many digits, as a two's complement where `is_signed`. */
+static uint64_t of_digits(uint64_t number, size_t count, bool is_signed) {
+    number &= lowest_digits(count);
+    if (is_signed && count != 0 && count < 64 && number >> (count - 1) & 1)
+        number |= ~lowest_digits(count);
+    return number;
+}
+
+static struct stream any_stream(size_t bits) {
+    struct range range = any_range(bits);
+    struct stream stream = {range.start, range.start + range.count, 0, one_in(2), one_in(2)};
+    if (one_in(16))
+        stream.end = mostly(bits);
+    stream.count = mostly(range.count < 64 ? range.count : 64);
+    return stream;
+}
+
+static uint8_t left_status(unsigned width, uint8_t order, size_t words, struct stream stream) {
+    size_t count = stream.end < stream.place ? 0 : stream.end - stream.place;
+    uint8_t status = range_status(width, order, words, stream.place, count);
+    return status == BITVEC_OK && stream.end < stream.place ? BITVEC_OUTSIDE : status;
+}
+
+/* What a call on a stream of that status answers, and how many bits it takes. */
+struct taken {
+    uint8_t status;
+    size_t count;
+    uint64_t number;
+};
+
+static struct taken refused(uint8_t status) { return (struct taken){status, 0, 0}; }
+
+/* The digit of that index, of `count`, of the number of bits from the place on. */
+static size_t place_of_digit(struct stream stream, size_t digit) {
+    return stream.place + (stream.big ? stream.count - 1 - digit : digit);
+}
+
+static struct taken model_read(unsigned width, uint8_t order, struct stream stream,
+                               bool is_signed) {
+    struct taken taken = {BITVEC_OK, stream.count, 0};
+    if (stream.count > 64)
+        return refused(BITVEC_TOO_WIDE);
+    if (stream.count > stream.end - stream.place)
+        return refused(BITVEC_TOO_FEW);
+    for (size_t i = 0; i < stream.count; i++)
+        taken.number |= (uint64_t)bit_at(model, width, order, place_of_digit(stream, i)) << i;
+    taken.number = of_digits(taken.number, stream.count, is_signed);
+    return taken;
+}
+
+static struct taken model_read_unary(unsigned width, uint8_t order, struct stream stream) {
+    size_t place = stream.place;
+    while (place < stream.end && bit_at(model, width, order, place) == stream.bit)
+        place++;
+    if (place == stream.end)
+        return refused(BITVEC_TOO_FEW);
+    return (struct taken){BITVEC_OK, place - stream.place + 1, place - stream.place};
+}
+
+/* The number of a code is one less than that of its digits, of which there may be 65. */
+static struct taken model_read_code(unsigned width, uint8_t order, struct stream stream,
+                                    bool is_signed) {
+    stream.bit = false;
+    struct taken zeros = model_read_unary(width, order, stream);
+    if (zeros.status != BITVEC_OK || zeros.number + zeros.count > stream.end - stream.place)
+        return refused(BITVEC_TOO_FEW);
+    struct taken taken = {BITVEC_OK, zeros.number + zeros.count, 0};
+    uint64_t low = 0; /* the digits behind the first */
+    for (size_t i = zeros.count; i < taken.count; i++)
+        low = low << 1 | bit_at(model, width, order, stream.place + i);
+    bool more = zeros.number > 64 || (zeros.number == 64 && low > (is_signed ? 1 : 0));
+    if (more || (is_signed && zeros.number == 64 && low == 0))
+        return refused(BITVEC_TOO_LARGE);
+    uint64_t number = (zeros.number < 64 ? UINT64_C(1) << zeros.number : 0) + low - 1;
+    taken.number = number;
+    if (is_signed && zeros.number == 64)
+        taken.number = UINT64_C(1) << 63;
+    else if (is_signed)
+        taken.number = number % 2 == 1 ? number / 2 + 1 : 0 - number / 2;
+    return taken;
+}
+
+/* In the memory and the model: sometimes a long code at the place, where there is room. */
+static void plant_code(struct buffer memory, unsigned width, uint8_t order, size_t words,
+                       struct stream stream) {
+    size_t zeros = 58 + below(9), kind = below(3);
+    if (one_in(2) || left_status(width, order, words, stream) != BITVEC_OK ||
+        2 * zeros + 1 > stream.end - stream.place)
+        return;
+    for (size_t i = 0; i < 2 * zeros + 1; i++) {
+        bool last = i == 2 * zeros;
+        bool bit = i == zeros || (i > zeros && (kind == 0 ? one_in(2) : kind == 1 && last));
+        put_bit(model, width, order, stream.place + i, bit);
+    }
+    memcpy(memory.at, model, memory.size);
+}
+
+#define PLAIN_HEAD order
+#define BIG_HEAD order, stream.big
+
+/* An export that reads a number from a stream of words `T`. */
+#define STREAM_READ(C, W, T, MODELLED, HEAD, ...)                                                  \
+    static void C##_##W(uint8_t order, unsigned width) {                                           \
+        struct buffer memory = any_memory(MEMORY, width, model);                                   \
+        struct buffer at = take(PLACE, 8), answer = take(ANSWER, 8);                               \
+        size_t words = memory.size / sizeof(T), place;                                             \
+        struct stream stream = any_stream(words * width);                                          \
+        uint64_t before = any(), number;                                                           \
+        plant_code(memory, width, order, words, stream);                                           \
+        memcpy(at.at, &stream.place, 8);                                                           \
+        memcpy(answer.at, &before, 8);                                                             \
+        protect(memory, PROT_READ);                                                                \
+        uint8_t status =                                                                           \
+            bitvec_c_##C##_##W(HEAD, (const T *)(void *)memory.at, words,                          \
+                               (size_t *)(void *)at.at, stream.end, __VA_ARGS__);                  \
+        protect(memory, PROT_READ | PROT_WRITE);                                                   \
+        struct taken taken = refused(left_status(width, order, words, stream));                    \
+        if (taken.status == BITVEC_OK)                                                             \
+            taken = MODELLED;                                                                      \
+        same_status(status, taken.status);                                                         \
+        memcpy(&place, at.at, 8);                                                                  \
+        memcpy(&number, answer.at, 8);                                                             \
+        if (place != stream.place + taken.count)                                                   \
+            wrong("the place");                                                                    \
+        if (number != (status == BITVEC_OK ? taken.number : before))                               \
+            wrong("the number");                                                                   \
+        same_bytes(memory, model);                                                                 \
+    }
+
+#define TO(A) (A *)(void *)answer.at
+
+#define STREAMS(W, T)                                                                              \
+    STREAM_READ(read, W, T, model_read(width, order, stream, false), BIG_HEAD, stream.count,       \
+                TO(uint64_t))                                                                      \
+    STREAM_READ(read_signed, W, T, model_read(width, order, stream, true), BIG_HEAD, stream.count, \
+                TO(int64_t))                                                                       \
+    STREAM_READ(read_unary, W, T, model_read_unary(width, order, stream), PLAIN_HEAD, stream.bit,  \
+                TO(size_t))                                                                        \
+    STREAM_READ(read_exp_golomb, W, T, model_read_code(width, order, stream, false), PLAIN_HEAD,   \
+                TO(uint64_t))                                                                      \
+    STREAM_READ(read_signed_exp_golomb, W, T, model_read_code(width, order, stream, true),         \
+                PLAIN_HEAD, TO(int64_t))
+
+STREAMS(u8, uint8_t)
+STREAMS(u16, uint16_t)
+STREAMS(u32, uint32_t)
+STREAMS(u64, uint64_t)
+
 struct export {
     const char *name;
     void (*call)(uint8_t order, unsigned width);
@@ -1056,7 +1214,8 @@ static struct export exports[] = {
     EXPORTS_OF(first_and_not), EXPORTS_OF(first_difference), EXPORTS_OF(next),
     EXPORTS_OF(previous), EXPORTS_OF(find_zeros_from), EXPORTS_OF(replace), EXPORTS_OF(swap),
     EXPORTS_OF(load_signed), EXPORTS_OF(store_signed), EXPORTS_OF(can_run_in),
-    EXPORTS_OF(run_in),
+    EXPORTS_OF(run_in), EXPORTS_OF(read), EXPORTS_OF(read_signed), EXPORTS_OF(read_unary),
+    EXPORTS_OF(read_exp_golomb), EXPORTS_OF(read_signed_exp_golomb),
     EXPORT(first_difference_u8_with_u8, 8),
     EXPORT(first_difference_u8_with_u16, 8),
     EXPORT(first_difference_u8_with_u32, 8),

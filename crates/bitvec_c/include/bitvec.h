@@ -1,5 +1,5 @@
-/* Bits in words: copies, fills, single bits, numbers, counts, searches, moves, sets, and runs of
- * commands.
+/* Bits in words: copies, fills, single bits, numbers, counts, searches, moves, sets, streams, and
+ * runs of commands.
  *
  * A memory is an array of words of 8, 16, 32 or 64 bits, and each call has the width in its name:
  * u8, u16, u32 or u64. A place counts the bits of a memory from 0 on: it is the bit of the index
@@ -16,8 +16,8 @@
  *
  * - A pointer is aligned for its type, and as many items as the number after it says can be read
  *   there, or written where the call writes; each has a value, also where the call writes it.
- * - A pointer whose number is 0 may be NULL, and is never followed. A pointer to an answer, which
- *   has no number after it, is never NULL.
+ * - A pointer whose number is 0 may be NULL, and is never followed. A pointer to an answer, or to a
+ *   place that is moved, which has no such number after it, is never NULL.
  * - What a call writes shares nothing with its other arguments. Where the source and the target of
  *   bitvec_c_copy_W, bitvec_c_copy_V_to_W, bitvec_c_and_W and its like lie in one array, the status
  *   is BITVEC_OK all the same and the bits are wrong: bitvec_c_copy_within_W is the call for a copy
@@ -43,7 +43,7 @@
 
 /* The version of this header: 10000 times its first part, 100 times its second, and its third. The
  * archive is of the same release where bitvec_c_version() returns it too. */
-#define BITVEC_VERSION 300
+#define BITVEC_VERSION 400
 
 /* Before a call whose status a caller may not ignore. */
 #if defined(__GNUC__)
@@ -89,7 +89,10 @@ enum bitvec_status {
     BITVEC_OVERLAP = 6,        /* two spans of a run have a bit in common */
     BITVEC_NO_ROOM = 7,        /* a run has not as many replies as requests, or room for the numbers
                                   of its spans */
-    BITVEC_NO_COMMAND = 8      /* the command of a request is none of those below */
+    BITVEC_NO_COMMAND = 8,     /* the command of a request is none of those below */
+    BITVEC_TOO_FEW = 9,        /* fewer bits are left of a stream than are to be read, or they end
+                                  before a run or a code does */
+    BITVEC_TOO_LARGE = 10      /* the number of a code has more digits than what it is read to */
 };
 
 /* How many spans a run has at most. */
@@ -744,6 +747,92 @@ BITVEC_CHECKED uint8_t bitvec_c_copy_u64_to_u32(
 BITVEC_CHECKED uint8_t bitvec_c_copy_u64_to_u64(
     uint8_t source_order, const uint64_t *source, size_t source_words, size_t source_start,
     uint8_t order, uint64_t *target, size_t target_words, size_t target_start, size_t count);
+
+/* The calls from here to bitvec_c_read_signed_exp_golomb_W read numbers that stand one behind the
+ * other: each takes bits from `*place` on, of those that end before `end`, and moves `*place`
+ * behind them. BITVEC_OUTSIDE: `end` is before `*place`, or past the last bit of the memory.
+ * BITVEC_TOO_FEW: fewer bits are left than it takes. To pass over bits, or to go back, a caller
+ * sets `*place` itself. */
+
+/* Writes to `number` the number of the next `count` bits: the first is its lowest digit or, where
+ * `big_endian`, the highest, whatever the order and the width are. For no bits it is 0.
+ * BITVEC_TOO_WIDE: `count` is past 64. Costs by words. */
+BITVEC_CHECKED uint8_t bitvec_c_read_u8(
+    uint8_t order, bool big_endian, const uint8_t *memory, size_t words, size_t *place, size_t end,
+    size_t count, uint64_t *number) BITVEC_NONNULL(5) BITVEC_NONNULL(8);
+BITVEC_CHECKED uint8_t bitvec_c_read_u16(
+    uint8_t order, bool big_endian, const uint16_t *memory, size_t words, size_t *place, size_t end,
+    size_t count, uint64_t *number) BITVEC_NONNULL(5) BITVEC_NONNULL(8);
+BITVEC_CHECKED uint8_t bitvec_c_read_u32(
+    uint8_t order, bool big_endian, const uint32_t *memory, size_t words, size_t *place, size_t end,
+    size_t count, uint64_t *number) BITVEC_NONNULL(5) BITVEC_NONNULL(8);
+BITVEC_CHECKED uint8_t bitvec_c_read_u64(
+    uint8_t order, bool big_endian, const uint64_t *memory, size_t words, size_t *place, size_t end,
+    size_t count, uint64_t *number) BITVEC_NONNULL(5) BITVEC_NONNULL(8);
+
+/* Writes to `number` the signed number whose two's complement of `count` digits that is; for no
+ * bits it is 0. Costs by words. */
+BITVEC_CHECKED uint8_t bitvec_c_read_signed_u8(
+    uint8_t order, bool big_endian, const uint8_t *memory, size_t words, size_t *place, size_t end,
+    size_t count, int64_t *number) BITVEC_NONNULL(5) BITVEC_NONNULL(8);
+BITVEC_CHECKED uint8_t bitvec_c_read_signed_u16(
+    uint8_t order, bool big_endian, const uint16_t *memory, size_t words, size_t *place, size_t end,
+    size_t count, int64_t *number) BITVEC_NONNULL(5) BITVEC_NONNULL(8);
+BITVEC_CHECKED uint8_t bitvec_c_read_signed_u32(
+    uint8_t order, bool big_endian, const uint32_t *memory, size_t words, size_t *place, size_t end,
+    size_t count, int64_t *number) BITVEC_NONNULL(5) BITVEC_NONNULL(8);
+BITVEC_CHECKED uint8_t bitvec_c_read_signed_u64(
+    uint8_t order, bool big_endian, const uint64_t *memory, size_t words, size_t *place, size_t end,
+    size_t count, int64_t *number) BITVEC_NONNULL(5) BITVEC_NONNULL(8);
+
+/* Writes to `count` how many bits are the same as `bit` before the first that is not, which is
+ * taken too. BITVEC_TOO_FEW: all bits that are left are the same as `bit`, also where none is
+ * left. Costs by words. */
+BITVEC_CHECKED uint8_t bitvec_c_read_unary_u8(
+    uint8_t order, const uint8_t *memory, size_t words, size_t *place, size_t end, bool bit,
+    size_t *count) BITVEC_NONNULL(4) BITVEC_NONNULL(7);
+BITVEC_CHECKED uint8_t bitvec_c_read_unary_u16(
+    uint8_t order, const uint16_t *memory, size_t words, size_t *place, size_t end, bool bit,
+    size_t *count) BITVEC_NONNULL(4) BITVEC_NONNULL(7);
+BITVEC_CHECKED uint8_t bitvec_c_read_unary_u32(
+    uint8_t order, const uint32_t *memory, size_t words, size_t *place, size_t end, bool bit,
+    size_t *count) BITVEC_NONNULL(4) BITVEC_NONNULL(7);
+BITVEC_CHECKED uint8_t bitvec_c_read_unary_u64(
+    uint8_t order, const uint64_t *memory, size_t words, size_t *place, size_t end, bool bit,
+    size_t *count) BITVEC_NONNULL(4) BITVEC_NONNULL(7);
+
+/* Writes to `number` the number of an Exp-Golomb code, ue(v) of ITU-T H.264 and H.265: as many
+ * zeros as the number and one have binary digits, less one, and then these digits, the highest
+ * first. So 1 is 0, 010 is 1, 011 is 2 and 00100 is 3. BITVEC_TOO_FEW: the bits end before a code
+ * does. BITVEC_TOO_LARGE: the number has more than 64 digits. Costs by words. */
+BITVEC_CHECKED uint8_t bitvec_c_read_exp_golomb_u8(
+    uint8_t order, const uint8_t *memory, size_t words, size_t *place, size_t end,
+    uint64_t *number) BITVEC_NONNULL(4) BITVEC_NONNULL(6);
+BITVEC_CHECKED uint8_t bitvec_c_read_exp_golomb_u16(
+    uint8_t order, const uint16_t *memory, size_t words, size_t *place, size_t end,
+    uint64_t *number) BITVEC_NONNULL(4) BITVEC_NONNULL(6);
+BITVEC_CHECKED uint8_t bitvec_c_read_exp_golomb_u32(
+    uint8_t order, const uint32_t *memory, size_t words, size_t *place, size_t end,
+    uint64_t *number) BITVEC_NONNULL(4) BITVEC_NONNULL(6);
+BITVEC_CHECKED uint8_t bitvec_c_read_exp_golomb_u64(
+    uint8_t order, const uint64_t *memory, size_t words, size_t *place, size_t end,
+    uint64_t *number) BITVEC_NONNULL(4) BITVEC_NONNULL(6);
+
+/* Writes to `number` the signed number of one, se(v) there: the codes of 0, 1, 2, 3, 4 and so on
+ * are those of 0, 1, -1, 2, -2 and so on. BITVEC_TOO_FEW and BITVEC_TOO_LARGE: as above, where an
+ * int64_t has not the number. Costs by words. */
+BITVEC_CHECKED uint8_t bitvec_c_read_signed_exp_golomb_u8(
+    uint8_t order, const uint8_t *memory, size_t words, size_t *place, size_t end,
+    int64_t *number) BITVEC_NONNULL(4) BITVEC_NONNULL(6);
+BITVEC_CHECKED uint8_t bitvec_c_read_signed_exp_golomb_u16(
+    uint8_t order, const uint16_t *memory, size_t words, size_t *place, size_t end,
+    int64_t *number) BITVEC_NONNULL(4) BITVEC_NONNULL(6);
+BITVEC_CHECKED uint8_t bitvec_c_read_signed_exp_golomb_u32(
+    uint8_t order, const uint32_t *memory, size_t words, size_t *place, size_t end,
+    int64_t *number) BITVEC_NONNULL(4) BITVEC_NONNULL(6);
+BITVEC_CHECKED uint8_t bitvec_c_read_signed_exp_golomb_u64(
+    uint8_t order, const uint64_t *memory, size_t words, size_t *place, size_t end,
+    int64_t *number) BITVEC_NONNULL(4) BITVEC_NONNULL(6);
 
 /* Tests the spans of a run for a memory of so many words: BITVEC_NO_ORDER, BITVEC_TOO_MANY_SPANS,
  * BITVEC_TOO_LONG, BITVEC_OUTSIDE, BITVEC_OVERLAP. It tests each with each, so costs at most 2016

@@ -6,3 +6,4 @@ mod ReadLemmas
 mod RunLemmas
 mod SignedRangeLemmas
 mod SortedLemmas
+mod StreamLemmas

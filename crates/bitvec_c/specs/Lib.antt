@@ -7,4 +7,5 @@ pub mod Range
 pub mod RunStatus
 pub mod Seek
 pub mod Status
+pub mod Stream
 pub mod Version

@@ -1,5 +1,5 @@
 -- The statuses, and that of a range: the first of its conditions that does not hold. `bits` is the width of a word.
-use Rattle.std.specs.Prelude.{ℕ, ◌+◌, ◌*◌, ◌==◌, nat_lt, if◌then◌else◌}
+use Rattle.std.specs.Prelude.{ℕ, ◌+◌, ◌-◌, ◌*◌, ◌==◌, nat_lt, if◌then◌else◌}
 use Rattle.bitvec.specs.Place.{region_max_bits}
 
 -- all conditions hold
@@ -38,6 +38,14 @@ no_room = 7
 abbrev pub no_command : ℕ
 no_command = 8
 
+-- fewer bits are left of a stream than are to be read, or they end before a run or a code does
+abbrev pub too_few : ℕ
+too_few = 9
+
+-- the number of a code has more digits than the answer of the call that reads it
+abbrev pub too_large : ℕ
+too_large = 10
+
 -- the status of an order and of the range of `count` bits from place `start` on, in a memory of `words` words
 abbrev pub range_status : ℕ → ℕ → ℕ → ℕ → ℕ → ℕ
 range_status bits order words start count =
@@ -57,6 +65,11 @@ number_status bits order words start count =
 abbrev pub moved_status : ℕ → ℕ → ℕ → ℕ → ℕ → ℕ → ℕ
 moved_status bits order words start count by =
     let first = range_status bits order words start count in if first == ok then (if nat_lt count by then outside else ok) else first
+
+-- the same of the bits from a place to before an end, which is not before the place
+abbrev pub left_status : ℕ → ℕ → ℕ → ℕ → ℕ → ℕ
+left_status bits order words place end =
+    let first = range_status bits order words place (end - place) in if first == ok then (if nat_lt end place then outside else ok) else first
 
 -- the same of two ranges of as many bits, each in a memory of its own words and under an order of its own
 abbrev pub pair_status : ℕ → ℕ → ℕ → ℕ → ℕ → ℕ → ℕ → ℕ → ℕ → ℕ

@@ -1,9 +1,9 @@
 //! The statuses that calls answer, and the tests behind them.
 
-ghost use Rattle.std.specs.Prelude.{◌≡◌, ◌+◌, ◌*◌, ◌≤◌, ◌↔◌, IsTrue};
+ghost use Rattle.std.specs.Prelude.{◌≡◌, ◌+◌, ◌-◌, ◌*◌, ◌≤◌, ◌↔◌, IsTrue};
 ghost use Rattle.bitvec.specs.Place.{region_max_bits};
 ghost use Rattle.bitvec_c.specs.Status.{ok, range_status, ranges_status, number_status};
-ghost use Rattle.bitvec_c.specs.Status.{moved_status, pair_status};
+ghost use Rattle.bitvec_c.specs.Status.{moved_status, left_status, pair_status};
 
 use bitvec::mem::BitRegister;
 
@@ -33,6 +33,12 @@ pub(crate) const NO_ROOM: u8 = 7;
 
 /// The code of a request's command is that of no command.
 pub(crate) const NO_COMMAND: u8 = 8;
+
+/// Fewer bits are left of a stream than are to be read, or they end before a run or a code does.
+pub(crate) const TOO_FEW: u8 = 9;
+
+/// The number of a code has more digits than the answer of the call that reads it.
+pub(crate) const TOO_LARGE: u8 = 10;
 
 /// The code of the order from the least significant digit.
 pub(crate) const LSB0: u8 = 0;
@@ -137,6 +143,23 @@ pub(crate) fn test_moved<R: BitRegister>(
 {
     let status = test_range::<R>(order, words, start, count);
     if status == OK && by > count {
+        OUTSIDE
+    } else {
+        status
+    }
+}
+
+/// The status of an order and of the bits from a place to before an end, which is not before the
+/// place.
+pub(crate) fn test_left<R: BitRegister>(order: u8, words: usize, place: usize, end: usize) -> u8
+    ensures status { result ≡ left_status R.BITS order words place end }
+    ensures order { result ≡ ok → order ≤ 1 }
+    ensures short { result ≡ ok → end - place ≤ region_max_bits }
+    ensures rises { result ≡ ok → place ≤ end }
+    ensures inside { result ≡ ok → place + (end - place) ≤ words * R.BITS }
+{
+    let status = test_range::<R>(order, words, place, end.saturating_sub(place));
+    if status == OK && end < place {
         OUTSIDE
     } else {
         status

@@ -5,7 +5,7 @@ use crate::refusal::Refusal;
 use crate::register::Register;
 use crate::slice::{BitSlice, granted};
 use crate::slice_mut::BitSliceMut;
-use core::ops::{BitAndAssign, BitOrAssign, BitXorAssign};
+use core::ops::{BitAndAssign, BitOrAssign, BitXorAssign, Not};
 
 /// A call of the library that combines two ranges.
 type Operator<T> = fn(u8, (&[T], usize), u8, (&mut [T], usize), usize) -> Result<(), Refusal>;
@@ -124,6 +124,27 @@ impl<'b, T: Register, O: Order, T2: Register, O2: Order> BitXorAssign<BitSlice<'
 {
     fn bitxor_assign(&mut self, other: BitSlice<'b, T2, O2>) {
         self.combine(&other, T::xor, |here, there| here ^ there);
+    }
+}
+
+/// Turns over each bit, as [`invert`](BitSliceMut::invert). Costs by words.
+///
+/// # Examples
+///
+/// ```
+/// use worghulen::{BitView, Lsb0};
+///
+/// let mut words = [0x0f_u8];
+/// let bits = !words.view_bits_mut::<Lsb0>();
+/// assert_eq!(bits.first_one(), Some(4));
+/// assert_eq!(words, [0xf0]);
+/// ```
+impl<T: Register, O: Order> Not for BitSliceMut<'_, T, O> {
+    type Output = Self;
+
+    fn not(mut self) -> Self {
+        self.invert();
+        self
     }
 }
 

@@ -125,6 +125,20 @@ impl<T: Register, O: Order> BitSlice<'_, T, O> {
     }
 }
 
+/// Whether two slices have as many bits, and the same ones, whatever their words and orders are.
+/// Costs by words.
+///
+/// # Examples
+///
+/// ```
+/// use worghulen::{BitView, Lsb0, Msb0};
+///
+/// let (bytes, word) = ([0b0000_1101_u8], 0b1011_0000_0000_0000_u16);
+/// let (low, high) = (bytes.view_bits::<Lsb0>(), word.view_bits::<Msb0>());
+/// assert!(low != high);
+/// assert!(low == high.get(..8).unwrap());
+/// assert!(low.get(..4).unwrap() == [true, false, true, true]);
+/// ```
 impl<'b, T: Register, O: Order, T2: Register, O2: Order> PartialEq<BitSlice<'b, T2, O2>>
     for BitSlice<'_, T, O>
 {
@@ -182,6 +196,21 @@ impl<'b, T: Register, O: Order, T2: Register, O2: Order> PartialOrd<BitSlice<'b,
     }
 }
 
+/// The order of two lists of `bool`: that of the first bits that differ, and else a slice that goes
+/// on is the greater. Slices of other words and orders compare by `<` too. Costs by words.
+///
+/// # Examples
+///
+/// ```
+/// use worghulen::{BitView, Lsb0, Msb0};
+///
+/// let words = [0b0110_0010_u8];
+/// let bits = words.view_bits::<Lsb0>();
+/// let mut parts: Vec<_> = bits.chunks(3).collect();
+/// parts.sort();
+/// assert_eq!(parts.iter().map(|it| it.to_string()).collect::<Vec<_>>(), ["001", "010", "10"]);
+/// assert!(bits < 0x8000_u16.view_bits::<Msb0>());
+/// ```
 impl<T: Register, O: Order> Ord for BitSlice<'_, T, O> {
     fn cmp(&self, other: &Self) -> Ordering {
         self.compare(other)
@@ -204,6 +233,17 @@ impl<T: Register, O: Order> Ord for BitSliceMut<'_, T, O> {
 
 /// Slices that are equal have the same hash, also where their words and orders differ. Costs by
 /// words.
+///
+/// # Examples
+///
+/// ```
+/// use std::collections::HashSet;
+/// use worghulen::{BitView, Lsb0};
+///
+/// let words = [0b0101_1010_u8];
+/// let parts: HashSet<_> = words.view_bits::<Lsb0>().chunks(2).collect();
+/// assert_eq!(parts.len(), 2);
+/// ```
 impl<T: Register, O: Order> Hash for BitSlice<'_, T, O> {
     fn hash<H: Hasher>(&self, state: &mut H) {
         state.write_usize(self.len());

@@ -66,6 +66,16 @@ ranges! {
 
 /// The bit at an index, as `bits[3]`. A range of bits is no reference, so [`BitSlice::get`] has
 /// those. Constant time.
+///
+/// # Examples
+///
+/// ```
+/// use worghulen::{BitView, Lsb0};
+///
+/// let words = [0b0000_1000_u8];
+/// let bits = words.view_bits::<Lsb0>();
+/// assert!(bits[3] && !bits[4]);
+/// ```
 impl<T: Register, O: Order> Index<usize> for BitSlice<'_, T, O> {
     type Output = bool;
 

@@ -539,6 +539,20 @@ impl<'a, T: Register, O: Order> BitSlice<'a, T, O> {
     }
 }
 
+/// As [`BitSlice::iter`].
+///
+/// # Examples
+///
+/// ```
+/// use worghulen::{BitView, Lsb0};
+///
+/// let words = [0b0000_1101_u8];
+/// let mut ones = 0;
+/// for bit in words.view_bits::<Lsb0>() {
+///     ones += u32::from(bit);
+/// }
+/// assert_eq!(ones, 3);
+/// ```
 impl<'a, T: Register, O: Order> IntoIterator for BitSlice<'a, T, O> {
     type Item = bool;
     type IntoIter = Iter<'a, T, O>;

@@ -23,6 +23,7 @@ mod register;
 mod run;
 mod slice;
 mod slice_mut;
+mod stream;
 #[allow(unsafe_code)]
 mod sys;
 mod text;
@@ -38,6 +39,7 @@ pub use register::Register;
 pub use run::{Command, ManySpans, Reply, Request, Spans};
 pub use slice::BitSlice;
 pub use slice_mut::{BitSliceMut, copy_bits};
+pub use stream::BitReader;
 pub use sys::Span;
 pub use view::BitView;
 
@@ -49,7 +51,7 @@ pub use view::BitView;
 /// ```
 /// assert_eq!(worghulen::archive_version(), worghulen::VERSION);
 /// ```
-pub const VERSION: u32 = 300;
+pub const VERSION: u32 = 400;
 
 /// The number of the version of the static library that is linked, to be compared with [`VERSION`].
 /// Constant time.
@@ -57,7 +59,7 @@ pub const VERSION: u32 = 300;
 /// # Examples
 ///
 /// ```
-/// assert_eq!(worghulen::archive_version(), 300);
+/// assert_eq!(worghulen::archive_version(), 400);
 /// ```
 #[must_use]
 pub fn archive_version() -> u32 {

@@ -46,15 +46,35 @@ pub(crate) mod digits {
             start: usize,
             count: usize,
         ) -> Result<(), Refusal>;
+
+        /// The number of the next so many bits before an end, at most its width; the place moves
+        /// behind them.
+        fn read<T: Exports>(
+            order: u8,
+            big: bool,
+            words: &[T],
+            place: &mut usize,
+            end: usize,
+            count: usize,
+        ) -> Result<Self, Refusal>;
+
+        /// The number of the Exp-Golomb code that stands there.
+        fn read_code<T: Exports>(
+            order: u8,
+            words: &[T],
+            place: &mut usize,
+            end: usize,
+        ) -> Result<Self, Refusal>;
     }
 }
 
 macro_rules! numbers {
-    ($($t:ident: $wide:ident by $load:ident, $store:ident;)*) => { $(
+    ($($t:ident: $wide:ident by $load:ident, $store:ident, $read:ident, $read_code:ident;)*) => { $(
         impl Number for $t {}
 
         #[allow(clippy::cast_possible_truncation)] // (no digit stands past the width)
         #[allow(clippy::cast_lossless, clippy::unnecessary_cast)]
+        #[allow(clippy::unnecessary_fallible_conversions, clippy::useless_conversion)]
         impl digits::Digits for $t {
             const WIDTH: usize = $t::BITS as usize;
 
@@ -68,19 +88,34 @@ macro_rules! numbers {
             fn store<T: Exports>(self, order: u8, big: bool, words: &mut [T], start: usize, count: usize) -> Result<(), Refusal> {
                 T::$store(order, big, words, start, count, self as $wide)
             }
+
+            #[inline]
+            fn read<T: Exports>(order: u8, big: bool, words: &[T], place: &mut usize, end: usize, count: usize) -> Result<Self, Refusal> {
+                let wide = T::$read(order, big, words, place, end, count)?;
+                Ok(wide as Self)
+            }
+
+            #[inline]
+            fn read_code<T: Exports>(order: u8, words: &[T], place: &mut usize, end: usize) -> Result<Self, Refusal> {
+                let mut behind = *place;
+                let wide = T::$read_code(order, words, &mut behind, end)?;
+                let number = Self::try_from(wide).map_err(|_| Refusal::TooLarge)?;
+                *place = behind;
+                Ok(number)
+            }
         }
     )* };
 }
 
 numbers! {
-    u8: u64 by load, store;
-    u16: u64 by load, store;
-    u32: u64 by load, store;
-    u64: u64 by load, store;
-    usize: u64 by load, store;
-    i8: i64 by load_signed, store_signed;
-    i16: i64 by load_signed, store_signed;
-    i32: i64 by load_signed, store_signed;
-    i64: i64 by load_signed, store_signed;
-    isize: i64 by load_signed, store_signed;
+    u8: u64 by load, store, read, read_exp_golomb;
+    u16: u64 by load, store, read, read_exp_golomb;
+    u32: u64 by load, store, read, read_exp_golomb;
+    u64: u64 by load, store, read, read_exp_golomb;
+    usize: u64 by load, store, read, read_exp_golomb;
+    i8: i64 by load_signed, store_signed, read_signed, read_signed_exp_golomb;
+    i16: i64 by load_signed, store_signed, read_signed, read_signed_exp_golomb;
+    i32: i64 by load_signed, store_signed, read_signed, read_signed_exp_golomb;
+    i64: i64 by load_signed, store_signed, read_signed, read_signed_exp_golomb;
+    isize: i64 by load_signed, store_signed, read_signed, read_signed_exp_golomb;
 }

@@ -122,6 +122,18 @@ impl<T: Register, O: Order> BitSliceMut<'_, T, O> {
 }
 
 /// As of a [`BitSlice`]: `bits[3]`. To write a bit, [`set`](BitSliceMut::set).
+///
+/// # Examples
+///
+/// ```
+/// use worghulen::{BitView, Lsb0};
+///
+/// let mut words = [0_u8];
+/// let mut bits = words.view_bits_mut::<Lsb0>();
+/// bits.set(3, true)?;
+/// assert!(bits[3] && !bits[4]);
+/// # Ok::<(), worghulen::Refusal>(())
+/// ```
 impl<T: Register, O: Order> Index<usize> for BitSliceMut<'_, T, O> {
     type Output = bool;
 

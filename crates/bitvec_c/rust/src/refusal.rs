@@ -33,6 +33,10 @@ pub enum Refusal {
     NoRoom,
     /// The command of a request is none. The types of this crate rule it out.
     NoCommand,
+    /// Fewer bits are left of a stream than are to be read, or they end before a run or a code does.
+    TooFew,
+    /// The number of a code has more digits than its type.
+    TooLarge,
     /// A range starts past its end.
     Reversed,
     /// Two slices that are to have the same length have not.
@@ -66,6 +70,8 @@ impl Refusal {
             6 => Self::Overlap,
             7 => Self::NoRoom,
             8 => Self::NoCommand,
+            9 => Self::TooFew,
+            10 => Self::TooLarge,
             unknown => Self::Unknown(unknown),
         }
     }
@@ -82,6 +88,8 @@ impl Display for Refusal {
             Self::Overlap => "two spans of a run have a bit in common",
             Self::NoRoom => "a run has no room for all replies or spans",
             Self::NoCommand => "the command of a request is none",
+            Self::TooFew => "fewer bits are left of a stream",
+            Self::TooLarge => "a number has too many digits",
             Self::Reversed => "a range starts past its end",
             Self::Lengths => "the slices have different lengths",
             Self::SharedWord => "a cut does not lie between two words",

@@ -367,6 +367,51 @@ pub trait Exports: Copy {
         count: usize,
     ) -> Result<usize, Refusal>;
 
+    /// Reads the number of the next `count` bits before an end, and moves the place behind them.
+    fn read(
+        order: u8,
+        big_endian: bool,
+        memory: &[Self],
+        place: &mut usize,
+        end: usize,
+        count: usize,
+    ) -> Result<u64, Refusal>;
+
+    /// Reads the signed number of the next `count` bits.
+    fn read_signed(
+        order: u8,
+        big_endian: bool,
+        memory: &[Self],
+        place: &mut usize,
+        end: usize,
+        count: usize,
+    ) -> Result<i64, Refusal>;
+
+    /// Counts the next bits that are `bit`, and passes the first that is not.
+    fn read_unary(
+        order: u8,
+        memory: &[Self],
+        place: &mut usize,
+        end: usize,
+        bit: bool,
+    ) -> Result<usize, Refusal>;
+
+    /// Reads a number's Exp-Golomb code.
+    fn read_exp_golomb(
+        order: u8,
+        memory: &[Self],
+        place: &mut usize,
+        end: usize,
+    ) -> Result<u64, Refusal>;
+
+    /// Reads a signed number's Exp-Golomb code.
+    fn read_signed_exp_golomb(
+        order: u8,
+        memory: &[Self],
+        place: &mut usize,
+        end: usize,
+    ) -> Result<i64, Refusal>;
+
     /// Tests the spans of a run over a number of words.
     fn can_run(order: u8, spans: &[Span], words: usize) -> Result<(), Refusal>;
 
@@ -1415,6 +1460,156 @@ macro_rules! exports {
                     }
                 };
                 Refusal::check(status).map(|()| index)
+            }
+
+            #[inline]
+            fn read(
+                order: u8,
+                big_endian: bool,
+                memory: &[Self],
+                place: &mut usize,
+                end: usize,
+                count: usize,
+            ) -> Result<u64, Refusal> {
+                unsafe extern "C" {
+                    #[link_name = concat!("bitvec_c_read_", stringify!($w))]
+                    fn read(
+                        order: u8,
+                        big_endian: bool,
+                        memory: *const $w,
+                        words: usize,
+                        place: *mut usize,
+                        end: usize,
+                        count: usize,
+                        number: *mut u64,
+                    ) -> u8;
+                }
+                let (words, len) = (memory.as_ptr().cast(), memory.len());
+                let mut answer = 0;
+                // SAFETY: one slice, a place that is borrowed mutably, and a variable of this
+                // call for the answer.
+                let status = unsafe {
+                    read(order, big_endian, words, len, place, end, count, &raw mut answer)
+                };
+                Refusal::check(status).map(|()| answer)
+            }
+
+            #[inline]
+            fn read_signed(
+                order: u8,
+                big_endian: bool,
+                memory: &[Self],
+                place: &mut usize,
+                end: usize,
+                count: usize,
+            ) -> Result<i64, Refusal> {
+                unsafe extern "C" {
+                    #[link_name = concat!("bitvec_c_read_signed_", stringify!($w))]
+                    fn read_signed(
+                        order: u8,
+                        big_endian: bool,
+                        memory: *const $w,
+                        words: usize,
+                        place: *mut usize,
+                        end: usize,
+                        count: usize,
+                        number: *mut i64,
+                    ) -> u8;
+                }
+                let (words, len) = (memory.as_ptr().cast(), memory.len());
+                let mut answer = 0;
+                // SAFETY: one slice, a place that is borrowed mutably, and a variable of this
+                // call for the answer.
+                let status = unsafe {
+                    read_signed(order, big_endian, words, len, place, end, count, &raw mut answer)
+                };
+                Refusal::check(status).map(|()| answer)
+            }
+
+            #[inline]
+            fn read_unary(
+                order: u8,
+                memory: &[Self],
+                place: &mut usize,
+                end: usize,
+                bit: bool,
+            ) -> Result<usize, Refusal> {
+                unsafe extern "C" {
+                    #[link_name = concat!("bitvec_c_read_unary_", stringify!($w))]
+                    fn read_unary(
+                        order: u8,
+                        memory: *const $w,
+                        words: usize,
+                        place: *mut usize,
+                        end: usize,
+                        bit: bool,
+                        count: *mut usize,
+                    ) -> u8;
+                }
+                let (words, len) = (memory.as_ptr().cast(), memory.len());
+                let mut answer = 0;
+                // SAFETY: one slice, a place that is borrowed mutably, and a variable of this
+                // call for the answer.
+                let status = unsafe {
+                    read_unary(order, words, len, place, end, bit, &raw mut answer)
+                };
+                Refusal::check(status).map(|()| answer)
+            }
+
+            #[inline]
+            fn read_exp_golomb(
+                order: u8,
+                memory: &[Self],
+                place: &mut usize,
+                end: usize,
+            ) -> Result<u64, Refusal> {
+                unsafe extern "C" {
+                    #[link_name = concat!("bitvec_c_read_exp_golomb_", stringify!($w))]
+                    fn read_exp_golomb(
+                        order: u8,
+                        memory: *const $w,
+                        words: usize,
+                        place: *mut usize,
+                        end: usize,
+                        number: *mut u64,
+                    ) -> u8;
+                }
+                let (words, len) = (memory.as_ptr().cast(), memory.len());
+                let mut answer = 0;
+                // SAFETY: one slice, a place that is borrowed mutably, and a variable of this
+                // call for the answer.
+                let status = unsafe {
+                    read_exp_golomb(order, words, len, place, end, &raw mut answer)
+                };
+                Refusal::check(status).map(|()| answer)
+            }
+
+            #[inline]
+            fn read_signed_exp_golomb(
+                order: u8,
+                memory: &[Self],
+                place: &mut usize,
+                end: usize,
+            ) -> Result<i64, Refusal> {
+                unsafe extern "C" {
+                    #[link_name = concat!("bitvec_c_read_signed_exp_golomb_", stringify!($w))]
+                    fn read_signed_exp_golomb(
+                        order: u8,
+                        memory: *const $w,
+                        words: usize,
+                        place: *mut usize,
+                        end: usize,
+                        number: *mut i64,
+                    ) -> u8;
+                }
+                let (words, len) = (memory.as_ptr().cast(), memory.len());
+                let mut answer = 0;
+                // SAFETY: one slice, a place that is borrowed mutably, and a variable of this
+                // call for the answer.
+                let status = unsafe {
+                    read_signed_exp_golomb(order, words, len, place, end, &raw mut answer)
+                };
+                Refusal::check(status).map(|()| answer)
             }
 
             #[inline]

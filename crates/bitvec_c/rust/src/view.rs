@@ -18,6 +18,9 @@ use core::slice;
 /// let mut word = 0_u32;
 /// word.view_bits_mut::<Lsb0>().set(9, true)?;
 /// assert_eq!(word, 0x200);
+/// let mut seats = [0_usize; 2];
+/// seats.view_bits_mut::<Lsb0>().set(64, true)?;
+/// assert_eq!(seats, [0, 1]);
 /// # Ok::<(), worghulen::Refusal>(())
 /// ```
 pub trait BitView {

@@ -38,7 +38,8 @@ macro_rules! for_all_widths {
 
 for_all_widths!(
     an_order_is_0_or_1 ranges_are_short_enough ranges_lie_in_their_memory numbers_are_narrow_enough
-    conditions_come_in_order runs_have_lawful_spans runs_have_room_and_commands
+    conditions_come_in_order streams_are_ranges streams_have_bits_and_digits
+    runs_have_lawful_spans runs_have_room_and_commands
 );
 
 mod cases {
@@ -174,6 +175,73 @@ mod cases {
         );
         assert_eq!(of_number::<T>(0, usize::MAX, 65), Err(Refusal::Outside));
         assert_eq!(of_bit::<T>(2, usize::MAX), Err(Refusal::NoOrder));
+    }
+
+    /// What the calls on a stream answer, each before no bits, and that none moves where it refuses.
+    fn of_stream<T: Word>(order: u8, place: usize, end: usize) -> Result<(), Refusal> {
+        let (memory, mut to) = ([T::ZERO; 3], place);
+        let answer = T::read(order, false, &memory, &mut to, end, 0).map(|_| ());
+        let others = [
+            T::read(order, true, &memory, &mut to, end, 0).map(|_| ()),
+            T::read_signed(order, true, &memory, &mut to, end, 0).map(|_| ()),
+        ];
+        assert_eq!(others, [answer; 2]);
+        let some = if answer.is_ok() && place == end {
+            Err(Refusal::TooFew)
+        } else {
+            answer
+        };
+        if some.is_err() {
+            let others = [
+                T::read_unary(order, &memory, &mut to, end, true).map(|_| ()),
+                T::read_exp_golomb(order, &memory, &mut to, end).map(|_| ()),
+                T::read_signed_exp_golomb(order, &memory, &mut to, end).map(|_| ()),
+            ];
+            assert_eq!(others, [some; 3]);
+        }
+        assert_eq!(to, place);
+        answer
+    }
+
+    pub fn streams_are_ranges<T: Word>() {
+        let bits = 3 * T::WIDTH;
+        for place in 0..=bits {
+            assert_eq!(of_stream::<T>(1, place, bits), Ok(()));
+            assert_eq!(of_stream::<T>(0, place, place), Ok(()));
+            assert_eq!(of_stream::<T>(2, place, bits), Err(Refusal::NoOrder));
+            assert_eq!(of_stream::<T>(0, place, bits + 1), Err(Refusal::Outside));
+            assert_eq!(of_stream::<T>(1, place + 1, place), Err(Refusal::Outside));
+        }
+        for far in [bits + 1, MOST, usize::MAX - 1, usize::MAX] {
+            assert_eq!(of_stream::<T>(0, far, far), Err(Refusal::Outside));
+            assert_eq!(of_stream::<T>(1, far, 0), Err(Refusal::Outside));
+            assert_eq!(of_stream::<T>(1, far, bits), Err(Refusal::Outside));
+        }
+        assert_eq!(of_stream::<T>(0, 0, MOST), Err(Refusal::Outside));
+        assert_eq!(of_stream::<T>(0, 0, MOST + 1), Err(Refusal::TooLong));
+        assert_eq!(of_stream::<T>(2, 0, usize::MAX), Err(Refusal::NoOrder));
+    }
+
+    pub fn streams_have_bits_and_digits<T: Word>() {
+        let (memory, bits) = ([T::ZERO; 9], 9 * T::WIDTH);
+        let (few, wide) = (Err(Refusal::TooFew), Err(Refusal::TooWide));
+        for (place, count) in [(5, 65), (bits, usize::MAX)] {
+            let mut to = place;
+            assert_eq!(T::read(0, true, &memory, &mut to, bits, count), wide);
+            let signed = T::read_signed(1, false, &memory, &mut to, bits, count);
+            assert_eq!(signed, Err(Refusal::TooWide));
+            assert_eq!(to, place);
+        }
+        let mut to = 7;
+        assert_eq!(T::read(1, true, &memory, &mut to, 10, 4), few);
+        assert_eq!(T::read_exp_golomb(0, &memory, &mut to, 11), few);
+        let run = T::read_unary(1, &memory, &mut to, 11, false);
+        assert_eq!(run, Err(Refusal::TooFew));
+        assert_eq!(to, 7);
+        assert_eq!(T::read(1, true, &memory, &mut to, 11, 4), Ok(0));
+        assert_eq!(to, 11);
+        assert_eq!(T::read_unary(1, &memory, &mut to, 12, true), Ok(0));
+        assert_eq!(to, 12);
     }
 
     pub fn runs_have_lawful_spans<T: Word>() {

@@ -1,0 +1,30 @@
+//! The library's readers of the bits between two places.
+
+ghost use Rattle.std.specs.Prelude.{◌≡◌, ◌+◌, ◌-◌, ◌*◌, ◌≤◌, length, map};
+ghost use Rattle.bitvec.specs.Place.{region_max_bits};
+ghost use Rattle.bitvec_slice.specs.BitSlice.{slice_len};
+ghost use Rattle.bitvec_stream.specs.Reader.{source, bits_read, rest};
+ghost use Rattle.bitvec_c.specs.Stream.{bits_between};
+
+use crate::range::bits;
+use bitvec::mem::BitRegister;
+use bitvec::order::BitOrder;
+use bitvec_stream::reader::BitReader;
+
+/// A reader of the bits from a place to before an end.
+pub(crate) fn reader_between<R: BitRegister, O: BitOrder<R>>(
+    memory: &[R],
+    place: usize,
+    end: usize,
+) -> BitReader<'_, R, O>
+    requires short { end - place ≤ region_max_bits }
+    requires rises { place ≤ end }
+    requires inside { place + (end - place) ≤ length memory.now * R.BITS }
+    ensures position { bits_read result ≡ 0 }
+    ensures rest { rest result
+        ≡ bits_between R.BITS O.at_of place end (map R.number memory.now) }
+    ensures len { length (rest result) ≡ end - place }
+    ensures source { slice_len (source result) ≡ end - place }
+{
+    BitReader::new(bits::<R, O>(memory, place, end - place))
+}
