@@ -34,14 +34,11 @@ all_one bits n p e small = ap (λ m. digit m p) e ∙ digit_all bits p small
 pub number_at : {W : Type 0} (number : W → ℕ) (words : List W) (k : ℕ) (none : W) → k < length words → number (get_or words k none) ≡ slice_index (map number words) k
 number_at number words k none inside = sym (get_or-map number words k none 0 inside)
 
--- one word more has the digits
-pub one_more_word : (bits number : ℕ) (words : List ℕ) (from at : ℕ) → HaveDigits bits number words from at → ((p : ℕ) → p < bits → digit (slice_index words at) p ≡ digit number p)
-    → HaveDigits bits number words from (at + 1)
-one_more_word bits number words from at before here w p low high small =
-    elim (cases_eq w at) [
-      | inl e ↦ rw e (here p small)
-      | inr differ ↦ before w p low (omega arith) small
-    ]
+-- one word has the digits
+pub word_alone : (bits number : ℕ) (words : List ℕ) (at upto : ℕ) → upto ≡ at + 1 → ((p : ℕ) → p < bits → digit (slice_index words at) p ≡ digit number p)
+    → HaveDigits bits number words at upto
+word_alone bits number words at upto e here w p low high small =
+    let same : w ≡ at = omega (arith, e) in rw same (here p small)
 
 -- an index from the start of a word on, and before that of another, is of a word between them
 between_words : (bits n k r : ℕ) → 0 < bits → k * bits ≤ n → n < r * bits → (k ≤ n / bits) × (n / bits < r)
@@ -140,15 +137,6 @@ passed_bounds bits span index from upto k r is start low high inside =
       end = omega (arith, below, start, is);
       inside = omega (arith, above, parts, inside, is);
     }
-
--- one word more, before those that have the digits
-pub one_word_before : (bits number : ℕ) (words : List ℕ) (at upto : ℕ) → HaveDigits bits number words at upto → (w : ℕ) → w + 1 ≡ at → ((p : ℕ) → p < bits → digit (slice_index words w) p ≡ digit number p)
-    → HaveDigits bits number words w upto
-one_word_before bits number words at upto behind v e here w p low high small =
-    elim (cases_eq w v) [
-      | inl same ↦ rw same (here p small)
-      | inr differ ↦ behind w p (omega arith) high small
-    ]
 
 -- a whole word that begins no later than a number of places is one of the words up to another that ends there
 pub ends_behind : (bits n r : ℕ) → 0 < bits → n ≤ r * bits → (n + (bits - 1)) / bits ≤ r

@@ -377,3 +377,15 @@ fn a_number_stored_under_any_order(rt: HostRuntime) {
     slice.store_digits_le(2, 6, 13u32);
     assert_eq!(rt; memory, [0x2C]);
 }
+
+#[test]
+fn a_whole_word(rt: HostRuntime) {
+    let mut memory = [0x00u8, 0x00, 0x00];
+    let span: BitSpan<u8, Lsb0> = BitSpan::at_unchecked(4, 16);
+    let mut slice = BitSliceMut::new_unchecked(span, &mut memory);
+    assert!(rt; !slice.has_word(0));
+    assert!(rt; slice.has_word(1));
+    slice.set_whole_word(1, 0xA5);
+    assert_eq!(rt; slice.whole_word(1), 0xA5);
+    assert_eq!(rt; memory, [0x00, 0xA5, 0x00]);
+}

@@ -30,3 +30,5 @@ mod texts;
 mod traits;
 #[cfg(test)]
 mod two_sets;
+#[cfg(test)]
+mod words;

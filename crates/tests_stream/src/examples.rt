@@ -1,7 +1,6 @@
 //! The examples in the documents of streams.
 
 use bitvec::order::{Lsb0, Msb0};
-use bitvec::ptr::span::BitSpan;
 use bitvec_slice::slice::{BitSlice, BitSliceMut};
 use bitvec_stream::error::{ReadError, WriteError};
 use bitvec_stream::reader::BitReader;
@@ -164,16 +163,4 @@ fn golomb_codes_written(rt: HostRuntime) {
     assert_eq!(rt; writer.write_exp_golomb(3u8), Err(WriteError::NoRoom));
     drop(writer);
     assert_eq!(rt; memory, [0xA6, 0x40]);
-}
-
-#[test]
-fn a_whole_word(rt: HostRuntime) {
-    let mut memory = [0x00u8, 0x00, 0x00];
-    let span: BitSpan<u8, Lsb0> = BitSpan::at_unchecked(4, 16);
-    let mut slice = BitSliceMut::new_unchecked(span, &mut memory);
-    assert!(rt; !slice.has_word(0));
-    assert!(rt; slice.has_word(1));
-    slice.set_whole_word(1, 0xA5);
-    assert_eq!(rt; slice.whole_word(1), 0xA5);
-    assert_eq!(rt; memory, [0x00, 0xA5, 0x00]);
 }

@@ -71,11 +71,52 @@ impl<'a, R: BitRegister, O: BitOrder<R>> BitSlice<'a, R, O> {
         self.len() - self.count_ones()
     }
 
-    // The index of the first bit in its word.
-    pub(super) fn head(&self) -> usize
-        ensures { result ≡ (slice_span self.now).head }
+    // Whether word `k`, counted from the slice's first word, has the digits of `lacking`.
+    #[inline(always)]
+    fn has_digits(&self, k: usize, lacking: R) -> bool
+        requires met { k < words_met R.BITS (slice_span self.now).head (slice_span self.now).len }
+        requires below { R.number lacking < 2 ^ R.BITS }
+        ensures { result ≡ true → HaveDigits R.BITS (R.number lacking)
+            (map R.number (slice_memory self.now)) (nat_abs (slice_span self.now).word + k)
+            (nat_abs (slice_span self.now).word + (k + 1)) }
     {
-        usize::from(self.span.head().into_inner())
+        self.memory[self.span.address() as usize + k].or(R::ZERO) == lacking
+    }
+
+    // The same of four words from word `k` on. All four are looked at, so that LLVM compares them
+    // side by side.
+    #[inline(always)]
+    fn four_have_digits(&self, k: usize, lacking: R) -> bool
+        requires met { k + 4 ≤ words_met R.BITS (slice_span self.now).head
+            (slice_span self.now).len }
+        requires below { R.number lacking < 2 ^ R.BITS }
+        ensures { result ≡ true → HaveDigits R.BITS (R.number lacking)
+            (map R.number (slice_memory self.now)) (nat_abs (slice_span self.now).word + k)
+            (nat_abs (slice_span self.now).word + (k + 4)) }
+    {
+        let first = self.has_digits(k, lacking) & self.has_digits(k + 1, lacking);
+        first & self.has_digits(k + 2, lacking) & self.has_digits(k + 3, lacking)
+    }
+
+    // The number of a word from word `k` to word `end`, counted from the slice's first word, from
+    // word `k` to before which all have the digits of `lacking`: it passes eight words a step.
+    fn pass_eights(&self, k: usize, end: usize, lacking: R) -> usize
+        requires ordered { k ≤ end }
+        requires met { end
+            ≤ words_met R.BITS (slice_span self.now).head (slice_span self.now).len }
+        requires below { R.number lacking < 2 ^ R.BITS }
+        ensures start { k ≤ result }
+        ensures end { result ≤ end }
+        ensures words { HaveDigits R.BITS (R.number lacking) (map R.number (slice_memory self.now))
+            (nat_abs (slice_span self.now).word + k) (nat_abs (slice_span self.now).word + result) }
+    {
+        let mut at = k;
+        while end - at >= 8
+            && self.four_have_digits(at, lacking) & self.four_have_digits(at + 4, lacking)
+        {
+            at += 8;
+        }
+        at
     }
 
     // The number of the first word from word `k` on that has not the digits of `lacking`, counted
@@ -90,9 +131,8 @@ impl<'a, R: BitRegister, O: BitOrder<R>> BitSlice<'a, R, O> {
         ensures words { HaveDigits R.BITS (R.number lacking) (map R.number (slice_memory self.now))
             (nat_abs (slice_span self.now).word + k) (nat_abs (slice_span self.now).word + result) }
     {
-        let first = self.span.address() as usize;
-        let mut at = k;
-        while at < end && self.memory[first + at].or(R::ZERO) == lacking {
+        let mut at = self.pass_eights(k, end, lacking);
+        while at < end && self.has_digits(at, lacking) {
             at += 1;
         }
         at
@@ -111,9 +151,8 @@ impl<'a, R: BitRegister, O: BitOrder<R>> BitSlice<'a, R, O> {
             (nat_abs (slice_span self.now).word + result)
             (nat_abs (slice_span self.now).word + end) }
     {
-        let first = self.span.address() as usize;
         let mut at = end;
-        while start < at && self.memory[first + (at - 1)].or(R::ZERO) == lacking {
+        while start < at && self.has_digits(at - 1, lacking) {
             at -= 1;
         }
         at
