@@ -124,7 +124,7 @@ impl<'a, R: BitRegister, O: BitOrder<R>> BitReader<'a, R, O> {
         if 0 < count && count <= self.kept {
             self.pass_kept(count);
         } else {
-            *self = Self::at(self.slice, self.position() + count);
+            *self = Self::behind(self.slice, self.position() + count);
         }
     }
 

@@ -30,6 +30,25 @@ fn far_be<R: BitRegister, O: BitOrder<R>, N: BitRegister>(
 impl<'a, R: BitRegister, O: BitOrder<R>> BitReader<'a, R, O> {
     ghost use Rattle.bitvec_stream.specs.Reader.{rest, Passes};
 
+    // What `read_be` does where the bits are neither kept nor those of one more word. It is a function
+    // of its own so that what it makes room for costs the others nothing.
+    #[inline(always)]
+    fn read_far<N: BitRegister>(&mut self, count: usize) -> Result<N, ReadError>
+        requires { count ≤ N.BITS }
+        ensures accepted { IsOk result ↔ (count ≤ length (rest self.old)) }
+        ensures number { IfOk result (λ value. N.number value
+            ≡ number_be (take count (rest self.old))) }
+        ensures moved { MatchResult result (λ _. Passes self.old self.new count)
+            (λ error. (error ≡ ReadError.TooFew) × (self.new ≡ self.old)) }
+    {
+        if self.remaining() < count {
+            return Err(ReadError::TooFew);
+        }
+        let value = far_be(Self::at(self.slice, self.position()), count);
+        self.pass(count);
+        Ok(value)
+    }
+
     /// The number of the next `count` bits, the first the highest digit. No bits are 0. It refuses
     /// with `TooFew` exactly where fewer are left.
     ///
@@ -56,12 +75,7 @@ impl<'a, R: BitRegister, O: BitOrder<R>> BitReader<'a, R, O> {
                 return Ok(value);
             }
         }
-        if self.remaining() < count {
-            return Err(ReadError::TooFew);
-        }
-        let value = far_be(Self::at(self.slice, self.position()), count);
-        self.pass(count);
-        Ok(value)
+        self.read_far(count)
     }
 
     /// The number of the next `count` bits, the first the lowest digit. No bits are 0. It refuses

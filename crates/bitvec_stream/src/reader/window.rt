@@ -3,15 +3,18 @@
 
 ghost use Rattle.std.specs.Prelude.{◌≡◌, ⊤, ℕ, ◌+◌, ◌-◌, ◌<◌, ◌≤◌, Bool, List, MatchOption, length};
 ghost use Rattle.std.specs.Prelude.{take, drop};
+ghost use Rattle.bitvec.specs.Order.{Falls};
 ghost use Rattle.bitvec_slice.specs.BitSlice.{slice_len, bits_of};
 ghost use Rattle.bitvec_stream.specs.Golomb.{BeginsWithCode};
 ghost use Rattle.bitvec_stream.specs.Numbers.{number_be};
+ghost use Rattle.bitvec_stream.specs.Reader.{source, bits_read};
 ghost use Rattle.bitvec_stream.specs.Window.{IsWindow};
 
 use crate::reader::BitReader;
 use bitvec::mem;
 use bitvec::mem::BitRegister;
 use bitvec::order::{BitOrder, Direction, direction_of};
+use bitvec_slice::slice::BitSlice;
 
 // The number of a word's first `count` digits, from the highest down.
 #[inline(always)]
@@ -45,8 +48,50 @@ fn code_in<R: BitRegister>(word: R, kept: usize) -> Option<(usize, R)>
     Some((2 * zeros + 1, digits))
 }
 
+// A reader behind so many bits of a slice, which keeps the bits that are left of the word there,
+// where the slice has it whole.
+#[cold]
+#[inline(never)]
+fn filled<R: BitRegister, O: BitOrder<R>>(
+    slice: BitSlice<'_, R, O>,
+    position: usize,
+) -> BitReader<'_, R, O>
+    requires falls { Falls R.BITS O.at_of }
+    requires inside { position ≤ slice_len slice }
+    ensures source { source result ≡ slice.entry }
+    ensures position { bits_read result ≡ position }
+{
+    let width = mem::bits_of::<R>();
+    let place = slice.head() + position;
+    let (word, passed) = (place / width, place % width);
+    if passed == 0 || !slice.has_word(word) {
+        return BitReader::at(slice, position);
+    }
+    let kept = width - passed;
+    BitReader {
+        slice,
+        loaded: position + kept,
+        kept,
+        window: slice.whole_word(word).shl(passed as u8),
+    }
+}
+
 impl<'a, R: BitRegister, O: BitOrder<R>> BitReader<'a, R, O> {
     ghost use Rattle.bitvec_stream.specs.Reader.{rest, Passes};
+
+    // A reader behind so many bits of a slice. Where the first bit of a word is its highest digit,
+    // it keeps what is left of the word there.
+    #[inline(always)]
+    pub(super) fn behind(slice: BitSlice<'a, R, O>, position: usize) -> Self
+        requires { position ≤ slice_len slice }
+        ensures source { source result ≡ slice.entry }
+        ensures position { bits_read result ≡ position }
+    {
+        match direction_of::<R, O>() {
+            Direction::Falls => filled(slice, position),
+            Direction::Rises | Direction::Other => Self::at(slice, position),
+        }
+    }
 
     // Passes over so many of the bits that are kept.
     #[inline(always)]
@@ -62,8 +107,8 @@ impl<'a, R: BitRegister, O: BitOrder<R>> BitReader<'a, R, O> {
         };
     }
 
-    // As many bits behind those that are kept as a word has, where there are as many and they go by
-    // words.
+    // The word behind the bits that are kept, where the slice has it whole and its first bit is the
+    // highest digit.
     #[inline(always)]
     pub(super) fn chunk(&self) -> Option<R>
         ensures { MatchOption result ⊤ (λ chunk. (self.now.loaded + R.BITS ≤ slice_len self.now.slice)
@@ -76,7 +121,11 @@ impl<'a, R: BitRegister, O: BitOrder<R>> BitReader<'a, R, O> {
         if direction_of::<R, O>() != Direction::Falls {
             return None;
         }
-        Some(self.slice.load_digits_be(self.loaded, self.loaded + width))
+        let place = self.slice.head() + self.loaded;
+        if place % width != 0 {
+            return None;
+        }
+        Some(self.slice.whole_word(place / width))
     }
 
     // The bits that are kept, and those of a chunk behind them, as many as a word has.

@@ -4,5 +4,5 @@ use Rattle.bitvec_stream.proofs.reader.BitReader.pass.Goals as goal
 pub overflow_add-position : goal.overflow_add-position
 overflow_add-position g c = omega (arith, c.requires, c.position.ensures.rest, c.args.self.now.slice.span.short)
 
-pub at-requires : goal.at-requires
-at-requires g c = omega (arith, c.requires, c.position.ensures.rest)
+pub behind-requires : goal.behind-requires
+behind-requires g c = omega (arith, c.requires, c.position.ensures.rest)
