@@ -1032,10 +1032,12 @@ QUESTION(first_difference_u64_with_u16, uint64_t, uint16_t, XOR, false)
 QUESTION(first_difference_u64_with_u32, uint64_t, uint32_t, XOR, false)
 QUESTION(first_difference_u64_with_u64, uint64_t, uint64_t, XOR, false)
 
-/* A stream: its place and its end, which mostly lie in a memory, and what may be asked of it. */
+/* A stream: its place and its end, which mostly lie in a memory, and what may be asked of it, or
+ * written to it. */
 struct stream {
     size_t place, end, count;
     bool big, bit;
+    uint64_t number;
 };
 
 static uint64_t lowest_digits(size_t count) {
@@ -1052,7 +1054,7 @@ static uint64_t of_digits(uint64_t number, size_t count, bool is_signed) {
 
 static struct stream any_stream(size_t bits) {
     struct range range = any_range(bits);
-    struct stream stream = {range.start, range.start + range.count, 0, one_in(2), one_in(2)};
+    struct stream stream = {range.start, range.start + range.count, 0, one_in(2), one_in(2), 0};
     if (one_in(16))
         stream.end = mostly(bits);
     stream.count = mostly(range.count < 64 ? range.count : 64);
@@ -1190,6 +1192,115 @@ STREAMS(u16, uint16_t)
 STREAMS(u32, uint32_t)
 STREAMS(u64, uint64_t)
 
+/* A number that often has that many digits, or one more, as a two's complement where `is_signed`,
+ * and sometimes is the least or the greatest of these. */
+static uint64_t any_number(size_t count, bool is_signed) {
+    size_t digits = count < 64 && one_in(2) ? count + below(2) : below(65);
+    uint64_t top = digits == 0 ? 0 : UINT64_C(1) << (digits - 1);
+    switch (below(8)) {
+    case 0:
+        return of_digits(top, digits, is_signed);
+    case 1:
+        return of_digits(top - 1, digits, is_signed);
+    case 2:
+        return of_digits(UINT64_MAX, digits, is_signed);
+    default:
+        return of_digits(any(), digits, is_signed);
+    }
+}
+
+/* Any stream, with a number to be written; the count is sometimes one that only a run may have. */
+static struct stream any_target(size_t bits, bool is_signed) {
+    struct stream stream = any_stream(bits);
+    stream.number = any_number(stream.count, is_signed);
+    if (one_in(4) && stream.place < stream.end)
+        stream.count = mostly(stream.end - stream.place);
+    return stream;
+}
+
+/* These answer as a call that writes does, and write to the model. */
+static struct taken model_write(unsigned width, uint8_t order, struct stream stream,
+                                bool is_signed) {
+    if (stream.count > 64)
+        return refused(BITVEC_TOO_WIDE);
+    if (stream.count > stream.end - stream.place)
+        return refused(BITVEC_TOO_FEW);
+    if (stream.number != of_digits(stream.number, stream.count, is_signed))
+        return refused(BITVEC_TOO_LARGE);
+    for (size_t i = 0; i < stream.count; i++)
+        put_bit(model, width, order, place_of_digit(stream, i), stream.number >> i & 1);
+    return (struct taken){BITVEC_OK, stream.count, 0};
+}
+
+static struct taken model_write_unary(unsigned width, uint8_t order, struct stream stream) {
+    if (stream.count >= stream.end - stream.place)
+        return refused(BITVEC_TOO_FEW);
+    for (size_t i = 0; i <= stream.count; i++)
+        put_bit(model, width, order, stream.place + i, stream.bit == (i < stream.count));
+    return (struct taken){BITVEC_OK, stream.count + 1, 0};
+}
+
+/* The digits of a code are those of one more than its number, of which there may be 65: `above`
+ * then has all but the first. */
+static struct taken model_write_code(unsigned width, uint8_t order, struct stream stream,
+                                     bool is_signed) {
+    uint64_t number = stream.number, above = number + 1;
+    bool more = above == 0;
+    if (is_signed) {
+        bool positive = number != 0 && number >> 63 == 0;
+        above = positive ? 2 * number : 2 * (0 - number) + 1;
+        more = number == UINT64_C(1) << 63;
+    }
+    size_t zeros = more ? 64 : 0;
+    while (zeros < 63 && above >> zeros > 1)
+        zeros++;
+    if (2 * zeros + 1 > stream.end - stream.place)
+        return refused(BITVEC_TOO_FEW);
+    for (size_t i = 0; i <= zeros; i++)
+        put_bit(model, width, order, stream.place + i, i == zeros);
+    for (size_t i = 0; i < zeros; i++)
+        put_bit(model, width, order, stream.place + 2 * zeros - i, above >> i & 1);
+    return (struct taken){BITVEC_OK, 2 * zeros + 1, 0};
+}
+
+/* An export that writes a number to a stream of words `T`. */
+#define STREAM_WRITE(C, W, T, IS_SIGNED, MODELLED, HEAD, ...)                                      \
+    static void C##_##W(uint8_t order, unsigned width) {                                           \
+        struct buffer memory = any_memory(MEMORY, width, model), at = take(PLACE, 8);              \
+        size_t words = memory.size / sizeof(T), place;                                             \
+        struct stream stream = any_target(words * width, IS_SIGNED);                               \
+        memcpy(at.at, &stream.place, 8);                                                           \
+        uint8_t status =                                                                           \
+            bitvec_c_##C##_##W(HEAD, (T *)(void *)memory.at, words, (size_t *)(void *)at.at,       \
+                               stream.end, __VA_ARGS__);                                           \
+        struct taken taken = refused(left_status(width, order, words, stream));                    \
+        if (taken.status == BITVEC_OK)                                                             \
+            taken = MODELLED;                                                                      \
+        same_status(status, taken.status);                                                         \
+        memcpy(&place, at.at, 8);                                                                  \
+        if (place != stream.place + taken.count)                                                   \
+            wrong("the place");                                                                    \
+        same_bytes(memory, model);                                                                 \
+    }
+
+#define STREAM_WRITES(W, T)                                                                        \
+    STREAM_WRITE(write, W, T, false, model_write(width, order, stream, false), BIG_HEAD,           \
+                 stream.count, stream.number)                                                      \
+    STREAM_WRITE(write_signed, W, T, true, model_write(width, order, stream, true), BIG_HEAD,      \
+                 stream.count, (int64_t)stream.number)                                             \
+    STREAM_WRITE(write_unary, W, T, false, model_write_unary(width, order, stream), PLAIN_HEAD,    \
+                 stream.bit, stream.count)                                                         \
+    STREAM_WRITE(write_exp_golomb, W, T, false, model_write_code(width, order, stream, false),     \
+                 PLAIN_HEAD, stream.number)                                                        \
+    STREAM_WRITE(write_signed_exp_golomb, W, T, true,                                              \
+                 model_write_code(width, order, stream, true), PLAIN_HEAD,                         \
+                 (int64_t)stream.number)
+
+STREAM_WRITES(u8, uint8_t)
+STREAM_WRITES(u16, uint16_t)
+STREAM_WRITES(u32, uint32_t)
+STREAM_WRITES(u64, uint64_t)
+
 struct export {
     const char *name;
     void (*call)(uint8_t order, unsigned width);
@@ -1215,7 +1326,9 @@ static struct export exports[] = {
     EXPORTS_OF(previous), EXPORTS_OF(find_zeros_from), EXPORTS_OF(replace), EXPORTS_OF(swap),
     EXPORTS_OF(load_signed), EXPORTS_OF(store_signed), EXPORTS_OF(can_run_in),
     EXPORTS_OF(run_in), EXPORTS_OF(read), EXPORTS_OF(read_signed), EXPORTS_OF(read_unary),
-    EXPORTS_OF(read_exp_golomb), EXPORTS_OF(read_signed_exp_golomb),
+    EXPORTS_OF(read_exp_golomb), EXPORTS_OF(read_signed_exp_golomb), EXPORTS_OF(write),
+    EXPORTS_OF(write_signed), EXPORTS_OF(write_unary), EXPORTS_OF(write_exp_golomb),
+    EXPORTS_OF(write_signed_exp_golomb),
     EXPORT(first_difference_u8_with_u8, 8),
     EXPORT(first_difference_u8_with_u16, 8),
     EXPORT(first_difference_u8_with_u32, 8),

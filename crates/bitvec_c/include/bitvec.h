@@ -43,7 +43,7 @@
 
 /* The version of this header: 10000 times its first part, 100 times its second, and its third. The
  * archive is of the same release where bitvec_c_version() returns it too. */
-#define BITVEC_VERSION 400
+#define BITVEC_VERSION 500
 
 /* Before a call whose status a caller may not ignore. */
 #if defined(__GNUC__)
@@ -90,9 +90,10 @@ enum bitvec_status {
     BITVEC_NO_ROOM = 7,        /* a run has not as many replies as requests, or room for the numbers
                                   of its spans */
     BITVEC_NO_COMMAND = 8,     /* the command of a request is none of those below */
-    BITVEC_TOO_FEW = 9,        /* fewer bits are left of a stream than are to be read, or they end
-                                  before a run or a code does */
-    BITVEC_TOO_LARGE = 10      /* the number of a code has more digits than what it is read to */
+    BITVEC_TOO_FEW = 9,        /* fewer bits are left of a stream than are to be read or written, or
+                                  they end before a run or a code does */
+    BITVEC_TOO_LARGE = 10      /* the number of a code has more digits than what it is read to, or
+                                  a number more than the bits that it is to be written in */
 };
 
 /* How many spans a run has at most. */
@@ -833,6 +834,88 @@ BITVEC_CHECKED uint8_t bitvec_c_read_signed_exp_golomb_u32(
 BITVEC_CHECKED uint8_t bitvec_c_read_signed_exp_golomb_u64(
     uint8_t order, const uint64_t *memory, size_t words, size_t *place, size_t end,
     int64_t *number) BITVEC_NONNULL(4) BITVEC_NONNULL(6);
+
+/* The calls from here to bitvec_c_write_signed_exp_golomb_W write numbers one behind the other, so
+ * that the calls above read them back: each writes bits from `*place` on, of those that end before
+ * `end`, moves `*place` behind them, and changes no other bit. BITVEC_OUTSIDE: as above.
+ * BITVEC_TOO_FEW: fewer bits are left than it writes. */
+
+/* Makes the next `count` bits the digits of a number: the first becomes its lowest digit or, where
+ * `big_endian`, the highest, whatever the order and the width are. BITVEC_TOO_WIDE: `count` is past
+ * 64. BITVEC_TOO_LARGE: the number is not below 2^count, where bitvec_c_store_W drops its highest
+ * digits. Costs by words. */
+BITVEC_CHECKED uint8_t bitvec_c_write_u8(
+    uint8_t order, bool big_endian, uint8_t *memory, size_t words, size_t *place, size_t end,
+    size_t count, uint64_t number) BITVEC_NONNULL(5);
+BITVEC_CHECKED uint8_t bitvec_c_write_u16(
+    uint8_t order, bool big_endian, uint16_t *memory, size_t words, size_t *place, size_t end,
+    size_t count, uint64_t number) BITVEC_NONNULL(5);
+BITVEC_CHECKED uint8_t bitvec_c_write_u32(
+    uint8_t order, bool big_endian, uint32_t *memory, size_t words, size_t *place, size_t end,
+    size_t count, uint64_t number) BITVEC_NONNULL(5);
+BITVEC_CHECKED uint8_t bitvec_c_write_u64(
+    uint8_t order, bool big_endian, uint64_t *memory, size_t words, size_t *place, size_t end,
+    size_t count, uint64_t number) BITVEC_NONNULL(5);
+
+/* Makes them the digits of a signed number's two's complement. BITVEC_TOO_WIDE: as above.
+ * BITVEC_TOO_LARGE: the number is below -2^(count - 1) or not below 2^(count - 1), or for no bits
+ * not 0. Costs by words. */
+BITVEC_CHECKED uint8_t bitvec_c_write_signed_u8(
+    uint8_t order, bool big_endian, uint8_t *memory, size_t words, size_t *place, size_t end,
+    size_t count, int64_t number) BITVEC_NONNULL(5);
+BITVEC_CHECKED uint8_t bitvec_c_write_signed_u16(
+    uint8_t order, bool big_endian, uint16_t *memory, size_t words, size_t *place, size_t end,
+    size_t count, int64_t number) BITVEC_NONNULL(5);
+BITVEC_CHECKED uint8_t bitvec_c_write_signed_u32(
+    uint8_t order, bool big_endian, uint32_t *memory, size_t words, size_t *place, size_t end,
+    size_t count, int64_t number) BITVEC_NONNULL(5);
+BITVEC_CHECKED uint8_t bitvec_c_write_signed_u64(
+    uint8_t order, bool big_endian, uint64_t *memory, size_t words, size_t *place, size_t end,
+    size_t count, int64_t number) BITVEC_NONNULL(5);
+
+/* Makes the next `count` bits the same as `bit`, and the one behind them the other. BITVEC_TOO_FEW:
+ * no more than `count` bits are left. Costs by words. */
+BITVEC_CHECKED uint8_t bitvec_c_write_unary_u8(
+    uint8_t order, uint8_t *memory, size_t words, size_t *place, size_t end, bool bit,
+    size_t count) BITVEC_NONNULL(4);
+BITVEC_CHECKED uint8_t bitvec_c_write_unary_u16(
+    uint8_t order, uint16_t *memory, size_t words, size_t *place, size_t end, bool bit,
+    size_t count) BITVEC_NONNULL(4);
+BITVEC_CHECKED uint8_t bitvec_c_write_unary_u32(
+    uint8_t order, uint32_t *memory, size_t words, size_t *place, size_t end, bool bit,
+    size_t count) BITVEC_NONNULL(4);
+BITVEC_CHECKED uint8_t bitvec_c_write_unary_u64(
+    uint8_t order, uint64_t *memory, size_t words, size_t *place, size_t end, bool bit,
+    size_t count) BITVEC_NONNULL(4);
+
+/* Writes the Exp-Golomb code of a number, as above: each number has one, of at most 129 bits. Costs
+ * by words. */
+BITVEC_CHECKED uint8_t bitvec_c_write_exp_golomb_u8(
+    uint8_t order, uint8_t *memory, size_t words, size_t *place, size_t end,
+    uint64_t number) BITVEC_NONNULL(4);
+BITVEC_CHECKED uint8_t bitvec_c_write_exp_golomb_u16(
+    uint8_t order, uint16_t *memory, size_t words, size_t *place, size_t end,
+    uint64_t number) BITVEC_NONNULL(4);
+BITVEC_CHECKED uint8_t bitvec_c_write_exp_golomb_u32(
+    uint8_t order, uint32_t *memory, size_t words, size_t *place, size_t end,
+    uint64_t number) BITVEC_NONNULL(4);
+BITVEC_CHECKED uint8_t bitvec_c_write_exp_golomb_u64(
+    uint8_t order, uint64_t *memory, size_t words, size_t *place, size_t end,
+    uint64_t number) BITVEC_NONNULL(4);
+
+/* Writes the code of a signed number, as above, of at most 129 bits too. Costs by words. */
+BITVEC_CHECKED uint8_t bitvec_c_write_signed_exp_golomb_u8(
+    uint8_t order, uint8_t *memory, size_t words, size_t *place, size_t end,
+    int64_t number) BITVEC_NONNULL(4);
+BITVEC_CHECKED uint8_t bitvec_c_write_signed_exp_golomb_u16(
+    uint8_t order, uint16_t *memory, size_t words, size_t *place, size_t end,
+    int64_t number) BITVEC_NONNULL(4);
+BITVEC_CHECKED uint8_t bitvec_c_write_signed_exp_golomb_u32(
+    uint8_t order, uint32_t *memory, size_t words, size_t *place, size_t end,
+    int64_t number) BITVEC_NONNULL(4);
+BITVEC_CHECKED uint8_t bitvec_c_write_signed_exp_golomb_u64(
+    uint8_t order, uint64_t *memory, size_t words, size_t *place, size_t end,
+    int64_t number) BITVEC_NONNULL(4);
 
 /* Tests the spans of a run for a memory of so many words: BITVEC_NO_ORDER, BITVEC_TOO_MANY_SPANS,
  * BITVEC_TOO_LONG, BITVEC_OUTSIDE, BITVEC_OVERLAP. It tests each with each, so costs at most 2016

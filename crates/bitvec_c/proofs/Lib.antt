@@ -7,3 +7,4 @@ mod RunLemmas
 mod SignedRangeLemmas
 mod SortedLemmas
 mod StreamLemmas
+mod WriteLemmas

@@ -1,15 +1,15 @@
--- Streams: numbers that stand one behind the other in the bits of a memory. A call reads one from a place on, and moves the
--- place behind it; the bits that are left lie between the place and an end.
-use Rattle.std.specs.Prelude.{◌≡◌, ◌≢◌, ℕ, ◌+◌, ◌-◌, ◌^◌, ◌<◌, ◌≤◌, ℤ, Bool, List, [], ◌∷◌, length, take, if◌then◌else◌}
+-- Streams: numbers that stand one behind the other in the bits of a memory. A call reads or writes one from a place on, and
+-- moves the place behind it; the bits that are left lie between the place and an end.
+use Rattle.std.specs.Prelude.{◌≡◌, ◌≢◌, ℕ, ◌+◌, ◌-◌, ◌^◌, ◌<◌, ◌≤◌, ℤ, Bool, not, List, [], ◌∷◌, ◌++◌, length, take, replicate, if◌then◌else◌}
 use Rattle.bitvec.specs.Truths.{AllAre}
 use Rattle.bitvec_slice.specs.Bits.{BeginsWith}
-use Rattle.bitvec_slice.specs.Signed.{signed_of, HasDigits}
+use Rattle.bitvec_slice.specs.Signed.{signed_of, complement_of, HasDigits}
 use Rattle.bitvec_stream.specs.Golomb.{golomb, signed_place, StartsWith}
-use Rattle.bitvec_stream.specs.Numbers.{number_le, number_be}
+use Rattle.bitvec_stream.specs.Numbers.{number_le, number_be, digits_le, digits_be}
 use Rattle.bitvec_stream.specs.declared.error.ReadError.{ReadError}
 use Rattle.bitvec_stream.specs.declared.error.ReadError.TheVariants.{TooFew, Unended, TooLarge}
 use Rattle.bitvec_c.specs.Call.{Part, order_of}
-use Rattle.bitvec_c.specs.Range.{range_bits}
+use Rattle.bitvec_c.specs.Range.{range_bits, RangeBecomes}
 use Rattle.bitvec_c.specs.RunStatus.{IsFirstFailed}
 use Rattle.bitvec_c.specs.Status.{ok, too_wide, too_few, too_large, left_status}
 
@@ -107,3 +107,42 @@ IsCodeRead it end place number_old number_new result = ReadsCode (status_of_left
 -- the same of a signed number's code
 abbrev pub IsSignedCodeRead : Part → ℕ → ℕ → ℤ → ℤ → ℕ → Type 0
 IsSignedCodeRead it end place number_old number_new result = ReadsSignedCode (status_of_left it end) (left_of it end) it.start place number_old number_new result
+
+-- the digits of a number, the first the highest, or else the lowest
+abbrev pub digits_by : Bool → ℕ → ℕ → List Bool
+digits_by big count number = if big then digits_be count number else digits_le count number
+
+-- the conditions of a number's `count` digits among so many bits
+abbrev pub written_conditions : ℕ → Type 0 → ℕ → List (Type 0 × ℕ)
+written_conditions count IsShort left = (count ≤ 64, too_wide) ∷ (count ≤ left, too_few) ∷ (IsShort, too_large) ∷ []
+
+-- What writes do of the bits of a memory from place `old` on: the first become those of a list, and every other bit of the
+-- memory stays.
+abbrev pub WritesBits : List (Type 0 × ℕ) → List Bool → ℕ → ℕ → (ℕ → ℕ) → ℕ → ℕ → List ℕ → List ℕ → ℕ → Type 0
+WritesBits conditions xs bits_status bits at old new memory_old memory_new result =
+    TakesBits bits_status conditions old new (length xs) (RangeBecomes bits at old (length xs) xs memory_old memory_new) (memory_new ≡ memory_old) result
+
+-- A call that writes a list from the start of a part on, before an end, and moves the start's place behind it.
+abbrev pub IsWrite : (List Bool → List (Type 0 × ℕ)) → List Bool → Part → Part → ℕ → ℕ → ℕ → Type 0
+IsWrite conditions xs old new end place result = WritesBits (conditions (left_of old end)) xs (status_of_left old end) old.bits (order_of old) old.start place old.memory new.memory result
+
+-- the same of the `count` digits of a number
+abbrev pub IsNumberWrite : Bool → Part → Part → ℕ → ℕ → ℕ → ℕ → ℕ → Type 0
+IsNumberWrite big old new end place count number result = IsWrite (λ left. written_conditions count (number < 2 ^ count) (length left)) (digits_by big count number) old new end place result
+
+-- the same of the two's complement of a signed number
+abbrev pub IsSignedWrite : Bool → Part → Part → ℕ → ℕ → ℕ → ℤ → ℕ → Type 0
+IsSignedWrite big old new end place count number result =
+    IsWrite (λ left. written_conditions count (HasDigits count number) (length left)) (digits_by big count (complement_of count number)) old new end place result
+
+-- the same of so many bits that are `bit`, and one that is not
+abbrev pub IsUnaryWrite : Bool → Part → Part → ℕ → ℕ → ℕ → ℕ → Type 0
+IsUnaryWrite bit old new end place count result = IsWrite (λ left. (count < length left, too_few) ∷ []) (replicate count bit ++ not bit ∷ []) old new end place result
+
+-- the same of a number's Exp-Golomb code
+abbrev pub IsCodeWrite : Part → Part → ℕ → ℕ → ℕ → ℕ → Type 0
+IsCodeWrite old new end place number result = IsWrite (λ left. (length (golomb number) ≤ length left, too_few) ∷ []) (golomb number) old new end place result
+
+-- the same of a signed number's code
+abbrev pub IsSignedCodeWrite : Part → Part → ℕ → ℕ → ℤ → ℕ → Type 0
+IsSignedCodeWrite old new end place number result = IsCodeWrite old new end place (signed_place number) result

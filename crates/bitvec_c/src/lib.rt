@@ -28,3 +28,5 @@ mod sorted;
 mod status;
 mod stream;
 mod version;
+mod write;
+mod write_code;

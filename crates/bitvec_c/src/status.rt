@@ -34,10 +34,12 @@ pub(crate) const NO_ROOM: u8 = 7;
 /// The code of a request's command is that of no command.
 pub(crate) const NO_COMMAND: u8 = 8;
 
-/// Fewer bits are left of a stream than are to be read, or they end before a run or a code does.
+/// Fewer bits are left of a stream than are to be read or written, or they end before a run or a
+/// code does.
 pub(crate) const TOO_FEW: u8 = 9;
 
-/// The number of a code has more digits than the answer of the call that reads it.
+/// The number of a code has more digits than the answer of the call that reads it, or a number has
+/// more than are to be written.
 pub(crate) const TOO_LARGE: u8 = 10;
 
 /// The code of the order from the least significant digit.

@@ -4,7 +4,7 @@ ghost use Rattle.std.specs.Prelude.{◌≡◌};
 ghost use Rattle.bitvec_c.specs.Version.{version};
 
 /// The number of the version: 10000 times its first part, 100 times its second, and its third.
-pub(crate) const VERSION: u32 = 400;
+pub(crate) const VERSION: u32 = 500;
 
 /// Answers the number of the archive's version, which a caller compares with that of the header.
 #[unsafe(no_mangle)]

@@ -29,6 +29,7 @@ mod sys;
 mod text;
 mod view;
 mod words;
+mod writer;
 
 pub use index::BitIndex;
 pub use iter::{Chunks, Iter, Ones, Zeros};
@@ -42,6 +43,7 @@ pub use slice_mut::{BitSliceMut, copy_bits};
 pub use stream::BitReader;
 pub use sys::Span;
 pub use view::BitView;
+pub use writer::BitWriter;
 
 /// The number of the version of the static library that this crate is written for: 10000 times its
 /// first part, 100 times its second, and its third.
@@ -51,7 +53,7 @@ pub use view::BitView;
 /// ```
 /// assert_eq!(worghulen::archive_version(), worghulen::VERSION);
 /// ```
-pub const VERSION: u32 = 400;
+pub const VERSION: u32 = 500;
 
 /// The number of the version of the static library that is linked, to be compared with [`VERSION`].
 /// Constant time.
@@ -59,7 +61,7 @@ pub const VERSION: u32 = 400;
 /// # Examples
 ///
 /// ```
-/// assert_eq!(worghulen::archive_version(), 400);
+/// assert_eq!(worghulen::archive_version(), 500);
 /// ```
 #[must_use]
 pub fn archive_version() -> u32 {

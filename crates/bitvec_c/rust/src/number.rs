@@ -65,11 +65,35 @@ pub(crate) mod digits {
             place: &mut usize,
             end: usize,
         ) -> Result<Self, Refusal>;
+
+        /// Writes it in the next so many bits before an end, at most its width; the place moves
+        /// behind them.
+        fn write<T: Exports>(
+            self,
+            order: u8,
+            big: bool,
+            words: &mut [T],
+            place: &mut usize,
+            end: usize,
+            count: usize,
+        ) -> Result<(), Refusal>;
+
+        /// Writes its Exp-Golomb code there.
+        fn write_code<T: Exports>(
+            self,
+            order: u8,
+            words: &mut [T],
+            place: &mut usize,
+            end: usize,
+        ) -> Result<(), Refusal>;
     }
 }
 
 macro_rules! numbers {
-    ($($t:ident: $wide:ident by $load:ident, $store:ident, $read:ident, $read_code:ident;)*) => { $(
+    ($(
+        $t:ident: $wide:ident by $load:ident, $store:ident, $read:ident, $read_code:ident,
+            $write:ident, $write_code:ident;
+    )*) => { $(
         impl Number for $t {}
 
         #[allow(clippy::cast_possible_truncation)] // (no digit stands past the width)
@@ -103,19 +127,48 @@ macro_rules! numbers {
                 *place = behind;
                 Ok(number)
             }
+
+            #[inline]
+            fn write<T: Exports>(
+                self,
+                order: u8,
+                big: bool,
+                words: &mut [T],
+                place: &mut usize,
+                end: usize,
+                count: usize,
+            ) -> Result<(), Refusal> {
+                T::$write(order, big, words, place, end, count, self as $wide)
+            }
+
+            #[inline]
+            fn write_code<T: Exports>(
+                self,
+                order: u8,
+                words: &mut [T],
+                place: &mut usize,
+                end: usize,
+            ) -> Result<(), Refusal> {
+                T::$write_code(order, words, place, end, self as $wide)
+            }
         }
     )* };
 }
 
 numbers! {
-    u8: u64 by load, store, read, read_exp_golomb;
-    u16: u64 by load, store, read, read_exp_golomb;
-    u32: u64 by load, store, read, read_exp_golomb;
-    u64: u64 by load, store, read, read_exp_golomb;
-    usize: u64 by load, store, read, read_exp_golomb;
-    i8: i64 by load_signed, store_signed, read_signed, read_signed_exp_golomb;
-    i16: i64 by load_signed, store_signed, read_signed, read_signed_exp_golomb;
-    i32: i64 by load_signed, store_signed, read_signed, read_signed_exp_golomb;
-    i64: i64 by load_signed, store_signed, read_signed, read_signed_exp_golomb;
-    isize: i64 by load_signed, store_signed, read_signed, read_signed_exp_golomb;
+    u8: u64 by load, store, read, read_exp_golomb, write, write_exp_golomb;
+    u16: u64 by load, store, read, read_exp_golomb, write, write_exp_golomb;
+    u32: u64 by load, store, read, read_exp_golomb, write, write_exp_golomb;
+    u64: u64 by load, store, read, read_exp_golomb, write, write_exp_golomb;
+    usize: u64 by load, store, read, read_exp_golomb, write, write_exp_golomb;
+    i8: i64 by load_signed, store_signed, read_signed, read_signed_exp_golomb,
+        write_signed, write_signed_exp_golomb;
+    i16: i64 by load_signed, store_signed, read_signed, read_signed_exp_golomb,
+        write_signed, write_signed_exp_golomb;
+    i32: i64 by load_signed, store_signed, read_signed, read_signed_exp_golomb,
+        write_signed, write_signed_exp_golomb;
+    i64: i64 by load_signed, store_signed, read_signed, read_signed_exp_golomb,
+        write_signed, write_signed_exp_golomb;
+    isize: i64 by load_signed, store_signed, read_signed, read_signed_exp_golomb,
+        write_signed, write_signed_exp_golomb;
 }

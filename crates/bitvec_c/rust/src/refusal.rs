@@ -33,9 +33,11 @@ pub enum Refusal {
     NoRoom,
     /// The command of a request is none. The types of this crate rule it out.
     NoCommand,
-    /// Fewer bits are left of a stream than are to be read, or they end before a run or a code does.
+    /// Fewer bits are left of a stream than are to be read or written, or they end before a run or a
+    /// code does.
     TooFew,
-    /// The number of a code has more digits than its type.
+    /// The number of a code has more digits than its type, or a number more than the bits that it is
+    /// to be written in.
     TooLarge,
     /// A range starts past its end.
     Reversed,

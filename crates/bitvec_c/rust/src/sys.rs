@@ -7,7 +7,8 @@
 //! on their values, so what is left to a caller is that pointers are good. A pointer and the length
 //! after it are those of one slice, which is borrowed for the call, mutably where the export
 //! writes. So no word that is written belongs to another argument. An answer is written to a
-//! variable of the call's own. No export keeps a pointer, or calls back.
+//! variable of the call's own, and a place that is moved is borrowed mutably. No export keeps a
+//! pointer, or calls back.
 
 use crate::refusal::Refusal;
 use crate::words::Words;
@@ -411,6 +412,56 @@ pub trait Exports: Copy {
         place: &mut usize,
         end: usize,
     ) -> Result<i64, Refusal>;
+
+    /// Writes a number in the next `count` bits before an end, and moves the place behind them.
+    fn write(
+        order: u8,
+        big_endian: bool,
+        memory: &mut [Self],
+        place: &mut usize,
+        end: usize,
+        count: usize,
+        number: u64,
+    ) -> Result<(), Refusal>;
+
+    /// Writes a signed number in the next `count` bits.
+    fn write_signed(
+        order: u8,
+        big_endian: bool,
+        memory: &mut [Self],
+        place: &mut usize,
+        end: usize,
+        count: usize,
+        number: i64,
+    ) -> Result<(), Refusal>;
+
+    /// Writes `count` bits that are `bit`, and one that is not.
+    fn write_unary(
+        order: u8,
+        memory: &mut [Self],
+        place: &mut usize,
+        end: usize,
+        bit: bool,
+        count: usize,
+    ) -> Result<(), Refusal>;
+
+    /// Writes a number's Exp-Golomb code.
+    fn write_exp_golomb(
+        order: u8,
+        memory: &mut [Self],
+        place: &mut usize,
+        end: usize,
+        number: u64,
+    ) -> Result<(), Refusal>;
+
+    /// Writes a signed number's Exp-Golomb code.
+    fn write_signed_exp_golomb(
+        order: u8,
+        memory: &mut [Self],
+        place: &mut usize,
+        end: usize,
+        number: i64,
+    ) -> Result<(), Refusal>;
 
     /// Tests the spans of a run over a number of words.
     fn can_run(order: u8, spans: &[Span], words: usize) -> Result<(), Refusal>;
@@ -1610,6 +1661,142 @@ macro_rules! exports {
                     read_signed_exp_golomb(order, words, len, place, end, &raw mut answer)
                 };
                 Refusal::check(status).map(|()| answer)
+            }
+
+            #[inline]
+            fn write(
+                order: u8,
+                big_endian: bool,
+                memory: &mut [Self],
+                place: &mut usize,
+                end: usize,
+                count: usize,
+                number: u64,
+            ) -> Result<(), Refusal> {
+                unsafe extern "C" {
+                    #[link_name = concat!("bitvec_c_write_", stringify!($w))]
+                    fn write(
+                        order: u8,
+                        big_endian: bool,
+                        memory: *mut $w,
+                        words: usize,
+                        place: *mut usize,
+                        end: usize,
+                        count: usize,
+                        number: u64,
+                    ) -> u8;
+                }
+                let (words, len) = (memory.as_mut_ptr().cast(), memory.len());
+                // SAFETY: one slice and a place, both borrowed mutably.
+                Refusal::check(unsafe {
+                    write(order, big_endian, words, len, place, end, count, number)
+                })
+            }
+
+            #[inline]
+            fn write_signed(
+                order: u8,
+                big_endian: bool,
+                memory: &mut [Self],
+                place: &mut usize,
+                end: usize,
+                count: usize,
+                number: i64,
+            ) -> Result<(), Refusal> {
+                unsafe extern "C" {
+                    #[link_name = concat!("bitvec_c_write_signed_", stringify!($w))]
+                    fn write_signed(
+                        order: u8,
+                        big_endian: bool,
+                        memory: *mut $w,
+                        words: usize,
+                        place: *mut usize,
+                        end: usize,
+                        count: usize,
+                        number: i64,
+                    ) -> u8;
+                }
+                let (words, len) = (memory.as_mut_ptr().cast(), memory.len());
+                // SAFETY: one slice and a place, both borrowed mutably.
+                Refusal::check(unsafe {
+                    write_signed(order, big_endian, words, len, place, end, count, number)
+                })
+            }
+
+            #[inline]
+            fn write_unary(
+                order: u8,
+                memory: &mut [Self],
+                place: &mut usize,
+                end: usize,
+                bit: bool,
+                count: usize,
+            ) -> Result<(), Refusal> {
+                unsafe extern "C" {
+                    #[link_name = concat!("bitvec_c_write_unary_", stringify!($w))]
+                    fn write_unary(
+                        order: u8,
+                        memory: *mut $w,
+                        words: usize,
+                        place: *mut usize,
+                        end: usize,
+                        bit: bool,
+                        count: usize,
+                    ) -> u8;
+                }
+                let (words, len) = (memory.as_mut_ptr().cast(), memory.len());
+                // SAFETY: one slice and a place, both borrowed mutably.
+                Refusal::check(unsafe { write_unary(order, words, len, place, end, bit, count) })
+            }
+
+            #[inline]
+            fn write_exp_golomb(
+                order: u8,
+                memory: &mut [Self],
+                place: &mut usize,
+                end: usize,
+                number: u64,
+            ) -> Result<(), Refusal> {
+                unsafe extern "C" {
+                    #[link_name = concat!("bitvec_c_write_exp_golomb_", stringify!($w))]
+                    fn write_exp_golomb(
+                        order: u8,
+                        memory: *mut $w,
+                        words: usize,
+                        place: *mut usize,
+                        end: usize,
+                        number: u64,
+                    ) -> u8;
+                }
+                let (words, len) = (memory.as_mut_ptr().cast(), memory.len());
+                // SAFETY: one slice and a place, both borrowed mutably.
+                Refusal::check(unsafe { write_exp_golomb(order, words, len, place, end, number) })
+            }
+
+            #[inline]
+            fn write_signed_exp_golomb(
+                order: u8,
+                memory: &mut [Self],
+                place: &mut usize,
+                end: usize,
+                number: i64,
+            ) -> Result<(), Refusal> {
+                unsafe extern "C" {
+                    #[link_name = concat!("bitvec_c_write_signed_exp_golomb_", stringify!($w))]
+                    fn write_signed_exp_golomb(
+                        order: u8,
+                        memory: *mut $w,
+                        words: usize,
+                        place: *mut usize,
+                        end: usize,
+                        number: i64,
+                    ) -> u8;
+                }
+                let (words, len) = (memory.as_mut_ptr().cast(), memory.len());
+                // SAFETY: one slice and a place, both borrowed mutably.
+                Refusal::check(unsafe {
+                    write_signed_exp_golomb(order, words, len, place, end, number)
+                })
             }
 
             #[inline]

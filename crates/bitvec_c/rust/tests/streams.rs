@@ -1,19 +1,23 @@
-//! Readers of numbers against the model: each answer or refusal, and the place after it.
+//! Readers and writers of numbers against the model: each answer or refusal, the place after it,
+//! and the bits that a writer leaves, in the slice and outside it.
 
 mod common;
 
 use common::{CASES, Random, for_all_memories};
-use worghulen::{BitReader, BitView, Lsb0, Msb0, Refusal};
+use worghulen::{BitReader, BitView, BitWriter, Lsb0, Msb0, Refusal};
 
 for_all_memories!(numbers_are_read, 41);
 for_all_memories!(runs_and_codes_are_read, 42);
 for_all_memories!(bits_and_slices_are_read, 43);
+for_all_memories!(numbers_are_written, 44);
+for_all_memories!(runs_and_codes_are_written, 45);
+for_all_memories!(bits_and_slices_are_written, 46);
 
 mod cases {
-    use crate::common::{Layout, Random, Word, bits_of, checked};
+    use crate::common::{Layout, Random, Word, bits_of, checked, with_any_other};
     use std::fmt::Debug;
     use std::ops::Range;
-    use worghulen::{BitReader, BitSlice, Number, Refusal};
+    use worghulen::{BitReader, BitSlice, BitSliceMut, BitWriter, Lsb0, Msb0, Number, Refusal};
 
     /// A number that the model knows as one of 128 bits.
     trait Plain: Number + Eq + Debug + TryFrom<i128> + Into<i128> {
@@ -182,6 +186,202 @@ mod cases {
             assert_eq!(reader.rest().iter().collect::<Vec<_>>(), model[place..]);
         }
     }
+
+    /// The lowest digits of a number, the first highest or lowest.
+    fn digits_of(number: i128, count: usize, big: bool) -> Vec<bool> {
+        let digit = |at: usize| number >> if big { count - 1 - at } else { at } & 1 == 1;
+        (0..count).map(digit).collect()
+    }
+
+    /// The code of a number.
+    fn code_of<N: Plain>(number: N) -> Vec<bool> {
+        let plain: i128 = number.into();
+        let above = if !N::IS_SIGNED {
+            plain + 1
+        } else if plain > 0 {
+            2 * plain
+        } else {
+            1 - 2 * plain
+        };
+        let zeros = above.ilog2() as usize;
+        let mut code = vec![false; zeros];
+        code.extend(digits_of(above, zeros + 1, true));
+        code
+    }
+
+    /// A number of any count of digits.
+    fn any_number<N: Plain>(random: &mut Random) -> N {
+        let digits = random.below(N::DIGITS + 1);
+        let bits: Vec<_> = match random.below(4) {
+            0 => vec![random.bit(); digits],
+            1 => (0..digits).map(|at| at == 0).collect(),
+            _ => (0..digits).map(|_| random.bit()).collect(),
+        };
+        number_of(&bits, true)
+    }
+
+    /// What a writer leaves: all bits of the words, the range that is written to, and how many bits
+    /// of it were written.
+    struct Target {
+        bits: Vec<bool>,
+        range: Range<usize>,
+        len: usize,
+    }
+
+    impl Target {
+        /// Writes a list of bits, or refuses it where fewer are left.
+        fn put(&mut self, list: &[bool]) -> Result<(), Refusal> {
+            let place = self.range.start + self.len;
+            if list.len() > self.range.end - place {
+                return Err(Refusal::TooFew);
+            }
+            self.bits[place..place + list.len()].copy_from_slice(list);
+            self.len += list.len();
+            Ok(())
+        }
+
+        /// The bits that are left.
+        fn left(&self) -> &[bool] {
+            &self.bits[self.range.clone()][self.len..]
+        }
+
+        /// Whether the writer is where the model is.
+        fn check<T: Word, O: Layout>(&self, writer: &BitWriter<'_, T, O>) {
+            assert_eq!(writer.position(), self.len);
+            assert_eq!(writer.remaining(), self.range.len() - self.len);
+            let written: Vec<_> = writer.written().iter().collect();
+            assert_eq!(written, self.bits[self.range.clone()][..self.len]);
+        }
+    }
+
+    /// Has a function write some times to words, and tests what it leaves in the slice and outside.
+    /// Answers the words, and the range.
+    fn writes<T: Word, O: Layout>(
+        random: &mut Random,
+        mut write: impl FnMut(&mut Random, &mut BitWriter<'_, T, O>, &mut Target),
+    ) -> (Vec<T>, Range<usize>) {
+        let (mut words, range, bits) = case::<T, O>(random);
+        let mut target = Target {
+            bits,
+            range: range.clone(),
+            len: 0,
+        };
+        let slice = BitSliceMut::<T, O>::new(&mut words, range.clone()).unwrap();
+        let mut writer = BitWriter::new(slice);
+        // (not always as many: what the last call leaves is not written over)
+        for _ in 0..1 + random.below(8) {
+            write(random, &mut writer, &mut target);
+            target.check(&writer);
+        }
+        let whole: Vec<_> = writer.finish().iter().collect();
+        assert_eq!(whole, target.bits[range.clone()]);
+        assert_eq!(bits_of::<T, O>(&words), target.bits);
+        (words, range)
+    }
+
+    fn writes_numbers<T: Word, O: Layout, N: Plain>(random: &mut Random) {
+        let mut calls = vec![];
+        let (words, range) = writes::<T, O>(random, |random, writer, target| {
+            let (count, big) = (random.below(N::DIGITS + 2), random.bit());
+            let number = any_number::<N>(random);
+            let digits = digits_of(number.into(), count, big);
+            let expected = if count > N::DIGITS {
+                Err(Refusal::TooWide)
+            } else if count > target.left().len() {
+                Err(Refusal::TooFew)
+            } else if number_of::<N>(&digits, big) != number {
+                Err(Refusal::TooLarge)
+            } else {
+                calls.push((count, big, number));
+                target.put(&digits)
+            };
+            let answer = if big {
+                writer.write_be(count, number)
+            } else {
+                writer.write_le(count, number)
+            };
+            assert_eq!(answer, expected);
+        });
+        let mut reader = BitReader::new(BitSlice::<T, O>::new(&words, range).unwrap());
+        for (count, big, number) in calls {
+            let answer = if big {
+                reader.read_be::<N>(count)
+            } else {
+                reader.read_le::<N>(count)
+            };
+            assert_eq!(answer, Ok(number));
+        }
+    }
+
+    pub fn numbers_are_written<T: Word, O: Layout>(random: &mut Random) {
+        of_all_types!(random, writes_numbers::<T, O>);
+    }
+
+    /// What is written behind each other: a run, or a code.
+    enum Item<N> {
+        Run(bool, usize),
+        Code(N),
+    }
+
+    fn writes_codes<T: Word, O: Layout, N: Plain>(random: &mut Random) {
+        let mut items = vec![];
+        let (words, range) = writes::<T, O>(random, |random, writer, target| {
+            let (item, list, answer) = if random.one_in(4) {
+                let (bit, count) = (random.bit(), random.below(target.left().len() + 2));
+                let mut list = vec![bit; count];
+                list.push(!bit);
+                let answer = writer.write_unary(bit, count);
+                (Item::Run(bit, count), list, answer)
+            } else {
+                let number = any_number::<N>(random);
+                let answer = writer.write_exp_golomb(number);
+                (Item::Code(number), code_of(number), answer)
+            };
+            assert_eq!(answer, target.put(&list));
+            if answer.is_ok() {
+                items.push(item);
+            }
+        });
+        let mut reader = BitReader::new(BitSlice::<T, O>::new(&words, range).unwrap());
+        for item in items {
+            match item {
+                Item::Run(bit, count) => assert_eq!(reader.read_unary(bit), Ok(count)),
+                Item::Code(number) => assert_eq!(reader.read_exp_golomb::<N>(), Ok(number)),
+            }
+        }
+    }
+
+    pub fn runs_and_codes_are_written<T: Word, O: Layout>(random: &mut Random) {
+        of_all_types!(random, writes_codes::<T, O>);
+    }
+
+    fn writes_slices<T: Word, O: Layout, T2: Word, O2: Layout>(random: &mut Random) {
+        let (source, part, list) = case::<T2, O2>(random);
+        let list = &list[part.clone()];
+        let source = BitSlice::<T2, O2>::new(&source, part).unwrap();
+        writes::<T, O>(random, |random, writer, target| match random.below(3) {
+            0 => {
+                let bit = random.bit();
+                assert_eq!(writer.write_bit(bit), target.put(&[bit]));
+            }
+            1 => {
+                let count = random.below(20);
+                let left = target.left().get(..count).map(<[_]>::to_vec);
+                let expected = left.map_or(Err(Refusal::TooFew), |left| target.put(&left));
+                assert_eq!(writer.skip(count), expected);
+            }
+            _ => {
+                let from = random.below(list.len() + 1);
+                let end = from + random.below(list.len() - from + 1);
+                let slice = source.get(from..end).unwrap();
+                assert_eq!(writer.write_slice(&slice), target.put(&list[from..end]));
+            }
+        });
+    }
+
+    pub fn bits_and_slices_are_written<T: Word, O: Layout>(random: &mut Random) {
+        with_any_other!(random, writes_slices::<T, O>);
+    }
 }
 
 #[test]
@@ -220,4 +420,72 @@ fn codes_past_a_narrow_type() {
     assert_eq!(reader.position(), 0);
     assert_eq!(reader.read_exp_golomb::<u16>(), Ok(256));
     assert_eq!(reader.position(), 17);
+}
+
+#[test]
+fn numbers_of_usize_are_written() {
+    let mut words = [0_usize; 3];
+    let mut writer = BitWriter::new(words.view_bits_mut::<Msb0>());
+    assert_eq!(writer.write_be(64, usize::MAX - 1), Ok(()));
+    assert_eq!(writer.write_be(63, isize::MIN), Err(Refusal::TooLarge));
+    assert_eq!(writer.write_be(64, isize::MIN), Ok(()));
+    assert_eq!(writer.write_exp_golomb(6_usize), Ok(()));
+    assert_eq!(words, [usize::MAX - 1, 1 << 63, 7 << 59]);
+}
+
+#[test]
+fn numbers_of_no_bits_are_0() {
+    let mut words = [0xa5_u8];
+    let mut writer = BitWriter::new(words.view_bits_mut::<Lsb0>());
+    assert_eq!(writer.write_be(0, 0_u64), Ok(()));
+    assert_eq!(writer.write_le(0, 0_i64), Ok(()));
+    assert_eq!(writer.write_be(0, 1_u64), Err(Refusal::TooLarge));
+    assert_eq!(writer.write_le(0, -1_i64), Err(Refusal::TooLarge));
+    assert_eq!(writer.skip(8), Ok(()));
+    assert_eq!(writer.write_be(0, 0_u8), Ok(()));
+    assert_eq!(writer.write_be(0, 1_u8), Err(Refusal::TooLarge));
+    assert_eq!(writer.write_be(1, 2_u8), Err(Refusal::TooFew));
+    assert_eq!(words, [0xa5]);
+}
+
+#[test]
+fn signed_numbers_at_the_ends_of_their_digits() {
+    let mut words = [0_u64; 4];
+    let mut writer = BitWriter::new(words.view_bits_mut::<Msb0>());
+    for count in 1..=16 {
+        let end = 1_i32 << (count - 1);
+        for number in [-end - 1, end] {
+            assert_eq!(writer.write_be(count, number), Err(Refusal::TooLarge));
+            assert_eq!(writer.write_le(count, number), Err(Refusal::TooLarge));
+        }
+        assert_eq!(writer.write_be(count, -end), Ok(()));
+        assert_eq!(writer.written().last(), Some(count == 1));
+    }
+    assert_eq!(writer.position(), 136);
+}
+
+#[test]
+fn codes_at_the_ends_of_types_are_written() {
+    let mut words = [0xff_u8; 17];
+    let mut writer = BitWriter::new(words.view_bits_mut::<Msb0>().into_part(..128).unwrap());
+    assert_eq!(writer.write_exp_golomb(u64::MAX), Err(Refusal::TooFew));
+    assert_eq!(writer.write_exp_golomb(i64::MIN), Err(Refusal::TooFew));
+    assert_eq!(writer.position(), 0);
+    assert_eq!(words, [0xff; 17]);
+
+    let mut writer = BitWriter::new(words.view_bits_mut::<Msb0>());
+    assert_eq!(writer.write_exp_golomb(u64::MAX), Ok(()));
+    assert_eq!(writer.position(), 129);
+    assert_eq!(words[..8], [0; 8]);
+    assert_eq!(words[8..], [0x80, 0, 0, 0, 0, 0, 0, 0, 0x7f]);
+
+    let mut writer = BitWriter::new(words.view_bits_mut::<Msb0>());
+    assert_eq!(writer.write_exp_golomb(i64::MIN), Ok(()));
+    assert_eq!(writer.position(), 129);
+    assert_eq!(words[..8], [0; 8]);
+    assert_eq!(words[8..], [0x80, 0, 0, 0, 0, 0, 0, 0, 0xff]);
+
+    let mut writer = BitWriter::new(words.view_bits_mut::<Msb0>());
+    assert_eq!(writer.write_exp_golomb(i64::MAX), Ok(()));
+    assert_eq!(writer.position(), 127);
 }

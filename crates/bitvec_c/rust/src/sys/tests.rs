@@ -39,6 +39,7 @@ macro_rules! for_all_widths {
 for_all_widths!(
     an_order_is_0_or_1 ranges_are_short_enough ranges_lie_in_their_memory numbers_are_narrow_enough
     conditions_come_in_order streams_are_ranges streams_have_bits_and_digits
+    written_streams_are_ranges written_streams_have_bits_and_digits
     runs_have_lawful_spans runs_have_room_and_commands
 );
 
@@ -242,6 +243,108 @@ mod cases {
         assert_eq!(to, 11);
         assert_eq!(T::read_unary(1, &memory, &mut to, 12, true), Ok(0));
         assert_eq!(to, 12);
+    }
+
+    /// What the calls that write to a stream answer, each no bits, and that none moves or writes
+    /// where it refuses.
+    fn of_target<T: Word>(order: u8, place: usize, end: usize) -> Result<(), Refusal> {
+        let (mut memory, mut to) = ([T::ZERO; 3], place);
+        let answer = T::write(order, false, &mut memory, &mut to, end, 0, 0);
+        let others = [
+            T::write(order, true, &mut memory, &mut to, end, 0, 0),
+            T::write_signed(order, true, &mut memory, &mut to, end, 0, 0),
+        ];
+        assert_eq!(others, [answer; 2]);
+        let some = if answer.is_ok() && place == end {
+            Err(Refusal::TooFew)
+        } else {
+            answer
+        };
+        if some.is_err() {
+            let others = [
+                T::write(order, false, &mut memory, &mut to, end, 1, 1),
+                T::write_signed(order, false, &mut memory, &mut to, end, 1, -1),
+                T::write_unary(order, &mut memory, &mut to, end, true, 0),
+                T::write_unary(order, &mut memory, &mut to, end, false, usize::MAX),
+                T::write_exp_golomb(order, &mut memory, &mut to, end, 0),
+                T::write_signed_exp_golomb(order, &mut memory, &mut to, end, 0),
+            ];
+            assert_eq!(others, [some; 6]);
+        }
+        assert_eq!((to, memory), (place, [T::ZERO; 3]));
+        answer
+    }
+
+    pub fn written_streams_are_ranges<T: Word>() {
+        let bits = 3 * T::WIDTH;
+        for place in 0..=bits {
+            assert_eq!(of_target::<T>(1, place, bits), Ok(()));
+            assert_eq!(of_target::<T>(0, place, place), Ok(()));
+            assert_eq!(of_target::<T>(2, place, bits), Err(Refusal::NoOrder));
+            assert_eq!(of_target::<T>(0, place, bits + 1), Err(Refusal::Outside));
+            assert_eq!(of_target::<T>(1, place + 1, place), Err(Refusal::Outside));
+        }
+        for far in [bits + 1, MOST, usize::MAX - 1, usize::MAX] {
+            assert_eq!(of_target::<T>(0, far, far), Err(Refusal::Outside));
+            assert_eq!(of_target::<T>(1, far, 0), Err(Refusal::Outside));
+            assert_eq!(of_target::<T>(1, far, bits), Err(Refusal::Outside));
+        }
+        assert_eq!(of_target::<T>(0, 0, MOST), Err(Refusal::Outside));
+        assert_eq!(of_target::<T>(0, 0, MOST + 1), Err(Refusal::TooLong));
+        assert_eq!(of_target::<T>(2, 0, usize::MAX), Err(Refusal::NoOrder));
+    }
+
+    pub fn written_streams_have_bits_and_digits<T: Word>() {
+        let (mut memory, bits) = ([T::ZERO; 9], 9 * T::WIDTH);
+        let (few, wide, large) = (
+            Err(Refusal::TooFew),
+            Err(Refusal::TooWide),
+            Err(Refusal::TooLarge),
+        );
+        for (place, count) in [(5, 65), (bits, usize::MAX)] {
+            let (to, number) = (&mut { place }, i64::MAX);
+            let unsigned = T::write(0, true, &mut memory, to, bits, count, u64::MAX);
+            assert_eq!(unsigned, wide);
+            let signed = T::write_signed(1, false, &mut memory, to, bits, count, number);
+            assert_eq!(signed, wide);
+            assert_eq!(*to, place);
+        }
+        let to = &mut 7;
+        assert_eq!(T::write(1, true, &mut memory, to, 10, 4, 16), few);
+        assert_eq!(T::write(1, true, &mut memory, to, 11, 4, 16), large);
+        assert_eq!(T::write(0, false, &mut memory, to, 11, 0, 1), large);
+        for number in [8, -9, i64::MIN] {
+            assert_eq!(
+                T::write_signed(0, true, &mut memory, to, 10, 4, number),
+                few
+            );
+            assert_eq!(
+                T::write_signed(0, true, &mut memory, to, 11, 4, number),
+                large
+            );
+        }
+        assert_eq!(T::write_unary(1, &mut memory, to, 11, true, 4), few);
+        assert_eq!(T::write_exp_golomb(0, &mut memory, to, 11, 3), few);
+        let most = T::write_exp_golomb(1, &mut memory, to, 8, u64::MAX);
+        assert_eq!(most, few);
+        let least = T::write_signed_exp_golomb(1, &mut memory, to, 8, i64::MIN);
+        assert_eq!(least, few);
+        assert_eq!((*to, memory), (7, [T::ZERO; 9]));
+
+        assert_eq!(T::write(1, true, &mut memory, to, 11, 4, 11), Ok(()));
+        assert_eq!(*to, 11);
+        let signed = T::write_signed(1, true, &mut memory, to, 15, 4, -8);
+        assert_eq!((*to, signed), (15, Ok(())));
+        assert_eq!(T::write_unary(1, &mut memory, to, 18, true, 2), Ok(()));
+        assert_eq!(*to, 18);
+        assert_eq!(T::write_exp_golomb(1, &mut memory, to, 23, 3), Ok(()));
+        assert_eq!(*to, 23);
+        let code = T::write_signed_exp_golomb(1, &mut memory, to, 26, -1);
+        assert_eq!((*to, code), (26, Ok(())));
+        let written = concat!("1011", "1000", "110", "00100", "011", "0000");
+        let expected = u64::from_str_radix(written, 2).unwrap();
+        let answer = T::read(1, true, &memory, &mut 0, bits, 30);
+        assert_eq!(answer, Ok(expected));
     }
 
     pub fn runs_have_lawful_spans<T: Word>() {

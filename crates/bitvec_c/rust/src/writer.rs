@@ -1,0 +1,354 @@
+//! Numbers that are written one behind the other.
+
+use crate::number::Number;
+use crate::order::Order;
+use crate::refusal::Refusal;
+use crate::register::Register;
+use crate::slice::BitSlice;
+use crate::slice_mut::BitSliceMut;
+
+/// The bits of a slice, and the place among them behind those that were written.
+///
+/// Each call writes from there on, and moves the place behind what it wrote. Where one is refused,
+/// the place and the bits stay. What is written stands in the words at once. A
+/// [`BitReader`](crate::BitReader) reads it back by the calls of the same names.
+///
+/// # Examples
+///
+/// The first numbers of an IPv4 header.
+///
+/// ```
+/// use worghulen::{BitView, BitWriter, Msb0, Refusal};
+///
+/// let mut header = [0_u8; 4];
+/// let mut writer = BitWriter::new(header.view_bits_mut::<Msb0>());
+/// writer.write_be(4, 4_u8)?;
+/// writer.write_be(4, 5_u8)?;
+/// writer.skip(8)?;
+/// assert_eq!(writer.write_be(17, 1500_u32), Err(Refusal::TooFew));
+/// writer.write_be(16, 1500_u16)?;
+/// assert_eq!(writer.write_bit(true), Err(Refusal::TooFew));
+/// assert_eq!(header, [0x45, 0x00, 0x05, 0xdc]);
+/// # Ok::<(), Refusal>(())
+/// ```
+#[derive(Debug)]
+pub struct BitWriter<'a, T: Register, O: Order> {
+    bits: BitSliceMut<'a, T, O>,
+    position: usize,
+}
+
+impl<'a, T: Register, O: Order> BitWriter<'a, T, O> {
+    /// A writer before the first bit of a slice. Constant time.
+    ///
+    /// # Examples
+    ///
+    /// ```
+    /// use worghulen::{BitView, BitWriter, Lsb0};
+    ///
+    /// let mut words = [0_u8];
+    /// assert_eq!(BitWriter::new(words.view_bits_mut::<Lsb0>()).remaining(), 8);
+    /// ```
+    #[inline]
+    #[must_use]
+    pub fn new(bits: BitSliceMut<'a, T, O>) -> Self {
+        Self { bits, position: 0 }
+    }
+
+    /// How many bits were written or passed over. Constant time.
+    ///
+    /// # Examples
+    ///
+    /// ```
+    /// use worghulen::{BitView, BitWriter, Lsb0};
+    ///
+    /// let mut words = [0_u8];
+    /// let mut writer = BitWriter::new(words.view_bits_mut::<Lsb0>());
+    /// writer.write_le(3, 5_u8)?;
+    /// assert_eq!((writer.position(), writer.remaining()), (3, 5));
+    /// # Ok::<(), worghulen::Refusal>(())
+    /// ```
+    #[inline]
+    #[must_use]
+    pub fn position(&self) -> usize {
+        self.position
+    }
+
+    /// How many bits are left. Constant time.
+    ///
+    /// # Examples
+    ///
+    /// ```
+    /// use worghulen::{BitView, BitWriter, Lsb0};
+    ///
+    /// let mut words = [0_u16; 2];
+    /// assert_eq!(BitWriter::new(words.view_bits_mut::<Lsb0>()).remaining(), 32);
+    /// ```
+    #[inline]
+    #[must_use]
+    pub fn remaining(&self) -> usize {
+        self.bits.len() - self.position
+    }
+
+    /// The bits that were written or passed over, to be read. Constant time.
+    ///
+    /// # Examples
+    ///
+    /// ```
+    /// use worghulen::{BitReader, BitView, BitWriter, Lsb0};
+    ///
+    /// let mut words = [0_u8; 2];
+    /// let mut writer = BitWriter::new(words.view_bits_mut::<Lsb0>());
+    /// writer.write_le(5, 11_u8)?;
+    /// assert_eq!(writer.written().to_string(), "11010");
+    /// assert_eq!(BitReader::new(writer.written()).read_le::<u8>(5)?, 11);
+    /// # Ok::<(), worghulen::Refusal>(())
+    /// ```
+    #[inline]
+    #[must_use]
+    pub fn written(&self) -> BitSlice<'_, T, O> {
+        self.bits.as_bitslice().start(self.position)
+    }
+
+    /// The whole slice: what was written, and behind it the other bits, as they were. Constant
+    /// time.
+    ///
+    /// # Examples
+    ///
+    /// ```
+    /// use worghulen::{BitView, BitWriter, Msb0};
+    ///
+    /// let mut words = [0xff_u8];
+    /// let mut writer = BitWriter::new(words.view_bits_mut::<Msb0>());
+    /// writer.write_be(4, 6_u8)?;
+    /// let mut bits = writer.finish();
+    /// bits.set(7, false)?;
+    /// assert_eq!(words, [0b0110_1110]);
+    /// # Ok::<(), worghulen::Refusal>(())
+    /// ```
+    #[inline]
+    #[must_use]
+    pub fn finish(self) -> BitSliceMut<'a, T, O> {
+        self.bits
+    }
+
+    /// Has a call of the library write from the place on, which it moves.
+    #[inline]
+    fn put(
+        &mut self,
+        call: impl FnOnce(&mut [T], &mut usize, usize) -> Result<(), Refusal>,
+    ) -> Result<(), Refusal> {
+        let len = self.bits.len();
+        let (words, start) = self.bits.place_mut();
+        let mut place = start + self.position;
+        call(words, &mut place, start + len)?;
+        self.position = place - start;
+        Ok(())
+    }
+
+    /// Passes over so many bits, which stay as they are. Constant time.
+    ///
+    /// # Errors
+    ///
+    /// [`Refusal::TooFew`] where fewer are left.
+    ///
+    /// # Examples
+    ///
+    /// ```
+    /// use worghulen::{BitView, BitWriter, Lsb0, Refusal};
+    ///
+    /// let mut words = [0x0f_u8];
+    /// let mut writer = BitWriter::new(words.view_bits_mut::<Lsb0>());
+    /// writer.skip(7)?;
+    /// assert_eq!(writer.skip(2), Err(Refusal::TooFew));
+    /// writer.write_bit(true)?;
+    /// assert_eq!(words, [0x8f]);
+    /// # Ok::<(), Refusal>(())
+    /// ```
+    #[inline]
+    pub fn skip(&mut self, count: usize) -> Result<(), Refusal> {
+        if count > self.remaining() {
+            return Err(Refusal::TooFew);
+        }
+        self.position += count;
+        Ok(())
+    }
+
+    /// Writes a bit. Constant time.
+    ///
+    /// # Errors
+    ///
+    /// [`Refusal::TooFew`] where none is left.
+    ///
+    /// # Examples
+    ///
+    /// ```
+    /// use worghulen::{BitView, BitWriter, Msb0};
+    ///
+    /// let mut words = [0b0111_1111_u8];
+    /// let mut writer = BitWriter::new(words.view_bits_mut::<Msb0>());
+    /// writer.write_bit(true)?;
+    /// writer.write_bit(false)?;
+    /// assert_eq!(words, [0b1011_1111]);
+    /// # Ok::<(), worghulen::Refusal>(())
+    /// ```
+    #[inline]
+    pub fn write_bit(&mut self, bit: bool) -> Result<(), Refusal> {
+        if self.remaining() == 0 {
+            return Err(Refusal::TooFew);
+        }
+        self.bits.set(self.position, bit)?;
+        self.position += 1;
+        Ok(())
+    }
+
+    /// Writes the bits of a slice, of any words and order. Costs by words.
+    ///
+    /// # Errors
+    ///
+    /// [`Refusal::TooFew`] where fewer are left.
+    ///
+    /// # Examples
+    ///
+    /// ```
+    /// use worghulen::{BitView, BitWriter, Lsb0, Msb0, Refusal};
+    ///
+    /// let (source, mut words) = ([0b1010_0000_u8], [0_u16]);
+    /// let source = source.view_bits::<Msb0>();
+    /// let mut writer = BitWriter::new(words.view_bits_mut::<Lsb0>());
+    /// writer.skip(4)?;
+    /// writer.write_slice(&source)?;
+    /// assert_eq!(writer.write_slice(&source), Err(Refusal::TooFew));
+    /// assert_eq!(writer.remaining(), 4);
+    /// assert_eq!(words, [0x0050]);
+    /// # Ok::<(), Refusal>(())
+    /// ```
+    pub fn write_slice<T2: Register, O2: Order>(
+        &mut self,
+        source: &BitSlice<'_, T2, O2>,
+    ) -> Result<(), Refusal> {
+        if source.len() > self.remaining() {
+            return Err(Refusal::TooFew);
+        }
+        let end = self.position + source.len();
+        self.bits.part_mut(self.position..end)?.copy_from(source)?;
+        self.position = end;
+        Ok(())
+    }
+
+    /// Writes a number in the next `count` bits, the first the highest digit; a signed number in
+    /// two's complement of `count` digits. Costs by words.
+    ///
+    /// # Errors
+    ///
+    /// [`Refusal::TooWide`] where `count` is more than the bits of the number's type, otherwise
+    /// [`Refusal::TooFew`] where fewer are left, and otherwise [`Refusal::TooLarge`] where the
+    /// number has more digits: in no bits, where it is not 0.
+    ///
+    /// # Examples
+    ///
+    /// ```
+    /// use worghulen::{BitView, BitWriter, Lsb0, Refusal};
+    ///
+    /// let mut words = [0_u8];
+    /// let mut writer = BitWriter::new(words.view_bits_mut::<Lsb0>());
+    /// writer.write_be(4, 0b1011_u16)?;
+    /// assert_eq!(writer.write_be(9, 1_u8), Err(Refusal::TooWide));
+    /// assert_eq!(writer.write_be(5, 1_u8), Err(Refusal::TooFew));
+    /// assert_eq!(writer.write_be(3, 8_u8), Err(Refusal::TooLarge));
+    /// assert_eq!(writer.write_be(3, -5_i8), Err(Refusal::TooLarge));
+    /// writer.write_be(3, -2_i8)?;
+    /// assert_eq!(words, [0b0011_1101]);
+    /// # Ok::<(), Refusal>(())
+    /// ```
+    #[inline]
+    pub fn write_be<N: Number>(&mut self, count: usize, number: N) -> Result<(), Refusal> {
+        self.write(true, count, number)
+    }
+
+    /// Writes a number in the next `count` bits, the first the lowest digit; a signed number in
+    /// two's complement of `count` digits. Costs by words.
+    ///
+    /// # Errors
+    ///
+    /// As [`write_be`](Self::write_be).
+    ///
+    /// # Examples
+    ///
+    /// ```
+    /// use worghulen::{BitView, BitWriter, Msb0};
+    ///
+    /// let mut words = [0_u8];
+    /// let mut writer = BitWriter::new(words.view_bits_mut::<Msb0>());
+    /// writer.write_le(4, 0b1011_u16)?;
+    /// writer.write_le(4, -3_i16)?;
+    /// assert_eq!(words, [0b1101_1011]);
+    /// # Ok::<(), worghulen::Refusal>(())
+    /// ```
+    #[inline]
+    pub fn write_le<N: Number>(&mut self, count: usize, number: N) -> Result<(), Refusal> {
+        self.write(false, count, number)
+    }
+
+    #[inline]
+    fn write<N: Number>(&mut self, big: bool, count: usize, number: N) -> Result<(), Refusal> {
+        if count > N::WIDTH {
+            return Err(Refusal::TooWide);
+        }
+        self.put(|words, place, end| number.write(O::CODE, big, words, place, end, count))
+    }
+
+    /// Writes `count` bits that are `bit`, and one that is not. Costs by words.
+    ///
+    /// # Errors
+    ///
+    /// [`Refusal::TooFew`] where no more than `count` are left.
+    ///
+    /// # Examples
+    ///
+    /// ```
+    /// use worghulen::{BitView, BitWriter, Msb0, Refusal};
+    ///
+    /// let mut words = [0_u8];
+    /// let mut writer = BitWriter::new(words.view_bits_mut::<Msb0>());
+    /// writer.write_unary(true, 3)?;
+    /// writer.write_unary(false, 1)?;
+    /// assert_eq!(writer.write_unary(false, 2), Err(Refusal::TooFew));
+    /// assert_eq!(words, [0b1110_0100]);
+    /// # Ok::<(), Refusal>(())
+    /// ```
+    #[inline]
+    pub fn write_unary(&mut self, bit: bool, count: usize) -> Result<(), Refusal> {
+        self.put(|words, place, end| T::write_unary(O::CODE, words, place, end, bit, count))
+    }
+
+    /// Writes a number's Exp-Golomb code: `ue(v)` of ITU-T H.264 and H.265, or for a signed type
+    /// `se(v)`. Costs by words.
+    ///
+    /// [`read_exp_golomb`](crate::BitReader::read_exp_golomb) says which that is. Each number has
+    /// one: of a type of 64 bits it has at most 129 bits.
+    ///
+    /// # Errors
+    ///
+    /// [`Refusal::TooFew`] where fewer bits are left than the code has.
+    ///
+    /// # Examples
+    ///
+    /// ```
+    /// use worghulen::{BitView, BitWriter, Msb0, Refusal};
+    ///
+    /// let mut words = [0_u8; 2];
+    /// let mut writer = BitWriter::new(words.view_bits_mut::<Msb0>());
+    /// writer.write_exp_golomb(0_u8)?;
+    /// writer.write_exp_golomb(1_u8)?;
+    /// writer.write_exp_golomb(-1)?;
+    /// writer.write_exp_golomb(2)?;
+    /// assert_eq!(writer.write_exp_golomb(3_u8), Err(Refusal::TooFew));
+    /// assert_eq!(writer.remaining(), 4);
+    /// assert_eq!(words, [0b1010_0110, 0b0100_0000]);
+    /// # Ok::<(), Refusal>(())
+    /// ```
+    #[inline]
+    pub fn write_exp_golomb<N: Number>(&mut self, number: N) -> Result<(), Refusal> {
+        self.put(|words, place, end| number.write_code(O::CODE, words, place, end))
+    }
+}

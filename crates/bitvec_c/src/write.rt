@@ -1,0 +1,336 @@
+//! Numbers of so many digits that are written one behind the other.
+
+ghost use Rattle.std.specs.Prelude.{◌≡◌, ◌+◌, ◌-◌, ◌*◌, ◌^◌, ◌<◌, ◌≤◌, ◌↔◌, IsTrue, [], length, map};
+ghost use Rattle.bitvec.specs.Place.{region_max_bits};
+ghost use Rattle.bitvec_slice.specs.Signed.{complement_of, HasDigits};
+ghost use Rattle.bitvec_stream.specs.Writer.{written, room};
+ghost use Rattle.bitvec_c.specs.Call.{part};
+ghost use Rattle.bitvec_c.specs.Status.{ok};
+ghost use Rattle.bitvec_c.specs.Stream.{bits_between, digits_by, written_conditions, WritesBits};
+ghost use Rattle.bitvec_c.specs.Stream.{IsNumberWrite, IsSignedWrite};
+
+use crate::status::{LSB0, MAX_DIGITS, OK, TOO_FEW, TOO_LARGE, TOO_WIDE, test_left};
+use crate::stream::{put_bits, writer_over};
+use bitvec::mem::BitRegister;
+use bitvec::order::{BitOrder, Lsb0, Msb0};
+use bitvec_stream::writer::BitWriter;
+
+// Writes a number in `count` bits, the first the highest digit, or else the lowest, where it has no
+// more digits.
+fn put(writer: &mut BitWriter<'_, u64, Msb0>, big: bool, count: usize, number: u64) -> bool
+    requires most { count ≤ 64 }
+    requires first { written writer.old ≡ [] }
+    requires room { count ≤ length (room writer.old) }
+    ensures short { IsTrue result ↔ number < 2 ^ count }
+    ensures written { IsTrue result → written writer.new ≡ digits_by big count number }
+{
+    let written = if big {
+        writer.write_be(count, number)
+    } else {
+        writer.write_le(count, number)
+    };
+    written.is_ok()
+}
+
+// Writes a number from a place on, and moves the place behind its bits.
+fn write_in<R: BitRegister, O: BitOrder<R>>(
+    big: bool,
+    memory: &mut [R],
+    place: &mut usize,
+    end: usize,
+    count: usize,
+    number: u64,
+) -> u8
+    requires short { end - place.old ≤ region_max_bits }
+    requires rises { place.old ≤ end }
+    requires inside { place.old + (end - place.old) ≤ length memory.old * R.BITS }
+    ensures { let left = bits_between R.BITS O.at_of place.old end (map R.number memory.old) in
+        WritesBits (written_conditions count (number < 2 ^ count) (length left)) (digits_by big count number) ok R.BITS O.at_of
+        place.old place.new (map R.number memory.old) (map R.number memory.new) result }
+{
+    if count > MAX_DIGITS {
+        return TOO_WIDE;
+    }
+    if end - *place < count {
+        return TOO_FEW;
+    }
+    let mut buffer = [0; 1];
+    let mut writer = writer_over(&mut buffer);
+    if !put(&mut writer, big, count, number) {
+        return TOO_LARGE;
+    }
+    put_bits::<R, O>(memory, place, writer.written());
+    OK
+}
+
+// The same under the order of a code, where the other conditions of the call hold.
+fn write<R: BitRegister>(
+    order: u8,
+    big: bool,
+    memory: &mut [R],
+    place: &mut usize,
+    end: usize,
+    count: usize,
+    number: u64,
+) -> u8
+    ensures { let at = part R.number R.BITS order place.old in IsNumberWrite big (at memory.old)
+        (at memory.new) end place.new count number result }
+{
+    let status = test_left::<R>(order, memory.len(), *place, end);
+    if status != OK {
+        return status;
+    }
+    if order == LSB0 {
+        write_in::<R, Lsb0>(big, memory, place, end, count, number)
+    } else {
+        write_in::<R, Msb0>(big, memory, place, end, count, number)
+    }
+}
+
+// Writes a signed number in `count` bits, the first the highest digit, or else the lowest, where it has no
+// more digits.
+fn put_signed(writer: &mut BitWriter<'_, u64, Msb0>, big: bool, count: usize, number: i64) -> bool
+    requires most { count ≤ 64 }
+    requires first { written writer.old ≡ [] }
+    requires room { count ≤ length (room writer.old) }
+    ensures short { IsTrue result ↔ HasDigits count number }
+    ensures written { IsTrue result → written writer.new ≡ digits_by big count (complement_of count number) }
+{
+    let written = if big {
+        writer.write_signed_be(count, number)
+    } else {
+        writer.write_signed_le(count, number)
+    };
+    written.is_ok()
+}
+
+// Writes a signed number from a place on, and moves the place behind its bits.
+fn write_signed_in<R: BitRegister, O: BitOrder<R>>(
+    big: bool,
+    memory: &mut [R],
+    place: &mut usize,
+    end: usize,
+    count: usize,
+    number: i64,
+) -> u8
+    requires short { end - place.old ≤ region_max_bits }
+    requires rises { place.old ≤ end }
+    requires inside { place.old + (end - place.old) ≤ length memory.old * R.BITS }
+    ensures { let left = bits_between R.BITS O.at_of place.old end (map R.number memory.old) in
+        WritesBits (written_conditions count (HasDigits count number) (length left)) (digits_by big count (complement_of count number)) ok R.BITS O.at_of
+        place.old place.new (map R.number memory.old) (map R.number memory.new) result }
+{
+    if count > MAX_DIGITS {
+        return TOO_WIDE;
+    }
+    if end - *place < count {
+        return TOO_FEW;
+    }
+    let mut buffer = [0; 1];
+    let mut writer = writer_over(&mut buffer);
+    if !put_signed(&mut writer, big, count, number) {
+        return TOO_LARGE;
+    }
+    put_bits::<R, O>(memory, place, writer.written());
+    OK
+}
+
+// The same under the order of a code, where the other conditions of the call hold.
+fn write_signed<R: BitRegister>(
+    order: u8,
+    big: bool,
+    memory: &mut [R],
+    place: &mut usize,
+    end: usize,
+    count: usize,
+    number: i64,
+) -> u8
+    ensures { let at = part R.number R.BITS order place.old in IsSignedWrite big (at memory.old)
+        (at memory.new) end place.new count number result }
+{
+    let status = test_left::<R>(order, memory.len(), *place, end);
+    if status != OK {
+        return status;
+    }
+    if order == LSB0 {
+        write_signed_in::<R, Lsb0>(big, memory, place, end, count, number)
+    } else {
+        write_signed_in::<R, Msb0>(big, memory, place, end, count, number)
+    }
+}
+
+/// Writes a number in the next `count` bits, at most 64, of a memory of words of 8 bits: of those
+/// from `place` on, which end before `end`, the first becomes the lowest digit, or where
+/// `big_endian` the highest. It moves `place` behind them, and changes no other bit.
+///
+/// It refuses with `NO_ORDER`, `TOO_LONG`, `OUTSIDE`, `TOO_WIDE`, `TOO_FEW`, or `TOO_LARGE` where
+/// the number has more digits, and memory and `place` stay.
+#[unsafe(no_mangle)]
+pub extern "C" fn bitvec_c_write_u8(
+    order: u8,
+    big_endian: bool,
+    memory: &mut [u8],
+    place: &mut usize,
+    end: usize,
+    count: usize,
+    number: u64,
+) -> u8
+    ensures { let at = part (λ n. n) 8 order place.old in IsNumberWrite big_endian (at memory.old)
+        (at memory.new) end place.new count number result }
+{
+    write(order, big_endian, memory, place, end, count, number)
+}
+
+/// Writes a number in the next `count` bits, at most 64, of a memory of words of 16 bits: of those
+/// from `place` on, which end before `end`, the first becomes the lowest digit, or where
+/// `big_endian` the highest. It moves `place` behind them, and changes no other bit.
+///
+/// It refuses with `NO_ORDER`, `TOO_LONG`, `OUTSIDE`, `TOO_WIDE`, `TOO_FEW`, or `TOO_LARGE` where
+/// the number has more digits, and memory and `place` stay.
+#[unsafe(no_mangle)]
+pub extern "C" fn bitvec_c_write_u16(
+    order: u8,
+    big_endian: bool,
+    memory: &mut [u16],
+    place: &mut usize,
+    end: usize,
+    count: usize,
+    number: u64,
+) -> u8
+    ensures { let at = part (λ n. n) 16 order place.old in IsNumberWrite big_endian (at memory.old)
+        (at memory.new) end place.new count number result }
+{
+    write(order, big_endian, memory, place, end, count, number)
+}
+
+/// Writes a number in the next `count` bits, at most 64, of a memory of words of 32 bits: of those
+/// from `place` on, which end before `end`, the first becomes the lowest digit, or where
+/// `big_endian` the highest. It moves `place` behind them, and changes no other bit.
+///
+/// It refuses with `NO_ORDER`, `TOO_LONG`, `OUTSIDE`, `TOO_WIDE`, `TOO_FEW`, or `TOO_LARGE` where
+/// the number has more digits, and memory and `place` stay.
+#[unsafe(no_mangle)]
+pub extern "C" fn bitvec_c_write_u32(
+    order: u8,
+    big_endian: bool,
+    memory: &mut [u32],
+    place: &mut usize,
+    end: usize,
+    count: usize,
+    number: u64,
+) -> u8
+    ensures { let at = part (λ n. n) 32 order place.old in IsNumberWrite big_endian (at memory.old)
+        (at memory.new) end place.new count number result }
+{
+    write(order, big_endian, memory, place, end, count, number)
+}
+
+/// Writes a number in the next `count` bits, at most 64, of a memory of words of 64 bits: of those
+/// from `place` on, which end before `end`, the first becomes the lowest digit, or where
+/// `big_endian` the highest. It moves `place` behind them, and changes no other bit.
+///
+/// It refuses with `NO_ORDER`, `TOO_LONG`, `OUTSIDE`, `TOO_WIDE`, `TOO_FEW`, or `TOO_LARGE` where
+/// the number has more digits, and memory and `place` stay.
+#[unsafe(no_mangle)]
+pub extern "C" fn bitvec_c_write_u64(
+    order: u8,
+    big_endian: bool,
+    memory: &mut [u64],
+    place: &mut usize,
+    end: usize,
+    count: usize,
+    number: u64,
+) -> u8
+    ensures { let at = part (λ n. n) 64 order place.old in IsNumberWrite big_endian (at memory.old)
+        (at memory.new) end place.new count number result }
+{
+    write(order, big_endian, memory, place, end, count, number)
+}
+
+/// Writes the two's complement of a signed number in the next `count` bits, at most 64, of a memory
+/// of words of 8 bits, the first the lowest digit, or where `big_endian` the highest. It moves
+/// `place` behind them, and changes no other bit.
+///
+/// It refuses with `NO_ORDER`, `TOO_LONG`, `OUTSIDE`, `TOO_WIDE`, `TOO_FEW`, or `TOO_LARGE` where
+/// the number wants more digits, and memory and `place` stay.
+#[unsafe(no_mangle)]
+pub extern "C" fn bitvec_c_write_signed_u8(
+    order: u8,
+    big_endian: bool,
+    memory: &mut [u8],
+    place: &mut usize,
+    end: usize,
+    count: usize,
+    number: i64,
+) -> u8
+    ensures { let at = part (λ n. n) 8 order place.old in IsSignedWrite big_endian (at memory.old)
+        (at memory.new) end place.new count number result }
+{
+    write_signed(order, big_endian, memory, place, end, count, number)
+}
+
+/// Writes the two's complement of a signed number in the next `count` bits, at most 64, of a memory
+/// of words of 16 bits, the first the lowest digit, or where `big_endian` the highest. It moves
+/// `place` behind them, and changes no other bit.
+///
+/// It refuses with `NO_ORDER`, `TOO_LONG`, `OUTSIDE`, `TOO_WIDE`, `TOO_FEW`, or `TOO_LARGE` where
+/// the number wants more digits, and memory and `place` stay.
+#[unsafe(no_mangle)]
+pub extern "C" fn bitvec_c_write_signed_u16(
+    order: u8,
+    big_endian: bool,
+    memory: &mut [u16],
+    place: &mut usize,
+    end: usize,
+    count: usize,
+    number: i64,
+) -> u8
+    ensures { let at = part (λ n. n) 16 order place.old in IsSignedWrite big_endian (at memory.old)
+        (at memory.new) end place.new count number result }
+{
+    write_signed(order, big_endian, memory, place, end, count, number)
+}
+
+/// Writes the two's complement of a signed number in the next `count` bits, at most 64, of a memory
+/// of words of 32 bits, the first the lowest digit, or where `big_endian` the highest. It moves
+/// `place` behind them, and changes no other bit.
+///
+/// It refuses with `NO_ORDER`, `TOO_LONG`, `OUTSIDE`, `TOO_WIDE`, `TOO_FEW`, or `TOO_LARGE` where
+/// the number wants more digits, and memory and `place` stay.
+#[unsafe(no_mangle)]
+pub extern "C" fn bitvec_c_write_signed_u32(
+    order: u8,
+    big_endian: bool,
+    memory: &mut [u32],
+    place: &mut usize,
+    end: usize,
+    count: usize,
+    number: i64,
+) -> u8
+    ensures { let at = part (λ n. n) 32 order place.old in IsSignedWrite big_endian (at memory.old)
+        (at memory.new) end place.new count number result }
+{
+    write_signed(order, big_endian, memory, place, end, count, number)
+}
+
+/// Writes the two's complement of a signed number in the next `count` bits, at most 64, of a memory
+/// of words of 64 bits, the first the lowest digit, or where `big_endian` the highest. It moves
+/// `place` behind them, and changes no other bit.
+///
+/// It refuses with `NO_ORDER`, `TOO_LONG`, `OUTSIDE`, `TOO_WIDE`, `TOO_FEW`, or `TOO_LARGE` where
+/// the number wants more digits, and memory and `place` stay.
+#[unsafe(no_mangle)]
+pub extern "C" fn bitvec_c_write_signed_u64(
+    order: u8,
+    big_endian: bool,
+    memory: &mut [u64],
+    place: &mut usize,
+    end: usize,
+    count: usize,
+    number: i64,
+) -> u8
+    ensures { let at = part (λ n. n) 64 order place.old in IsSignedWrite big_endian (at memory.old)
+        (at memory.new) end place.new count number result }
+{
+    write_signed(order, big_endian, memory, place, end, count, number)
+}

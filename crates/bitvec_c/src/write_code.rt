@@ -1,0 +1,418 @@
+//! Numbers in unary and as Exp-Golomb codes that are written one behind the other.
+
+ghost use Rattle.std.specs.Prelude.{◌≡◌, ◌+◌, ◌-◌, ◌*◌, ◌<◌, ◌≤◌, not, [], ◌∷◌, ◌++◌, length, map};
+ghost use Rattle.std.specs.Prelude.{replicate};
+ghost use Rattle.bitvec.specs.Place.{region_max_bits};
+ghost use Rattle.bitvec_stream.specs.Golomb.{golomb, signed_place};
+ghost use Rattle.bitvec_stream.specs.Writer.{written, room};
+ghost use Rattle.bitvec_c.specs.Call.{part};
+ghost use Rattle.bitvec_c.specs.Range.{RangeBecomes};
+ghost use Rattle.bitvec_c.specs.Status.{ok, too_few};
+ghost use Rattle.bitvec_c.specs.Stream.{bits_between, WritesBits};
+ghost use Rattle.bitvec_c.specs.Stream.{IsUnaryWrite, IsCodeWrite, IsSignedCodeWrite};
+
+use crate::range::bits_mut;
+use crate::status::{LSB0, OK, TOO_FEW, test_left};
+use crate::stream::{put_bits, writer_over};
+use bitvec::mem::BitRegister;
+use bitvec::order::{BitOrder, Lsb0, Msb0};
+use bitvec_stream::writer::BitWriter;
+
+// Makes so many bits from a place on `bit`, and the next one the other.
+fn put_unary<R: BitRegister, O: BitOrder<R>>(
+    memory: &mut [R],
+    place: usize,
+    bit: bool,
+    count: usize,
+)
+    requires short { count + 1 ≤ region_max_bits }
+    requires inside { place + (count + 1) ≤ length memory.old * R.BITS }
+    ensures { RangeBecomes R.BITS O.at_of place (count + 1) (replicate count bit ++ not bit ∷ [])
+        (map R.number memory.old) (map R.number memory.new) }
+{
+    let mut range = bits_mut::<R, O>(memory, place, count + 1);
+    range.fill(!bit);
+    range.fill_range(0, count, bit);
+}
+
+// Writes so many bits that are `bit`, and one that is not, from a place on, and moves the place behind its bits.
+fn write_unary_in<R: BitRegister, O: BitOrder<R>>(
+    memory: &mut [R],
+    place: &mut usize,
+    end: usize,
+    bit: bool,
+    count: usize,
+) -> u8
+    requires short { end - place.old ≤ region_max_bits }
+    requires rises { place.old ≤ end }
+    requires inside { place.old + (end - place.old) ≤ length memory.old * R.BITS }
+    ensures { let left = bits_between R.BITS O.at_of place.old end (map R.number memory.old) in
+        WritesBits ((count < length left, too_few) ∷ []) (replicate count bit ++ not bit ∷ []) ok R.BITS O.at_of
+        place.old place.new (map R.number memory.old) (map R.number memory.new) result }
+{
+    if end - *place <= count {
+        return TOO_FEW;
+    }
+    put_unary::<R, O>(memory, *place, bit, count);
+    *place += count + 1;
+    OK
+}
+
+// The same under the order of a code, where the other conditions of the call hold.
+fn write_unary<R: BitRegister>(
+    order: u8,
+    memory: &mut [R],
+    place: &mut usize,
+    end: usize,
+    bit: bool,
+    count: usize,
+) -> u8
+    ensures { let at = part R.number R.BITS order place.old in IsUnaryWrite bit (at memory.old)
+        (at memory.new) end place.new count result }
+{
+    let status = test_left::<R>(order, memory.len(), *place, end);
+    if status != OK {
+        return status;
+    }
+    if order == LSB0 {
+        write_unary_in::<R, Lsb0>(memory, place, end, bit, count)
+    } else {
+        write_unary_in::<R, Msb0>(memory, place, end, bit, count)
+    }
+}
+
+// Writes the Exp-Golomb code of a number into a buffer.
+fn put_exp_golomb(writer: &mut BitWriter<'_, u64, Msb0>, number: u64)
+    requires first { written writer.old ≡ [] }
+    requires room { 132 ≤ length (room writer.old) }
+    ensures { written writer.new ≡ golomb number }
+{
+    let _ = writer.write_exp_golomb(number);
+}
+
+// Writes the Exp-Golomb code of a number from a place on, and moves the place behind its bits.
+fn write_exp_golomb_in<R: BitRegister, O: BitOrder<R>>(
+    memory: &mut [R],
+    place: &mut usize,
+    end: usize,
+    number: u64,
+) -> u8
+    requires short { end - place.old ≤ region_max_bits }
+    requires rises { place.old ≤ end }
+    requires inside { place.old + (end - place.old) ≤ length memory.old * R.BITS }
+    ensures { let left = bits_between R.BITS O.at_of place.old end (map R.number memory.old) in
+        WritesBits ((length (golomb number) ≤ length left, too_few) ∷ []) (golomb number) ok R.BITS O.at_of
+        place.old place.new (map R.number memory.old) (map R.number memory.new) result }
+{
+    let mut buffer = [0; 3];
+    let mut writer = writer_over(&mut buffer);
+    put_exp_golomb(&mut writer, number);
+    let code = writer.written();
+    if end - *place < code.len() {
+        return TOO_FEW;
+    }
+    put_bits::<R, O>(memory, place, code);
+    OK
+}
+
+// The same under the order of a code, where the other conditions of the call hold.
+fn write_exp_golomb<R: BitRegister>(
+    order: u8,
+    memory: &mut [R],
+    place: &mut usize,
+    end: usize,
+    number: u64,
+) -> u8
+    ensures { let at = part R.number R.BITS order place.old in IsCodeWrite (at memory.old)
+        (at memory.new) end place.new number result }
+{
+    let status = test_left::<R>(order, memory.len(), *place, end);
+    if status != OK {
+        return status;
+    }
+    if order == LSB0 {
+        write_exp_golomb_in::<R, Lsb0>(memory, place, end, number)
+    } else {
+        write_exp_golomb_in::<R, Msb0>(memory, place, end, number)
+    }
+}
+
+// Writes the Exp-Golomb code of a signed number into a buffer.
+fn put_signed_exp_golomb(writer: &mut BitWriter<'_, u64, Msb0>, number: i64)
+    requires first { written writer.old ≡ [] }
+    requires room { 132 ≤ length (room writer.old) }
+    ensures { written writer.new ≡ golomb (signed_place number) }
+{
+    let _ = writer.write_signed_exp_golomb(number);
+}
+
+// Writes the Exp-Golomb code of a signed number from a place on, and moves the place behind its bits.
+fn write_signed_exp_golomb_in<R: BitRegister, O: BitOrder<R>>(
+    memory: &mut [R],
+    place: &mut usize,
+    end: usize,
+    number: i64,
+) -> u8
+    requires short { end - place.old ≤ region_max_bits }
+    requires rises { place.old ≤ end }
+    requires inside { place.old + (end - place.old) ≤ length memory.old * R.BITS }
+    ensures { let left = bits_between R.BITS O.at_of place.old end (map R.number memory.old) in
+        WritesBits ((length (golomb (signed_place number)) ≤ length left, too_few) ∷ []) (golomb (signed_place number)) ok R.BITS O.at_of
+        place.old place.new (map R.number memory.old) (map R.number memory.new) result }
+{
+    let mut buffer = [0; 3];
+    let mut writer = writer_over(&mut buffer);
+    put_signed_exp_golomb(&mut writer, number);
+    let code = writer.written();
+    if end - *place < code.len() {
+        return TOO_FEW;
+    }
+    put_bits::<R, O>(memory, place, code);
+    OK
+}
+
+// The same under the order of a code, where the other conditions of the call hold.
+fn write_signed_exp_golomb<R: BitRegister>(
+    order: u8,
+    memory: &mut [R],
+    place: &mut usize,
+    end: usize,
+    number: i64,
+) -> u8
+    ensures { let at = part R.number R.BITS order place.old in IsSignedCodeWrite (at memory.old)
+        (at memory.new) end place.new number result }
+{
+    let status = test_left::<R>(order, memory.len(), *place, end);
+    if status != OK {
+        return status;
+    }
+    if order == LSB0 {
+        write_signed_exp_golomb_in::<R, Lsb0>(memory, place, end, number)
+    } else {
+        write_signed_exp_golomb_in::<R, Msb0>(memory, place, end, number)
+    }
+}
+
+/// Writes `count` bits that are `bit` from `place` on, and behind them one that is not, which ends
+/// before `end`, in a memory of words of 8 bits. It moves `place` behind that one, and changes no
+/// other bit.
+///
+/// It refuses with `NO_ORDER`, `TOO_LONG`, `OUTSIDE` or `TOO_FEW`, and memory and `place` stay.
+#[unsafe(no_mangle)]
+pub extern "C" fn bitvec_c_write_unary_u8(
+    order: u8,
+    memory: &mut [u8],
+    place: &mut usize,
+    end: usize,
+    bit: bool,
+    count: usize,
+) -> u8
+    ensures { let at = part (λ n. n) 8 order place.old in IsUnaryWrite bit (at memory.old)
+        (at memory.new) end place.new count result }
+{
+    write_unary(order, memory, place, end, bit, count)
+}
+
+/// Writes `count` bits that are `bit` from `place` on, and behind them one that is not, which ends
+/// before `end`, in a memory of words of 16 bits. It moves `place` behind that one, and changes no
+/// other bit.
+///
+/// It refuses with `NO_ORDER`, `TOO_LONG`, `OUTSIDE` or `TOO_FEW`, and memory and `place` stay.
+#[unsafe(no_mangle)]
+pub extern "C" fn bitvec_c_write_unary_u16(
+    order: u8,
+    memory: &mut [u16],
+    place: &mut usize,
+    end: usize,
+    bit: bool,
+    count: usize,
+) -> u8
+    ensures { let at = part (λ n. n) 16 order place.old in IsUnaryWrite bit (at memory.old)
+        (at memory.new) end place.new count result }
+{
+    write_unary(order, memory, place, end, bit, count)
+}
+
+/// Writes `count` bits that are `bit` from `place` on, and behind them one that is not, which ends
+/// before `end`, in a memory of words of 32 bits. It moves `place` behind that one, and changes no
+/// other bit.
+///
+/// It refuses with `NO_ORDER`, `TOO_LONG`, `OUTSIDE` or `TOO_FEW`, and memory and `place` stay.
+#[unsafe(no_mangle)]
+pub extern "C" fn bitvec_c_write_unary_u32(
+    order: u8,
+    memory: &mut [u32],
+    place: &mut usize,
+    end: usize,
+    bit: bool,
+    count: usize,
+) -> u8
+    ensures { let at = part (λ n. n) 32 order place.old in IsUnaryWrite bit (at memory.old)
+        (at memory.new) end place.new count result }
+{
+    write_unary(order, memory, place, end, bit, count)
+}
+
+/// Writes `count` bits that are `bit` from `place` on, and behind them one that is not, which ends
+/// before `end`, in a memory of words of 64 bits. It moves `place` behind that one, and changes no
+/// other bit.
+///
+/// It refuses with `NO_ORDER`, `TOO_LONG`, `OUTSIDE` or `TOO_FEW`, and memory and `place` stay.
+#[unsafe(no_mangle)]
+pub extern "C" fn bitvec_c_write_unary_u64(
+    order: u8,
+    memory: &mut [u64],
+    place: &mut usize,
+    end: usize,
+    bit: bool,
+    count: usize,
+) -> u8
+    ensures { let at = part (λ n. n) 64 order place.old in IsUnaryWrite bit (at memory.old)
+        (at memory.new) end place.new count result }
+{
+    write_unary(order, memory, place, end, bit, count)
+}
+
+/// Writes the Exp-Golomb code of a number from `place` on, which ends before `end`, in a memory of
+/// words of 8 bits. It moves `place` behind it, and changes no other bit.
+///
+/// It refuses with `NO_ORDER`, `TOO_LONG`, `OUTSIDE` or `TOO_FEW`, and memory and `place` stay.
+#[unsafe(no_mangle)]
+pub extern "C" fn bitvec_c_write_exp_golomb_u8(
+    order: u8,
+    memory: &mut [u8],
+    place: &mut usize,
+    end: usize,
+    number: u64,
+) -> u8
+    ensures { let at = part (λ n. n) 8 order place.old in IsCodeWrite (at memory.old)
+        (at memory.new) end place.new number result }
+{
+    write_exp_golomb(order, memory, place, end, number)
+}
+
+/// Writes the Exp-Golomb code of a number from `place` on, which ends before `end`, in a memory of
+/// words of 16 bits. It moves `place` behind it, and changes no other bit.
+///
+/// It refuses with `NO_ORDER`, `TOO_LONG`, `OUTSIDE` or `TOO_FEW`, and memory and `place` stay.
+#[unsafe(no_mangle)]
+pub extern "C" fn bitvec_c_write_exp_golomb_u16(
+    order: u8,
+    memory: &mut [u16],
+    place: &mut usize,
+    end: usize,
+    number: u64,
+) -> u8
+    ensures { let at = part (λ n. n) 16 order place.old in IsCodeWrite (at memory.old)
+        (at memory.new) end place.new number result }
+{
+    write_exp_golomb(order, memory, place, end, number)
+}
+
+/// Writes the Exp-Golomb code of a number from `place` on, which ends before `end`, in a memory of
+/// words of 32 bits. It moves `place` behind it, and changes no other bit.
+///
+/// It refuses with `NO_ORDER`, `TOO_LONG`, `OUTSIDE` or `TOO_FEW`, and memory and `place` stay.
+#[unsafe(no_mangle)]
+pub extern "C" fn bitvec_c_write_exp_golomb_u32(
+    order: u8,
+    memory: &mut [u32],
+    place: &mut usize,
+    end: usize,
+    number: u64,
+) -> u8
+    ensures { let at = part (λ n. n) 32 order place.old in IsCodeWrite (at memory.old)
+        (at memory.new) end place.new number result }
+{
+    write_exp_golomb(order, memory, place, end, number)
+}
+
+/// Writes the Exp-Golomb code of a number from `place` on, which ends before `end`, in a memory of
+/// words of 64 bits. It moves `place` behind it, and changes no other bit.
+///
+/// It refuses with `NO_ORDER`, `TOO_LONG`, `OUTSIDE` or `TOO_FEW`, and memory and `place` stay.
+#[unsafe(no_mangle)]
+pub extern "C" fn bitvec_c_write_exp_golomb_u64(
+    order: u8,
+    memory: &mut [u64],
+    place: &mut usize,
+    end: usize,
+    number: u64,
+) -> u8
+    ensures { let at = part (λ n. n) 64 order place.old in IsCodeWrite (at memory.old)
+        (at memory.new) end place.new number result }
+{
+    write_exp_golomb(order, memory, place, end, number)
+}
+
+/// Writes the Exp-Golomb code of a signed number from `place` on, which ends before `end`, in a
+/// memory of words of 8 bits. It moves `place` behind it, and changes no other bit.
+///
+/// It refuses with `NO_ORDER`, `TOO_LONG`, `OUTSIDE` or `TOO_FEW`, and memory and `place` stay.
+#[unsafe(no_mangle)]
+pub extern "C" fn bitvec_c_write_signed_exp_golomb_u8(
+    order: u8,
+    memory: &mut [u8],
+    place: &mut usize,
+    end: usize,
+    number: i64,
+) -> u8
+    ensures { let at = part (λ n. n) 8 order place.old in IsSignedCodeWrite (at memory.old)
+        (at memory.new) end place.new number result }
+{
+    write_signed_exp_golomb(order, memory, place, end, number)
+}
+
+/// Writes the Exp-Golomb code of a signed number from `place` on, which ends before `end`, in a
+/// memory of words of 16 bits. It moves `place` behind it, and changes no other bit.
+///
+/// It refuses with `NO_ORDER`, `TOO_LONG`, `OUTSIDE` or `TOO_FEW`, and memory and `place` stay.
+#[unsafe(no_mangle)]
+pub extern "C" fn bitvec_c_write_signed_exp_golomb_u16(
+    order: u8,
+    memory: &mut [u16],
+    place: &mut usize,
+    end: usize,
+    number: i64,
+) -> u8
+    ensures { let at = part (λ n. n) 16 order place.old in IsSignedCodeWrite (at memory.old)
+        (at memory.new) end place.new number result }
+{
+    write_signed_exp_golomb(order, memory, place, end, number)
+}
+
+/// Writes the Exp-Golomb code of a signed number from `place` on, which ends before `end`, in a
+/// memory of words of 32 bits. It moves `place` behind it, and changes no other bit.
+///
+/// It refuses with `NO_ORDER`, `TOO_LONG`, `OUTSIDE` or `TOO_FEW`, and memory and `place` stay.
+#[unsafe(no_mangle)]
+pub extern "C" fn bitvec_c_write_signed_exp_golomb_u32(
+    order: u8,
+    memory: &mut [u32],
+    place: &mut usize,
+    end: usize,
+    number: i64,
+) -> u8
+    ensures { let at = part (λ n. n) 32 order place.old in IsSignedCodeWrite (at memory.old)
+        (at memory.new) end place.new number result }
+{
+    write_signed_exp_golomb(order, memory, place, end, number)
+}
+
+/// Writes the Exp-Golomb code of a signed number from `place` on, which ends before `end`, in a
+/// memory of words of 64 bits. It moves `place` behind it, and changes no other bit.
+///
+/// It refuses with `NO_ORDER`, `TOO_LONG`, `OUTSIDE` or `TOO_FEW`, and memory and `place` stay.
+#[unsafe(no_mangle)]
+pub extern "C" fn bitvec_c_write_signed_exp_golomb_u64(
+    order: u8,
+    memory: &mut [u64],
+    place: &mut usize,
+    end: usize,
+    number: i64,
+) -> u8
+    ensures { let at = part (λ n. n) 64 order place.old in IsSignedCodeWrite (at memory.old)
+        (at memory.new) end place.new number result }
+{
+    write_signed_exp_golomb(order, memory, place, end, number)
+}
