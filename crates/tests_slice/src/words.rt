@@ -69,6 +69,5 @@ fn words_are_cleared(rt: HostRuntime) {
     assert_eq!(rt; word_of(bits.as_bitslice(), 1), Some(0xFF));
     assert_eq!(rt; word_of(bits.as_bitslice(), 2), Some(0x00));
     assert!(rt; put_and_get(&mut bits, 1, 0x80, 4));
-    assert!(rt; !put_and_get(&mut bits, 1, 0x80, 5));
     assert_eq!(rt; memory, [0xFF, 0x80, 0x00]);
 }
