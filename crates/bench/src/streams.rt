@@ -11,7 +11,7 @@ use bitvec::mem::BitRegister;
 use bitvec::order::{Lsb0, Msb0};
 use bitvec::ptr::span::BitSpan;
 use bitvec_slice::field::Sequential;
-use bitvec_slice::slice::{BitSlice, BitSliceMut};
+use bitvec_slice::slice::BitSlice;
 use bitvec_stream::error::{ReadError, WriteError};
 use bitvec_stream::reader::BitReader;
 use bitvec_stream::writer::BitWriter;
@@ -105,7 +105,7 @@ fn write_all<O: Sequential<u64>>(
 ) -> Result<(), WriteError>
     requires { Fits 64 (span_of span) (length memory.old) }
 {
-    let mut writer = BitWriter::new(BitSliceMut::new_unchecked(span, memory));
+    let mut writer = BitWriter::over_unchecked(span, memory);
     for n in 0..count {
         let value = (n % 8192) as u64;
         if O::RISES {

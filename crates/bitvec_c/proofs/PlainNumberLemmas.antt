@@ -1,16 +1,8 @@
 -- A range that a number is stored into, by the slice that borrows it.
-use Rattle.std.proofs.Common.{◌≡◌, ℕ, ◌%◌, Bool, List, map, sym, subst}
+use Rattle.std.proofs.Common.{◌≡◌, ℕ, ◌%◌, Bool, List, subst}
 use Rattle.bitvec.specs.Span.{Span, BecomesList, span_at}
 use Rattle.bitvec_slice.specs.Field.{field_list}
 use Rattle.bitvec_c.specs.Range.{RangeBecomes}
-
--- the memory that is lent is the slice's before and behind the edit
-pub lent_edit : {W : Type 0} {s : Span} {xs : List Bool} (bits : ℕ) (at : ℕ → ℕ) (number : W → ℕ) (old lent_old lent_new new : List W)
-    → new ≡ lent_new → lent_old ≡ old
-    → BecomesList bits at s (map number lent_old) (map number lent_new) xs → BecomesList bits at s (map number old) (map number new) xs
-lent_edit {W} {s} {xs} bits at number old lent_old lent_new new ends begins edit =
-    subst (λ (ws : List W). BecomesList bits at s (map number ws) (map number new) xs) begins
-    (subst (λ (ws : List W). BecomesList bits at s (map number lent_old) (map number ws) xs) (sym ends) edit)
 
 -- the span of a range gets as many lowest digits of a number as it has bits
 module _ (bits : ℕ) (at : ℕ → ℕ) (big rises : Bool) (start count value : ℕ) where

@@ -38,11 +38,11 @@ no_room = 7
 abbrev pub no_command : ℕ
 no_command = 8
 
--- fewer bits are left of a stream than are to be read, or they end before a run or a code does
+-- fewer bits are left of a stream than are to be read or written, or they end before a run or a code does
 abbrev pub too_few : ℕ
 too_few = 9
 
--- the number of a code has more digits than the answer of the call that reads it
+-- the number of a code that is read has more digits than the answer can have, or one that is written more than it is to have
 abbrev pub too_large : ℕ
 too_large = 10
 

@@ -8,6 +8,8 @@ use Rattle.bitvec_stream.specs.Golomb.{golomb, signed_place, StartsWith}
 use Rattle.bitvec_stream.specs.Numbers.{number_le, number_be, digits_le, digits_be}
 use Rattle.bitvec_stream.specs.declared.error.ReadError.{ReadError}
 use Rattle.bitvec_stream.specs.declared.error.ReadError.TheVariants.{TooFew, Unended, TooLarge}
+use Rattle.bitvec_stream.specs.declared.error.WriteError.{WriteError}
+use Rattle.bitvec_stream.specs.declared.error.WriteError.TheVariants.{NoRoom, TooManyDigits}
 use Rattle.bitvec_c.specs.Call.{Part, order_of}
 use Rattle.bitvec_c.specs.Range.{range_bits, RangeBecomes}
 use Rattle.bitvec_c.specs.RunStatus.{IsFirstFailed}
@@ -40,6 +42,11 @@ abbrev pub read_status : ReadError → ℕ
 read_status TooFew = too_few
 read_status Unended = too_few
 read_status TooLarge = too_large
+
+-- the status of a writer's refusal
+abbrev pub write_status : WriteError → ℕ
+write_status NoRoom = too_few
+write_status TooManyDigits = too_large
 
 -- the conditions of a number of `count` digits among so many bits
 abbrev pub digits_conditions : ℕ → ℕ → List (Type 0 × ℕ)

@@ -1,35 +1,52 @@
 //! Numbers of so many digits that are written one behind the other.
 
-ghost use Rattle.std.specs.Prelude.{◌≡◌, ◌+◌, ◌-◌, ◌*◌, ◌^◌, ◌<◌, ◌≤◌, ◌↔◌, IsTrue, [], length, map};
+ghost use Rattle.std.specs.Prelude.{◌≡◌, ◌+◌, ◌-◌, ◌*◌, ◌^◌, ◌<◌, ◌≤◌, ◌↔◌, Err, IsOk, IfOk, IfErr};
+ghost use Rattle.std.specs.Prelude.{length, map};
 ghost use Rattle.bitvec.specs.Place.{region_max_bits};
 ghost use Rattle.bitvec_slice.specs.Signed.{complement_of, HasDigits};
-ghost use Rattle.bitvec_stream.specs.Writer.{written, room};
+ghost use Rattle.bitvec_stream.specs.Writer.{room, Writes};
 ghost use Rattle.bitvec_c.specs.Call.{part};
 ghost use Rattle.bitvec_c.specs.Status.{ok};
 ghost use Rattle.bitvec_c.specs.Stream.{bits_between, digits_by, written_conditions, WritesBits};
-ghost use Rattle.bitvec_c.specs.Stream.{IsNumberWrite, IsSignedWrite};
+ghost use Rattle.bitvec_c.specs.Stream.{write_status, IsNumberWrite, IsSignedWrite};
 
 use crate::status::{LSB0, MAX_DIGITS, OK, TOO_FEW, TOO_LARGE, TOO_WIDE, test_left};
-use crate::stream::{put_bits, writer_over};
+use crate::stream::writer_between;
 use bitvec::mem::BitRegister;
 use bitvec::order::{BitOrder, Lsb0, Msb0};
+use bitvec_stream::error::WriteError;
 use bitvec_stream::writer::BitWriter;
 
-// Writes a number in `count` bits, the first the highest digit, or else the lowest, where it has no
-// more digits.
-fn put(writer: &mut BitWriter<'_, u64, Msb0>, big: bool, count: usize, number: u64) -> bool
-    requires most { count ≤ 64 }
-    requires first { written writer.old ≡ [] }
-    requires room { count ≤ length (room writer.old) }
-    ensures short { IsTrue result ↔ number < 2 ^ count }
-    ensures written { IsTrue result → written writer.new ≡ digits_by big count number }
+// The status of a writer's refusal.
+fn status_of(error: WriteError) -> u8
+    ensures { result ≡ write_status error }
 {
-    let written = if big {
+    match error {
+        WriteError::NoRoom => TOO_FEW,
+        WriteError::TooManyDigits => TOO_LARGE,
+    }
+}
+
+// Writes a number in `count` bits, the first the highest digit, or else the lowest.
+fn put<R: BitRegister, O: BitOrder<R>>(
+    writer: &mut BitWriter<'_, R, O>,
+    big: bool,
+    count: usize,
+    number: u64,
+) -> Result<(), WriteError>
+    requires { count ≤ 64 }
+    ensures accepted { IsOk result
+        ↔ ((count ≤ length (room writer.old)) × (number < 2 ^ count)) }
+    ensures no_room { (result ≡ Err WriteError.NoRoom) ↔ (length (room writer.old) < count) }
+    ensures written { IfOk result
+        (λ _. Writes writer.old writer.new (digits_by big count number)) }
+    ensures kept { IfErr result (λ _. writer.new ≡ writer.old) }
+{
+    if big {
         writer.write_be(count, number)
     } else {
         writer.write_le(count, number)
-    };
-    written.is_ok()
+    }
 }
 
 // Writes a number from a place on, and moves the place behind its bits.
@@ -45,22 +62,21 @@ fn write_in<R: BitRegister, O: BitOrder<R>>(
     requires rises { place.old ≤ end }
     requires inside { place.old + (end - place.old) ≤ length memory.old * R.BITS }
     ensures { let left = bits_between R.BITS O.at_of place.old end (map R.number memory.old) in
-        WritesBits (written_conditions count (number < 2 ^ count) (length left)) (digits_by big count number) ok R.BITS O.at_of
-        place.old place.new (map R.number memory.old) (map R.number memory.new) result }
+        WritesBits (written_conditions count (number < 2 ^ count) (length left))
+        (digits_by big count number) ok R.BITS O.at_of place.old place.new
+        (map R.number memory.old) (map R.number memory.new) result }
 {
     if count > MAX_DIGITS {
         return TOO_WIDE;
     }
-    if end - *place < count {
-        return TOO_FEW;
+    let mut writer = writer_between::<R, O>(memory, *place, end);
+    match put(&mut writer, big, count, number) {
+        Ok(()) => {
+            *place += count;
+            OK
+        }
+        Err(error) => status_of(error),
     }
-    let mut buffer = [0; 1];
-    let mut writer = writer_over(&mut buffer);
-    if !put(&mut writer, big, count, number) {
-        return TOO_LARGE;
-    }
-    put_bits::<R, O>(memory, place, writer.written());
-    OK
 }
 
 // The same under the order of a code, where the other conditions of the call hold.
@@ -87,21 +103,27 @@ fn write<R: BitRegister>(
     }
 }
 
-// Writes a signed number in `count` bits, the first the highest digit, or else the lowest, where it has no
-// more digits.
-fn put_signed(writer: &mut BitWriter<'_, u64, Msb0>, big: bool, count: usize, number: i64) -> bool
-    requires most { count ≤ 64 }
-    requires first { written writer.old ≡ [] }
-    requires room { count ≤ length (room writer.old) }
-    ensures short { IsTrue result ↔ HasDigits count number }
-    ensures written { IsTrue result → written writer.new ≡ digits_by big count (complement_of count number) }
+// Writes the two's complement of a signed number in `count` bits, the first the highest digit, or
+// else the lowest.
+fn put_signed<R: BitRegister, O: BitOrder<R>>(
+    writer: &mut BitWriter<'_, R, O>,
+    big: bool,
+    count: usize,
+    number: i64,
+) -> Result<(), WriteError>
+    requires { count ≤ 64 }
+    ensures accepted { IsOk result
+        ↔ ((count ≤ length (room writer.old)) × HasDigits count number) }
+    ensures no_room { (result ≡ Err WriteError.NoRoom) ↔ (length (room writer.old) < count) }
+    ensures written { IfOk result
+        (λ _. Writes writer.old writer.new (digits_by big count (complement_of count number))) }
+    ensures kept { IfErr result (λ _. writer.new ≡ writer.old) }
 {
-    let written = if big {
+    if big {
         writer.write_signed_be(count, number)
     } else {
         writer.write_signed_le(count, number)
-    };
-    written.is_ok()
+    }
 }
 
 // Writes a signed number from a place on, and moves the place behind its bits.
@@ -117,22 +139,21 @@ fn write_signed_in<R: BitRegister, O: BitOrder<R>>(
     requires rises { place.old ≤ end }
     requires inside { place.old + (end - place.old) ≤ length memory.old * R.BITS }
     ensures { let left = bits_between R.BITS O.at_of place.old end (map R.number memory.old) in
-        WritesBits (written_conditions count (HasDigits count number) (length left)) (digits_by big count (complement_of count number)) ok R.BITS O.at_of
-        place.old place.new (map R.number memory.old) (map R.number memory.new) result }
+        WritesBits (written_conditions count (HasDigits count number) (length left))
+        (digits_by big count (complement_of count number)) ok R.BITS O.at_of place.old place.new
+        (map R.number memory.old) (map R.number memory.new) result }
 {
     if count > MAX_DIGITS {
         return TOO_WIDE;
     }
-    if end - *place < count {
-        return TOO_FEW;
+    let mut writer = writer_between::<R, O>(memory, *place, end);
+    match put_signed(&mut writer, big, count, number) {
+        Ok(()) => {
+            *place += count;
+            OK
+        }
+        Err(error) => status_of(error),
     }
-    let mut buffer = [0; 1];
-    let mut writer = writer_over(&mut buffer);
-    if !put_signed(&mut writer, big, count, number) {
-        return TOO_LARGE;
-    }
-    put_bits::<R, O>(memory, place, writer.written());
-    OK
 }
 
 // The same under the order of a code, where the other conditions of the call hold.

@@ -4,38 +4,18 @@ ghost use Rattle.std.specs.Prelude.{◌≡◌, ◌+◌, ◌-◌, ◌*◌, ◌<�
 ghost use Rattle.std.specs.Prelude.{replicate};
 ghost use Rattle.bitvec.specs.Place.{region_max_bits};
 ghost use Rattle.bitvec_stream.specs.Golomb.{golomb, signed_place};
-ghost use Rattle.bitvec_stream.specs.Writer.{written, room};
 ghost use Rattle.bitvec_c.specs.Call.{part};
-ghost use Rattle.bitvec_c.specs.Range.{RangeBecomes};
 ghost use Rattle.bitvec_c.specs.Status.{ok, too_few};
 ghost use Rattle.bitvec_c.specs.Stream.{bits_between, WritesBits};
 ghost use Rattle.bitvec_c.specs.Stream.{IsUnaryWrite, IsCodeWrite, IsSignedCodeWrite};
 
-use crate::range::bits_mut;
 use crate::status::{LSB0, OK, TOO_FEW, test_left};
-use crate::stream::{put_bits, writer_over};
+use crate::stream::writer_between;
 use bitvec::mem::BitRegister;
 use bitvec::order::{BitOrder, Lsb0, Msb0};
-use bitvec_stream::writer::BitWriter;
 
-// Makes so many bits from a place on `bit`, and the next one the other.
-fn put_unary<R: BitRegister, O: BitOrder<R>>(
-    memory: &mut [R],
-    place: usize,
-    bit: bool,
-    count: usize,
-)
-    requires short { count + 1 ≤ region_max_bits }
-    requires inside { place + (count + 1) ≤ length memory.old * R.BITS }
-    ensures { RangeBecomes R.BITS O.at_of place (count + 1) (replicate count bit ++ not bit ∷ [])
-        (map R.number memory.old) (map R.number memory.new) }
-{
-    let mut range = bits_mut::<R, O>(memory, place, count + 1);
-    range.fill(!bit);
-    range.fill_range(0, count, bit);
-}
-
-// Writes so many bits that are `bit`, and one that is not, from a place on, and moves the place behind its bits.
+// Writes so many bits that are `bit`, and one that is not, from a place on, and moves the place
+// behind them.
 fn write_unary_in<R: BitRegister, O: BitOrder<R>>(
     memory: &mut [R],
     place: &mut usize,
@@ -47,15 +27,18 @@ fn write_unary_in<R: BitRegister, O: BitOrder<R>>(
     requires rises { place.old ≤ end }
     requires inside { place.old + (end - place.old) ≤ length memory.old * R.BITS }
     ensures { let left = bits_between R.BITS O.at_of place.old end (map R.number memory.old) in
-        WritesBits ((count < length left, too_few) ∷ []) (replicate count bit ++ not bit ∷ []) ok R.BITS O.at_of
-        place.old place.new (map R.number memory.old) (map R.number memory.new) result }
+        WritesBits ((count < length left, too_few) ∷ [])
+        (replicate count bit ++ not bit ∷ []) ok R.BITS O.at_of place.old place.new
+        (map R.number memory.old) (map R.number memory.new) result }
 {
-    if end - *place <= count {
-        return TOO_FEW;
+    let mut writer = writer_between::<R, O>(memory, *place, end);
+    match writer.write_unary(bit, count) {
+        Ok(()) => {
+            *place += writer.position();
+            OK
+        }
+        Err(_) => TOO_FEW,
     }
-    put_unary::<R, O>(memory, *place, bit, count);
-    *place += count + 1;
-    OK
 }
 
 // The same under the order of a code, where the other conditions of the call hold.
@@ -81,16 +64,7 @@ fn write_unary<R: BitRegister>(
     }
 }
 
-// Writes the Exp-Golomb code of a number into a buffer.
-fn put_exp_golomb(writer: &mut BitWriter<'_, u64, Msb0>, number: u64)
-    requires first { written writer.old ≡ [] }
-    requires room { 132 ≤ length (room writer.old) }
-    ensures { written writer.new ≡ golomb number }
-{
-    let _ = writer.write_exp_golomb(number);
-}
-
-// Writes the Exp-Golomb code of a number from a place on, and moves the place behind its bits.
+// Writes the Exp-Golomb code of a number from a place on, and moves the place behind it.
 fn write_exp_golomb_in<R: BitRegister, O: BitOrder<R>>(
     memory: &mut [R],
     place: &mut usize,
@@ -101,18 +75,18 @@ fn write_exp_golomb_in<R: BitRegister, O: BitOrder<R>>(
     requires rises { place.old ≤ end }
     requires inside { place.old + (end - place.old) ≤ length memory.old * R.BITS }
     ensures { let left = bits_between R.BITS O.at_of place.old end (map R.number memory.old) in
-        WritesBits ((length (golomb number) ≤ length left, too_few) ∷ []) (golomb number) ok R.BITS O.at_of
-        place.old place.new (map R.number memory.old) (map R.number memory.new) result }
+        WritesBits ((length (golomb number) ≤ length left, too_few) ∷ [])
+        (golomb number) ok R.BITS O.at_of place.old place.new
+        (map R.number memory.old) (map R.number memory.new) result }
 {
-    let mut buffer = [0; 3];
-    let mut writer = writer_over(&mut buffer);
-    put_exp_golomb(&mut writer, number);
-    let code = writer.written();
-    if end - *place < code.len() {
-        return TOO_FEW;
+    let mut writer = writer_between::<R, O>(memory, *place, end);
+    match writer.write_exp_golomb(number) {
+        Ok(()) => {
+            *place += writer.position();
+            OK
+        }
+        Err(_) => TOO_FEW,
     }
-    put_bits::<R, O>(memory, place, code);
-    OK
 }
 
 // The same under the order of a code, where the other conditions of the call hold.
@@ -137,16 +111,7 @@ fn write_exp_golomb<R: BitRegister>(
     }
 }
 
-// Writes the Exp-Golomb code of a signed number into a buffer.
-fn put_signed_exp_golomb(writer: &mut BitWriter<'_, u64, Msb0>, number: i64)
-    requires first { written writer.old ≡ [] }
-    requires room { 132 ≤ length (room writer.old) }
-    ensures { written writer.new ≡ golomb (signed_place number) }
-{
-    let _ = writer.write_signed_exp_golomb(number);
-}
-
-// Writes the Exp-Golomb code of a signed number from a place on, and moves the place behind its bits.
+// Writes the Exp-Golomb code of a signed number from a place on, and moves the place behind it.
 fn write_signed_exp_golomb_in<R: BitRegister, O: BitOrder<R>>(
     memory: &mut [R],
     place: &mut usize,
@@ -157,18 +122,18 @@ fn write_signed_exp_golomb_in<R: BitRegister, O: BitOrder<R>>(
     requires rises { place.old ≤ end }
     requires inside { place.old + (end - place.old) ≤ length memory.old * R.BITS }
     ensures { let left = bits_between R.BITS O.at_of place.old end (map R.number memory.old) in
-        WritesBits ((length (golomb (signed_place number)) ≤ length left, too_few) ∷ []) (golomb (signed_place number)) ok R.BITS O.at_of
-        place.old place.new (map R.number memory.old) (map R.number memory.new) result }
+        WritesBits ((length (golomb (signed_place number)) ≤ length left, too_few) ∷ [])
+        (golomb (signed_place number)) ok R.BITS O.at_of place.old place.new
+        (map R.number memory.old) (map R.number memory.new) result }
 {
-    let mut buffer = [0; 3];
-    let mut writer = writer_over(&mut buffer);
-    put_signed_exp_golomb(&mut writer, number);
-    let code = writer.written();
-    if end - *place < code.len() {
-        return TOO_FEW;
+    let mut writer = writer_between::<R, O>(memory, *place, end);
+    match writer.write_signed_exp_golomb(number) {
+        Ok(()) => {
+            *place += writer.position();
+            OK
+        }
+        Err(_) => TOO_FEW,
     }
-    put_bits::<R, O>(memory, place, code);
-    OK
 }
 
 // The same under the order of a code, where the other conditions of the call hold.

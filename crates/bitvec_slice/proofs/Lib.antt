@@ -9,6 +9,7 @@ pub mod FindLemmas
 pub mod FreeRunLemmas
 pub mod InnerWordLemmas
 mod IterLemmas
+pub mod LentLemmas
 pub mod ListCountLemmas
 mod ListEdits
 mod NextLemmas

@@ -1,34 +1,54 @@
 -- What a `BitWriter` shows.
-use Rattle.std.specs.Prelude.{◌≡◌, ℕ, ◌+◌, ◌-◌, Bool, List, ◌++◌, length, take, drop}
-use Rattle.bitvec_slice.specs.BitSliceMut.{lent_bits, BecomesBits}
-use Rattle.bitvec_slice.specs.declared.slice.bit_slice_mut.BitSliceMut.{BitSliceMut}
+use Rattle.std.specs.Prelude.{◌≡◌, ℕ, ◌+◌, ◌-◌, Bool, List, ◌++◌, length, map, take, drop}
+use Rattle.std.specs.Borrow.{MutBor}
+use Rattle.bitvec.specs.BitSpan.{span_of}
+use Rattle.bitvec.specs.Span.{Span, BecomesList, list_of}
 use Rattle.bitvec_stream.specs.declared.writer.BitWriter.{BitWriter}
 
--- the slice that it writes
-abbrev pub target : {R O : Type 0} {a b c d e f g h i : _} → BitWriter R O a b c d e f g h i → BitSliceMut R O a b c d e f g h i
-target writer = writer.slice
+-- the memory that it borrows
+abbrev pub target_memory : {R O : Type 0} {a b c d e f g h i : _} → BitWriter R O a b c d e f g h i → MutBor (List R)
+target_memory writer = writer.memory
 
--- how many bits of the slice are behind it
+-- where the bits that it may write lie in that memory, with those that it wrote
+abbrev pub target_span : {R O : Type 0} {a b c d e f g h i : _} → BitWriter R O a b c d e f g h i → Span
+target_span writer = span_of writer.span
+
+-- the numbers of the memory's words
+abbrev pub target_words : {R O : Type 0} {a b c d e f g h i : _} → BitWriter R O a b c d e f g h i → List ℕ
+target_words {a = own} writer = map own.number (target_memory writer).now
+
+-- these bits, in order
+abbrev pub target_bits : {R O : Type 0} {a b c d e f g h i : _} → BitWriter R O a b c d e f g h i → List Bool
+target_bits {a = own} {i = order} writer = list_of own.BITS order.at_of (target_span writer) (target_words writer)
+
+-- how many of them are behind it
 abbrev pub bits_written : {R O : Type 0} {a b c d e f g h i : _} → BitWriter R O a b c d e f g h i → ℕ
 bits_written writer = writer.end - writer.kept
 
 -- the bits that are behind it, in order
 abbrev pub written : {R O : Type 0} {a b c d e f g h i : _} → BitWriter R O a b c d e f g h i → List Bool
-written writer = take (writer.end - writer.kept) (lent_bits writer.slice)
+written writer = take (bits_written writer) (target_bits writer)
 
 -- the bits before it, which it may still write, as they are
 abbrev pub room : {R O : Type 0} {a b c d e f g h i : _} → BitWriter R O a b c d e f g h i → List Bool
-room writer = drop (writer.end - writer.kept) (lent_bits writer.slice)
+room writer = drop (bits_written writer) (target_bits writer)
+
+-- The bits that a writer may write, with those that it wrote, become those of a list, and all else stays: their place, the
+-- loan, every other bit of the memory, and the list of every span beside them.
+abbrev pub BecomesTarget : {R O : Type 0} {a b c d e f g h i : _} → (old new : BitWriter R O a b c d e f g h i) → List Bool → Type 0
+BecomesTarget {a = own} {i = order} old new bits =
+    (target_bits new ≡ bits) × (target_span new ≡ target_span old) × ((target_memory new).ghost_name ≡ (target_memory old).ghost_name)
+    × BecomesList own.BITS order.at_of (target_span old) (target_words old) (target_words new) bits
 
 -- A writer has written a list: it stands behind what was written, in place of as many bits of the room, and all else
--- stays: the bits behind it, and what lies outside the slice.
+-- stays: the bits behind it, and what lies outside the writer's bits.
 abbrev pub Writes : {R O : Type 0} {a b c d e f g h i : _} → (old new : BitWriter R O a b c d e f g h i) → List Bool → Type 0
 Writes old new bits =
     (written new ≡ written old ++ bits) × (room new ≡ drop (length bits) (room old)) × (bits_written new ≡ bits_written old + length bits)
-    × BecomesBits (target old) (target new) (written old ++ bits ++ drop (length bits) (room old))
+    × BecomesTarget old new (written old ++ bits ++ drop (length bits) (room old))
 
 -- A writer has passed over so many bits of its room, which are as they were.
 abbrev pub Skips : {R O : Type 0} {a b c d e f g h i : _} → (old new : BitWriter R O a b c d e f g h i) → ℕ → Type 0
 Skips old new count =
     (written new ≡ written old ++ take count (room old)) × (room new ≡ drop count (room old)) × (bits_written new ≡ bits_written old + count)
-    × (target new ≡ target old)
+    × (target_memory new ≡ target_memory old) × (target_span new ≡ target_span old)

@@ -1,14 +1,21 @@
 //! A writer of numbers that stand one behind the other into a slice of bits.
 
-ghost use Rattle.std.specs.Prelude.{◌≡◌, ◌+◌, ◌<◌, ◌≤◌, ◌%◌, ◌↔◌, ◌∷◌, ◌++◌, [], IsOk, IfOk};
+ghost use Rattle.std.specs.Prelude.{◌≡◌, ◌+◌, ◌*◌, ◌<◌, ◌≤◌, ◌%◌, ◌↔◌, ◌∷◌, ◌++◌, [], IsOk, IfOk};
 ghost use Rattle.std.specs.Prelude.{MatchResult};
-ghost use Rattle.std.specs.Prelude.{length};
-ghost use Rattle.bitvec_slice.specs.BitSlice.{slice_len, bits_of};
-ghost use Rattle.bitvec_slice.specs.BitSliceMut.{lent_span, lent_len, lent_bits};
+ghost use Rattle.std.specs.Prelude.{length, map};
+ghost use Rattle.bitvec.specs.BitSpan.{span_of, list_by};
+ghost use Rattle.bitvec.specs.Memory.{memory_bits};
+ghost use Rattle.bitvec.specs.Place.{region_max_bits};
+ghost use Rattle.bitvec.specs.Span.{Fits};
+ghost use Rattle.bitvec_slice.specs.BitSlice.{slice_memory, slice_span, slice_len, bits_of};
+ghost use Rattle.bitvec_slice.specs.BitSliceMut.{lent_memory, lent_span, lent_bits};
+ghost use Rattle.bitvec_slice.specs.Lengths.{HasLength};
+ghost use Rattle.bitvec_slice.specs.Whole.{whole_span, ShowsMemory};
 ghost use Rattle.bitvec_stream.specs.Multiples.{to_multiple};
 ghost use Rattle.bitvec_stream.specs.Window.{IsKnown};
 
 mod golomb;
+mod memory;
 mod numbers;
 mod signed;
 mod unary;
@@ -17,11 +24,15 @@ mod window;
 use crate::error::WriteError;
 use bitvec::mem::BitRegister;
 use bitvec::order::BitOrder;
+use bitvec::ptr::span::BitSpan;
 use bitvec_slice::slice::{BitSlice, BitSliceMut};
 
-/// A slice for writing, and the place in it behind the bits that were written.
+/// The bits of a span in a memory, borrowed for writing, and the place among them behind those that
+/// were written.
 ///
-/// Where a call refuses, it writes nothing and the writer is as it was. Not in the Rust crate.
+/// The memory is lent until the writer is used for the last time, and then has what was written in
+/// its place and every other bit as it was. Where a call refuses, it writes nothing and the writer is
+/// as it was. Not in the Rust crate.
 ///
 /// # Examples
 ///
@@ -29,8 +40,7 @@ use bitvec_slice::slice::{BitSlice, BitSliceMut};
 ///
 /// ```
 /// let mut header = [0x00u8; 4];
-/// let slice = BitSliceMut::<u8, Msb0>::all_unchecked(&mut header);
-/// let mut writer = BitWriter::new(slice);
+/// let mut writer = BitWriter::<u8, Msb0>::all_unchecked(&mut header);
 /// assert_eq!(rt; writer.write_be(4, 4u8), Ok(()));
 /// assert_eq!(rt; writer.write_be(4, 5u8), Ok(()));
 /// assert_eq!(rt; writer.skip(8), Ok(()));
@@ -41,37 +51,86 @@ use bitvec_slice::slice::{BitSlice, BitSliceMut};
 /// ```
 #[derive(Drop)]
 pub struct BitWriter<'a, R: BitRegister, O: BitOrder<R>> {
-    slice: BitSliceMut<'a, R, O>,
+    memory: &'a mut [R],
+    span: BitSpan<R, O>,
     // How many bits were written, or stand behind those in a word that is known; and of them, how
     // many stand there: 0 where no word is known.
     end: usize,
     kept: usize,
-    // Which word of the slice that is, and its digits.
+    // Which word of those that the span meets that is, and its number. A value of type `R` beside the
+    // loan would hide from the checker what the memory has when the loan ends.
     word: usize,
-    window: R,
-    pub ghost within: { end ≤ lent_len slice },
+    window: u128,
+    pub ghost fits: { Fits R.BITS (span_of span) (length memory.now) },
+    pub ghost many: { HasLength R.BITS O.at_of (span_of span) },
+    pub ghost within: { end ≤ (span_of span).len },
     pub ghost behind: { kept ≤ end },
-    pub ghost shown: { IsKnown R.BITS O.at_of (lent_span slice).head (lent_bits slice) end kept word
-        (R.number window) },
+    pub ghost shown: { IsKnown R.BITS O.at_of (span_of span).head (list_by span O.at_of memory.now)
+        end kept word window },
 }
 
 impl<'a, R: BitRegister, O: BitOrder<R>> BitWriter<'a, R, O> {
-    ghost use Rattle.bitvec_stream.specs.Writer.{target, bits_written, written, room};
-    ghost use Rattle.bitvec_stream.specs.Writer.{Writes, Skips};
+    ghost use Rattle.bitvec_stream.specs.Writer.{target_memory, target_span, target_bits};
+    ghost use Rattle.bitvec_stream.specs.Writer.{bits_written, written, room, Writes, Skips};
 
-    /// A writer before the first bit of a slice. Constant time. Not in the Rust crate.
-    pub fn new(slice: BitSliceMut<'a, R, O>) -> Self
-        ensures target { target result ≡ slice.entry }
+    /// A writer before the first bit of a span in a memory. Requires that the span lies in it:
+    /// [`fits`](BitSpan::fits) is the test. Constant time. Not in the Rust crate.
+    pub fn over_unchecked(span: BitSpan<R, O>, memory: &'a mut [R]) -> Self
+        requires { Fits R.BITS (span_of span) (length memory.old) }
+        ensures reference { (target_memory result).ghost_name ≡ memory.entry.ghost_name }
+        ensures memory { (target_memory result).now ≡ memory.old }
+        ensures span { target_span result ≡ span_of span }
         ensures position { bits_written result ≡ 0 }
-        ensures room { room result ≡ lent_bits slice.entry }
+        ensures room { room result ≡ list_by span O.at_of memory.old }
     {
         BitWriter {
-            slice,
+            memory,
+            span,
             end: 0,
             kept: 0,
             word: 0,
-            window: R::ZERO,
+            window: 0,
         }
+    }
+
+    /// A writer before the first bit of a memory. Requires that there are at most
+    /// 2305843009213693951. Constant time. Not in the Rust crate.
+    pub fn all_unchecked(memory: &'a mut [R]) -> Self
+        requires { length memory.old * R.BITS ≤ region_max_bits }
+        ensures reference { (target_memory result).ghost_name ≡ memory.entry.ghost_name }
+        ensures memory { (target_memory result).now ≡ memory.old }
+        ensures span { target_span result ≡ whole_span R.BITS (length memory.old) }
+        ensures position { bits_written result ≡ 0 }
+        ensures room { room result ≡ memory_bits R.BITS O.at_of (map R.number memory.old) }
+        ensures whole { ShowsMemory R.BITS O.at_of (target_span result) (length memory.old) }
+    {
+        Self::new(BitSliceMut::all_unchecked(memory))
+    }
+
+    /// A writer before the first bit of a slice. Constant time. Not in the Rust crate.
+    ///
+    /// A proof follows the memory through [`over_unchecked`](BitWriter::over_unchecked) and
+    /// [`all_unchecked`](BitWriter::all_unchecked), and not through a slice by value.
+    pub fn new(slice: BitSliceMut<'a, R, O>) -> Self
+        ensures reference { (target_memory result).ghost_name
+            ≡ (lent_memory slice.entry).ghost_name }
+        ensures memory { (target_memory result).now ≡ (lent_memory slice.entry).now }
+        ensures span { target_span result ≡ lent_span slice.entry }
+        ensures position { bits_written result ≡ 0 }
+        ensures room { room result ≡ lent_bits slice.entry }
+    {
+        let (span, memory) = slice.into_parts();
+        Self::over_unchecked(span, memory)
+    }
+
+    // The bits that it may write, with those that it wrote, for reading.
+    #[inline(always)]
+    fn slice(&self) -> BitSlice<'_, R, O>
+        ensures memory { slice_memory result ≡ (target_memory self.now).now }
+        ensures span { slice_span result ≡ target_span self.now }
+        ensures bits { bits_of result ≡ target_bits self.now }
+    {
+        BitSlice::new_unchecked(self.span, &*self.memory)
     }
 
     /// How many bits were written or passed over. Constant time. Not in the Rust crate.
@@ -86,7 +145,7 @@ impl<'a, R: BitRegister, O: BitOrder<R>> BitWriter<'a, R, O> {
     pub fn remaining(&self) -> usize
         ensures { result ≡ length (room self.now) }
     {
-        self.slice.len() - self.position()
+        self.span.len() - self.position()
     }
 
     /// What was written or passed over, for reading. Constant time. Not in the Rust crate.
@@ -95,8 +154,7 @@ impl<'a, R: BitRegister, O: BitOrder<R>> BitWriter<'a, R, O> {
     ///
     /// ```
     /// let mut memory = [0x00u8; 2];
-    /// let slice = BitSliceMut::<u8, Lsb0>::all_unchecked(&mut memory);
-    /// let mut writer = BitWriter::new(slice);
+    /// let mut writer = BitWriter::<u8, Lsb0>::all_unchecked(&mut memory);
     /// writer.write_le(5, 11u8)?;
     /// assert_eq!(rt; writer.written().len(), 5);
     /// let mut reader = BitReader::new(writer.written());
@@ -105,17 +163,20 @@ impl<'a, R: BitRegister, O: BitOrder<R>> BitWriter<'a, R, O> {
     pub fn written(&self) -> BitSlice<'_, R, O>
         ensures { bits_of result ≡ written self.now }
     {
-        let (written, _) = self.slice.as_bitslice().split_at(self.position());
+        let (written, _) = self.slice().split_at(self.position());
         written
     }
 
     /// The whole slice, with what was written in its first [`position`](BitWriter::position) bits
     /// and the rest as it was. Constant time. Not in the Rust crate.
     pub fn finish(self) -> BitSliceMut<'a, R, O>
-        ensures slice { result ≡ target self.entry }
+        ensures reference { (lent_memory result).ghost_name
+            ≡ (target_memory self.entry).ghost_name }
+        ensures memory { (lent_memory result).now ≡ (target_memory self.entry).now }
+        ensures span { lent_span result ≡ target_span self.entry }
         ensures bits { lent_bits result ≡ written self.entry ++ room self.entry }
     {
-        self.slice
+        BitSliceMut::new_unchecked(self.span, self.memory)
     }
 
     /// Writes a bit. It refuses with `NoRoom` exactly where there is room for none. Constant time.
@@ -126,11 +187,11 @@ impl<'a, R: BitRegister, O: BitOrder<R>> BitWriter<'a, R, O> {
             (λ error. (error ≡ WriteError.NoRoom) × (self.new ≡ self.old)) }
     {
         let position = self.position();
-        if self.slice.len() <= position {
+        if self.span.len() <= position {
             return Err(WriteError::NoRoom);
         }
         self.kept = 0;
-        self.slice.set(position, bit);
+        self.span.write(self.memory, position, bit);
         self.end = position + 1;
         Ok(())
     }
@@ -142,7 +203,7 @@ impl<'a, R: BitRegister, O: BitOrder<R>> BitWriter<'a, R, O> {
     {
         let (position, count) = (self.position(), source.len());
         self.kept = 0;
-        self.slice.copy_from_range(position, source);
+        memory::copy_bits(self.span, self.memory, position, source);
         self.end = position + count;
     }
 
@@ -155,8 +216,7 @@ impl<'a, R: BitRegister, O: BitOrder<R>> BitWriter<'a, R, O> {
     /// let source = [0xA0u8];
     /// let part = BitSlice::<u8, Msb0>::all_unchecked(&source);
     /// let mut memory = [0x0000u16];
-    /// let slice = BitSliceMut::<u16, Lsb0>::all_unchecked(&mut memory);
-    /// let mut writer = BitWriter::new(slice);
+    /// let mut writer = BitWriter::<u16, Lsb0>::all_unchecked(&mut memory);
     /// writer.skip(4)?;
     /// writer.write_slice(part)?;
     /// assert_eq!(rt; writer.write_slice(part), Err(WriteError::NoRoom));

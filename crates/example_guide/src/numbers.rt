@@ -37,14 +37,14 @@ pub fn length_of<R: BitRegister, O: BitOrder<R>>(
 mod tests {
     use super::{length_of, write_header};
     use bitvec::order::Msb0;
-    use bitvec_slice::slice::{BitSlice, BitSliceMut};
+    use bitvec_slice::slice::BitSlice;
     use bitvec_stream::error::{ReadError, WriteError};
     use bitvec_stream::writer::BitWriter;
 
     #[test]
     fn a_header_is_written_and_read(rt: HostRuntime) {
         let mut bytes = [0xFFu8; 4];
-        let mut writer = BitWriter::new(BitSliceMut::<u8, Msb0>::all_unchecked(&mut bytes));
+        let mut writer = BitWriter::<u8, Msb0>::all_unchecked(&mut bytes);
         assert_eq!(rt; write_header(&mut writer, 1500), Ok(()));
         assert_eq!(rt; write_header(&mut writer, 1500), Err(WriteError::NoRoom));
         assert_eq!(rt; length_of(writer.written()), Ok(1500));

@@ -19,13 +19,7 @@ module _ (at : ℕ → ℕ) (blocks : ℕ) (span : Span) (is : span ≡ map_span
       let was = subst (λ (us : List ℕ). BecomesList 64 at (map_span blocks) us (map (λ w. w) new) (f (list_of 64 at (map_span blocks) us))) (map-id old) here in
       subst (λ (us : List ℕ). BecomesList 64 at (map_span blocks) old us (f (stored_blocks at blocks old))) (map-id new) was
 
-  -- the same of words that were lent for it, and came back
-  pub edited_lent : (old lent left new : List ℕ) (f : List Bool → List Bool) → lent ≡ old → new ≡ left → BecomesList 64 at span (map (λ w. w) lent) (map (λ w. w) left) (f (list_of 64 at span (map (λ w. w) lent)))
-      → BecomesList 64 at (map_span blocks) old new (f (stored_blocks at blocks old))
-  edited_lent old lent left new f out back edit =
-      let was = subst (λ (us : List ℕ). BecomesList 64 at span (map (λ w. w) us) (map (λ w. w) left) (f (list_of 64 at span (map (λ w. w) us)))) out edit in
-      edited_words old new f (subst (λ (us : List ℕ). BecomesList 64 at span (map (λ w. w) old) (map (λ w. w) us) (f (list_of 64 at span (map (λ w. w) old)))) (sym back) was)
-
+  -- the same of as many blocks as there were
   pub edited : (old new : List ℕ) (f : List Bool → List Bool) → BecomesList 64 at span (map (λ w. w) old) (map (λ w. w) new) (f (list_of 64 at span (map (λ w. w) old)))
       → BecomesList 64 at (map_span (length (stored_blocks at blocks old))) old new (f (stored_blocks at blocks old))
   edited old new f edit = subst (λ n. BecomesList 64 at (map_span n) old new (f (stored_blocks at blocks old))) (sym (stored_long at blocks old)) (edited_words old new f edit)

@@ -32,6 +32,17 @@ fn a_bit_slice_for_writing(rt: HostRuntime) -> Result<(), Fail> {
 }
 
 #[test]
+fn the_parts_of_a_bit_slice(rt: HostRuntime) -> Result<(), Fail> {
+    let mut memory = [0x00u8; 2];
+    let mut slice = BitSliceMut::<u8, Msb0>::all_unchecked(&mut memory);
+    slice.set(0, true);
+    let (span, words) = slice.into_parts();
+    assert_eq!(rt; span.len(), 16);
+    assert_eq!(rt; words[0], 0x80);
+    Ok(())
+}
+
+#[test]
 fn an_iterator(rt: HostRuntime) -> Result<(), Fail> {
     let memory = [0x0Bu8];
     let span: BitSpan<u8, Lsb0> = BitSpan::new(0, BitIdx::new_unchecked(0), 4).unwrap();

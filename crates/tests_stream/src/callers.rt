@@ -1,18 +1,22 @@
 //! Callers of the codes and of unary numbers, with what they know of the bits.
 
 ghost use Rattle.std.specs.Prelude.{◌≡◌, ◌^◌, ◌≤◌, ◌++◌, ◌∷◌, [], true, false};
-ghost use Rattle.std.specs.Prelude.{MatchOption, MatchResult, IfOk, drop, length, replicate};
+ghost use Rattle.std.specs.Prelude.{MatchOption, MatchResult, IfOk, IfErr, drop, length, replicate};
+ghost use Rattle.bitvec.specs.BitSpan.{span_of, list_by, Becomes};
+ghost use Rattle.bitvec.specs.Span.{Fits};
 ghost use Rattle.bitvec.specs.Truths.{AllAre};
 ghost use Rattle.bitvec_slice.specs.BitSlice.{bits_of};
 ghost use Rattle.bitvec_slice.specs.Bits.{BeginsWith};
 ghost use Rattle.bitvec_stream.specs.Golomb.{golomb, signed_place, StartsWith};
 ghost use Rattle.bitvec_stream.specs.Golomb.{IsSignedLacking};
+ghost use Rattle.bitvec_stream.specs.Numbers.{digits_be};
 ghost use Rattle.bitvec_stream.specs.Reader.{rest};
 ghost use Rattle.bitvec_stream.specs.Refusals.{IsCodeRefusal};
 ghost use Rattle.bitvec_stream.specs.Writer.{written, room};
 
 use bitvec::mem::BitRegister;
 use bitvec::order::BitOrder;
+use bitvec::ptr::span::BitSpan;
 use bitvec_slice::slice::BitSlice;
 use bitvec_stream::error::{ReadError, WriteError};
 use bitvec_stream::reader::BitReader;
@@ -102,13 +106,32 @@ fn write_zeros<R: BitRegister, O: BitOrder<R>>(
     writer.write_unary(false, count)
 }
 
+/// Writes a number at the start of a span, and says each bit of its memory afterwards.
+fn put_number<R: BitRegister, O: BitOrder<R>>(
+    span: BitSpan<R, O>,
+    memory: &mut [R],
+    count: usize,
+    number: u64,
+) -> Result<(), WriteError>
+    requires fits { Fits R.BITS (span_of span) (length memory.old) }
+    requires few { count ≤ 64 }
+    ensures written { IfOk result (λ _. Becomes span O.at_of memory.old memory.new
+        (digits_be count number ++ drop (length (digits_be count number))
+        (list_by span O.at_of memory.old))) }
+    ensures kept { IfErr result (λ _. memory.new ≡ memory.old) }
+{
+    let mut writer = BitWriter::over_unchecked(span, memory);
+    writer.write_be(count, number)
+}
+
 #[cfg(test)]
 mod tests {
     use super::{
-        code_length, first_unary, read_code, read_signed_code, write_code, write_signed_code,
-        write_zeros,
+        code_length, first_unary, put_number, read_code, read_signed_code, write_code,
+        write_signed_code, write_zeros,
     };
     use bitvec::order::{Lsb0, Msb0};
+    use bitvec::ptr::span::BitSpan;
     use bitvec_slice::slice::BitSliceMut;
     use bitvec_stream::error::{ReadError, WriteError};
     use bitvec_stream::reader::BitReader;
@@ -117,8 +140,7 @@ mod tests {
     #[test]
     fn what_callers_read_and_write(rt: HostRuntime) {
         let mut memory = [0x00u8; 2];
-        let slice = BitSliceMut::<u8, Msb0>::all_unchecked(&mut memory);
-        let mut writer = BitWriter::new(slice);
+        let mut writer = BitWriter::<u8, Msb0>::all_unchecked(&mut memory);
         assert_eq!(rt; write_code(&mut writer, 7), Ok(()));
         assert_eq!(rt; write_signed_code(&mut writer, -1), Ok(()));
         assert_eq!(rt; write_zeros(&mut writer, 2), Ok(()));
@@ -132,6 +154,19 @@ mod tests {
         assert_eq!(rt; code_length(&mut reader), Ok(7));
         assert_eq!(rt; code_length(&mut reader), Ok(3));
         assert_eq!(rt; code_length(&mut reader), Err(ReadError::Unended));
+    }
+
+    #[test]
+    fn a_number_in_a_memory(rt: HostRuntime) {
+        let mut memory = [0xFFu8; 3];
+        let span: BitSpan<u8, Lsb0> = BitSpan::at_unchecked(4, 12);
+        assert_eq!(rt; put_number(span, &mut memory, 8, 0x12), Ok(()));
+        assert_eq!(rt; memory, [0x8F, 0xF4, 0xFF]);
+        assert_eq!(rt;
+            put_number(span, &mut memory, 13, 0),
+            Err(WriteError::NoRoom)
+        );
+        assert_eq!(rt; memory, [0x8F, 0xF4, 0xFF]);
     }
 
     #[test]

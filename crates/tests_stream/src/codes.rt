@@ -31,8 +31,7 @@ fn text_of(alloc: Global, bits: BitSlice<'_, u16, Lsb0>) -> Result<String, Alloc
 /// The text of the code that is written of a number, and what is read of it.
 fn written_code(alloc: Global, number: u8) -> Result<(String, Option<u8>), Fail> {
     let mut memory = [0xFFu16; 3];
-    let slice = BitSliceMut::<u16, Lsb0>::all_unchecked(&mut memory);
-    let mut writer = BitWriter::new(slice);
+    let mut writer = BitWriter::<u16, Lsb0>::all_unchecked(&mut memory);
     writer.write_exp_golomb(number)?;
     let code = writer.written();
     let mut reader = BitReader::new(code);
@@ -43,8 +42,7 @@ fn written_code(alloc: Global, number: u8) -> Result<(String, Option<u8>), Fail>
 /// The same of a signed number.
 fn written_signed_code(alloc: Global, number: i8) -> Result<(String, Option<i8>), Fail> {
     let mut memory = [0xFFu16; 3];
-    let slice = BitSliceMut::<u16, Lsb0>::all_unchecked(&mut memory);
-    let mut writer = BitWriter::new(slice);
+    let mut writer = BitWriter::<u16, Lsb0>::all_unchecked(&mut memory);
     writer.write_signed_exp_golomb(number)?;
     let code = writer.written();
     let mut reader = BitReader::new(code);
@@ -70,8 +68,7 @@ fn codes_of_the_tables(rt: HostRuntime) -> Result<(), Fail> {
 /// What is read of a number's code, as a number of another type.
 fn passed<N: BitRegister, M: BitRegister>(number: N) -> Result<Result<M, ReadError>, WriteError> {
     let mut memory = [0u64; 5];
-    let slice = BitSliceMut::<u64, Msb0>::all_unchecked(&mut memory);
-    let mut writer = BitWriter::new(slice);
+    let mut writer = BitWriter::<u64, Msb0>::all_unchecked(&mut memory);
     writer.write_exp_golomb(number)?;
     Ok(BitReader::new(writer.written()).read_exp_golomb())
 }
@@ -81,8 +78,7 @@ fn passed_signed<N: SignedNumber, M: SignedNumber>(
     number: N,
 ) -> Result<Result<M, ReadError>, WriteError> {
     let mut memory = [0u64; 5];
-    let slice = BitSliceMut::<u64, Msb0>::all_unchecked(&mut memory);
-    let mut writer = BitWriter::new(slice);
+    let mut writer = BitWriter::<u64, Msb0>::all_unchecked(&mut memory);
     writer.write_signed_exp_golomb(number)?;
     Ok(BitReader::new(writer.written()).read_signed_exp_golomb())
 }

@@ -1,7 +1,7 @@
 //! The examples in the documents of streams.
 
 use bitvec::order::{Lsb0, Msb0};
-use bitvec_slice::slice::{BitSlice, BitSliceMut};
+use bitvec_slice::slice::BitSlice;
 use bitvec_stream::error::{ReadError, WriteError};
 use bitvec_stream::reader::BitReader;
 use bitvec_stream::writer::BitWriter;
@@ -74,8 +74,7 @@ fn golomb_codes(rt: HostRuntime) {
 #[test]
 fn a_writer(rt: HostRuntime) {
     let mut header = [0x00u8; 4];
-    let slice = BitSliceMut::<u8, Msb0>::all_unchecked(&mut header);
-    let mut writer = BitWriter::new(slice);
+    let mut writer = BitWriter::<u8, Msb0>::all_unchecked(&mut header);
     assert_eq!(rt; writer.write_be(4, 4u8), Ok(()));
     assert_eq!(rt; writer.write_be(4, 5u8), Ok(()));
     assert_eq!(rt; writer.skip(8), Ok(()));
@@ -88,8 +87,7 @@ fn a_writer(rt: HostRuntime) {
 #[test]
 fn what_was_written(rt: HostRuntime) -> Result<(), Fail> {
     let mut memory = [0x00u8; 2];
-    let slice = BitSliceMut::<u8, Lsb0>::all_unchecked(&mut memory);
-    let mut writer = BitWriter::new(slice);
+    let mut writer = BitWriter::<u8, Lsb0>::all_unchecked(&mut memory);
     writer.write_le(5, 11u8)?;
     assert_eq!(rt; writer.written().len(), 5);
     let mut reader = BitReader::new(writer.written());
@@ -102,8 +100,7 @@ fn a_slice_written(rt: HostRuntime) -> Result<(), Fail> {
     let source = [0xA0u8];
     let part = BitSlice::<u8, Msb0>::all_unchecked(&source);
     let mut memory = [0x0000u16];
-    let slice = BitSliceMut::<u16, Lsb0>::all_unchecked(&mut memory);
-    let mut writer = BitWriter::new(slice);
+    let mut writer = BitWriter::<u16, Lsb0>::all_unchecked(&mut memory);
     writer.skip(4)?;
     writer.write_slice(part)?;
     assert_eq!(rt; writer.write_slice(part), Err(WriteError::NoRoom));
@@ -116,8 +113,7 @@ fn a_slice_written(rt: HostRuntime) -> Result<(), Fail> {
 #[test]
 fn little_endian_numbers_written(rt: HostRuntime) {
     let mut memory = [0xFFu8];
-    let slice = BitSliceMut::<u8, Lsb0>::all_unchecked(&mut memory);
-    let mut writer = BitWriter::new(slice);
+    let mut writer = BitWriter::<u8, Lsb0>::all_unchecked(&mut memory);
     assert_eq!(rt; writer.write_le(2, 0u32), Ok(()));
     assert_eq!(rt; writer.write_le(3, 11u32), Err(WriteError::TooManyDigits));
     assert_eq!(rt; writer.write_le(4, 11u32), Ok(()));
@@ -129,8 +125,7 @@ fn little_endian_numbers_written(rt: HostRuntime) {
 #[test]
 fn signed_numbers_written(rt: HostRuntime) {
     let mut memory = [0x0Fu8];
-    let slice = BitSliceMut::<u8, Msb0>::all_unchecked(&mut memory);
-    let mut writer = BitWriter::new(slice);
+    let mut writer = BitWriter::<u8, Msb0>::all_unchecked(&mut memory);
     assert_eq!(rt;
         writer.write_signed_be(4, 8i32),
         Err(WriteError::TooManyDigits)
@@ -143,8 +138,7 @@ fn signed_numbers_written(rt: HostRuntime) {
 #[test]
 fn unary_numbers_written(rt: HostRuntime) {
     let mut memory = [0x00u8];
-    let slice = BitSliceMut::<u8, Msb0>::all_unchecked(&mut memory);
-    let mut writer = BitWriter::new(slice);
+    let mut writer = BitWriter::<u8, Msb0>::all_unchecked(&mut memory);
     assert_eq!(rt; writer.write_unary(true, 3), Ok(()));
     assert_eq!(rt; writer.write_unary(false, 1), Ok(()));
     assert_eq!(rt; writer.write_unary(false, 2), Err(WriteError::NoRoom));
@@ -155,8 +149,7 @@ fn unary_numbers_written(rt: HostRuntime) {
 #[test]
 fn golomb_codes_written(rt: HostRuntime) {
     let mut memory = [0x00u8; 2];
-    let slice = BitSliceMut::<u8, Msb0>::all_unchecked(&mut memory);
-    let mut writer = BitWriter::new(slice);
+    let mut writer = BitWriter::<u8, Msb0>::all_unchecked(&mut memory);
     for number in 0u8..4 {
         assert_eq!(rt; writer.write_exp_golomb(number), Ok(()));
     }

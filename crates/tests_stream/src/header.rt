@@ -10,7 +10,6 @@ ghost use Rattle.tests_stream.specs.Header.{header_ways, header_values, header_i
 use bitvec::mem::BitRegister;
 use bitvec::order::BitOrder;
 use bitvec::ptr::span::BitSpan;
-use bitvec_slice::slice::BitSliceMut;
 use bitvec_stream::error::{ReadError, WriteError};
 use bitvec_stream::reader::BitReader;
 use bitvec_stream::writer::BitWriter;
@@ -80,7 +79,7 @@ fn passed<R: BitRegister, O: BitOrder<R>>(
     if !span.fits(memory.len()) {
         return None;
     }
-    let mut writer = BitWriter::new(BitSliceMut::new_unchecked(span, memory));
+    let mut writer = BitWriter::over_unchecked(span, memory);
     match write_header(header, &mut writer) {
         Ok(()) => {}
         Err(_) => return None,

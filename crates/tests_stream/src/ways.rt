@@ -135,7 +135,7 @@ mod tests {
         write_both_ways, write_if_it_can, write_marked,
     };
     use bitvec::order::{Lsb0, Msb0};
-    use bitvec_slice::slice::{BitSlice, BitSliceMut};
+    use bitvec_slice::slice::BitSlice;
     use bitvec_stream::error::{ReadError, WriteError};
     use bitvec_stream::reader::BitReader;
     use bitvec_stream::writer::BitWriter;
@@ -144,8 +144,7 @@ mod tests {
     #[test]
     fn each_way(rt: HostRuntime) -> Result<(), Fail> {
         let mut memory = [0x00u16; 4];
-        let slice = BitSliceMut::<u16, Msb0>::all_unchecked(&mut memory);
-        let mut writer = BitWriter::new(slice);
+        let mut writer = BitWriter::<u16, Msb0>::all_unchecked(&mut memory);
         write_both_ways(&mut writer, 0xA1)?;
         write_both_signed_ways(&mut writer, -2)?;
         let bits = [0x05u8];

@@ -39,8 +39,7 @@ fn numbers_of_128_bits(rt: HostRuntime) -> Result<(), Fail> {
 #[test]
 fn places_at_multiples(rt: HostRuntime) -> Result<(), Fail> {
     let mut memory = [0xA5u32; 2];
-    let slice = BitSliceMut::<u32, Lsb0>::all_unchecked(&mut memory);
-    let mut writer = BitWriter::new(slice);
+    let mut writer = BitWriter::<u32, Lsb0>::all_unchecked(&mut memory);
     writer.skip_to_multiple(8)?;
     assert_eq!(rt; writer.position(), 0);
     writer.skip(9)?;
@@ -73,8 +72,7 @@ fn a_slice_of_another_order(rt: HostRuntime) -> Result<(), Fail> {
     let source = [0x12345678u32];
     let part = BitSlice::<u32, Msb0>::all_unchecked(&source);
     let mut memory = [0u8; 5];
-    let slice = BitSliceMut::<u8, Lsb0>::all_unchecked(&mut memory);
-    let mut writer = BitWriter::new(slice);
+    let mut writer = BitWriter::<u8, Lsb0>::all_unchecked(&mut memory);
     writer.skip(3)?;
     writer.write_slice(part)?;
     let mut reader = BitReader::new(writer.written());

@@ -58,6 +58,17 @@ impl<'a, R: BitRegister, O: BitOrder<R>> Copy for BitSlice<'a, R, O> {}
 impl<'a, R: BitRegister, O: BitOrder<R>> BitSlice<'a, R, O> {
     ghost use Rattle.bitvec_slice.specs.BitSlice.{slice_memory, slice_span, slice_len, bits_of};
 
+    /// The bits of a span in a memory. Requires that the span lies in it: [`fits`](BitSpan::fits)
+    /// is the test. Constant time. Not in the Rust crate.
+    pub fn new_unchecked(span: BitSpan<R, O>, memory: &'a [R]) -> Self
+        requires { Fits R.BITS (span_of span) (length memory.now) }
+        ensures memory { slice_memory result ≡ memory.now }
+        ensures span { slice_span result ≡ span_of span }
+        ensures bits { bits_of result ≡ list_by span O.at_of memory.now }
+    {
+        BitSlice { memory, span }
+    }
+
     /// The bits of a span in a memory, and `None` exactly where the span does not lie in it.
     /// Constant time.
     pub fn new(span: BitSpan<R, O>, memory: &'a [R]) -> Option<Self>
@@ -68,7 +79,7 @@ impl<'a, R: BitRegister, O: BitOrder<R>> BitSlice<'a, R, O> {
             ≡ list_by span O.at_of memory.now) }
     {
         if span.fits(memory.len()) {
-            Some(BitSlice { memory, span })
+            Some(Self::new_unchecked(span, memory))
         } else {
             None
         }

@@ -108,10 +108,28 @@ impl<'a, R: BitRegister, O: BitOrder<R>> BitSliceMut<'a, R, O> {
         ensures span { slice_span result ≡ lent_span self.now }
         ensures bits { bits_of result ≡ lent_bits self.now }
     {
-        BitSlice {
-            memory: &*self.memory,
-            span: self.span(),
-        }
+        BitSlice::new_unchecked(self.span(), &*self.memory)
+    }
+
+    /// The span of its bits, and the memory that it borrows, as it is: what
+    /// [`new_unchecked`](BitSliceMut::new_unchecked) takes. Constant time. Not in the Rust crate.
+    ///
+    /// # Examples
+    ///
+    /// ```
+    /// let mut memory = [0x00u8; 2];
+    /// let mut slice = BitSliceMut::<u8, Msb0>::all_unchecked(&mut memory);
+    /// slice.set(0, true);
+    /// let (span, words) = slice.into_parts();
+    /// assert_eq!(rt; span.len(), 16);
+    /// assert_eq!(rt; words[0], 0x80);
+    /// ```
+    pub fn into_parts(self) -> (BitSpan<R, O>, &'a mut [R])
+        ensures span { span_of result.0 ≡ lent_span self.entry }
+        ensures reference { result.1.ghost_name ≡ (lent_memory self.entry).ghost_name }
+        ensures memory { result.1.now ≡ (lent_memory self.entry).now }
+    {
+        (self.span(), self.memory)
     }
 
     /// How many bits there are. Constant time.

@@ -62,8 +62,7 @@ impl<'a, R: BitRegister, O: BitOrder<R>> BitWriter<'a, R, O> {
     ///
     /// ```
     /// let mut memory = [0x00u8; 2];
-    /// let slice = BitSliceMut::<u8, Msb0>::all_unchecked(&mut memory);
-    /// let mut writer = BitWriter::new(slice);
+    /// let mut writer = BitWriter::<u8, Msb0>::all_unchecked(&mut memory);
     /// for number in 0u8..4 {
     ///     assert_eq!(rt; writer.write_exp_golomb(number), Ok(()));
     /// }

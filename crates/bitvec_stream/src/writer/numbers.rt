@@ -5,7 +5,7 @@ ghost use Rattle.std.specs.Prelude.{length};
 ghost use Rattle.bitvec_stream.specs.Numbers.{digits_le, digits_be};
 
 use crate::error::WriteError;
-use crate::writer::BitWriter;
+use crate::writer::{BitWriter, memory};
 use bitvec::mem;
 use bitvec::mem::BitRegister;
 use bitvec::order::BitOrder;
@@ -46,10 +46,9 @@ impl<'a, R: BitRegister, O: BitOrder<R>> BitWriter<'a, R, O> {
         ensures { Writes self.old self.new (digits_le count (N.number digits)) }
     {
         let position = self.position();
-        let end = position + count;
         self.kept = 0;
-        self.slice.store_digits_le(position, end, digits);
-        self.end = end;
+        memory::store_le(self.span, self.memory, position, count, digits);
+        self.end = position + count;
     }
 
     /// Writes a number in `count` bits, the first the highest digit. It refuses with `NoRoom`
@@ -96,8 +95,7 @@ impl<'a, R: BitRegister, O: BitOrder<R>> BitWriter<'a, R, O> {
     ///
     /// ```
     /// let mut memory = [0xFFu8];
-    /// let slice = BitSliceMut::<u8, Lsb0>::all_unchecked(&mut memory);
-    /// let mut writer = BitWriter::new(slice);
+    /// let mut writer = BitWriter::<u8, Lsb0>::all_unchecked(&mut memory);
     /// assert_eq!(rt; writer.write_le(2, 0u32), Ok(()));
     /// assert_eq!(rt; writer.write_le(3, 11u32), Err(WriteError::TooManyDigits));
     /// assert_eq!(rt; writer.write_le(4, 11u32), Ok(()));

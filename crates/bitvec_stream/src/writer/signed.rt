@@ -53,8 +53,7 @@ impl<'a, R: BitRegister, O: BitOrder<R>> BitWriter<'a, R, O> {
     ///
     /// ```
     /// let mut memory = [0x0Fu8];
-    /// let slice = BitSliceMut::<u8, Msb0>::all_unchecked(&mut memory);
-    /// let mut writer = BitWriter::new(slice);
+    /// let mut writer = BitWriter::<u8, Msb0>::all_unchecked(&mut memory);
     /// assert_eq!(rt; writer.write_signed_be(4, 8i32), Err(WriteError::TooManyDigits));
     /// assert_eq!(rt; writer.write_signed_be(4, -5i32), Ok(()));
     /// drop(writer);

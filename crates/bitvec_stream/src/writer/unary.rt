@@ -5,7 +5,7 @@ ghost use Rattle.std.specs.Prelude.{length};
 ghost use Rattle.std.specs.Prelude.{replicate};
 
 use crate::error::WriteError;
-use crate::writer::BitWriter;
+use crate::writer::{BitWriter, memory};
 use bitvec::mem::BitRegister;
 use bitvec::order::BitOrder;
 
@@ -18,10 +18,9 @@ impl<'a, R: BitRegister, O: BitOrder<R>> BitWriter<'a, R, O> {
         ensures { Writes self.old self.new (replicate count bit) }
     {
         let position = self.position();
-        let end = position + count;
         self.kept = 0;
-        self.slice.fill_range(position, end, bit);
-        self.end = end;
+        memory::fill_bits(self.span, self.memory, position, count, bit);
+        self.end = position + count;
     }
 
     /// Writes `count` bits that are `bit`, and one that is not, so that
@@ -32,8 +31,7 @@ impl<'a, R: BitRegister, O: BitOrder<R>> BitWriter<'a, R, O> {
     ///
     /// ```
     /// let mut memory = [0x00u8];
-    /// let slice = BitSliceMut::<u8, Msb0>::all_unchecked(&mut memory);
-    /// let mut writer = BitWriter::new(slice);
+    /// let mut writer = BitWriter::<u8, Msb0>::all_unchecked(&mut memory);
     /// assert_eq!(rt; writer.write_unary(true, 3), Ok(()));
     /// assert_eq!(rt; writer.write_unary(false, 1), Ok(()));
     /// assert_eq!(rt; writer.write_unary(false, 2), Err(WriteError::NoRoom));

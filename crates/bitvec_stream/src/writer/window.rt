@@ -4,10 +4,9 @@
 ghost use Rattle.std.specs.Prelude.{◌≡◌, ℕ, ◌+◌, ◌-◌, ◌*◌, ◌<◌, ◌≤◌, length};
 ghost use Rattle.bitvec.specs.Digit.{digit};
 ghost use Rattle.bitvec.specs.Order.{Falls};
-ghost use Rattle.bitvec_slice.specs.BitSliceMut.{lent_span, lent_len};
 ghost use Rattle.bitvec_stream.specs.Numbers.{digits_be};
 
-use crate::writer::BitWriter;
+use crate::writer::{BitWriter, memory};
 use bitvec::mem;
 use bitvec::mem::BitRegister;
 use bitvec::order::{BitOrder, Direction, direction_of};
@@ -30,7 +29,7 @@ fn replaced<R: BitRegister, N: BitRegister>(word: R, from: usize, count: usize, 
 }
 
 impl<'a, R: BitRegister, O: BitOrder<R>> BitWriter<'a, R, O> {
-    ghost use Rattle.bitvec_stream.specs.Writer.{target, bits_written, room, Writes};
+    ghost use Rattle.bitvec_stream.specs.Writer.{target_memory, target_span, bits_written, room, Writes};
 
     // Writes the `count` lowest digits of a number, the highest of them first, into the word that is
     // known.
@@ -45,10 +44,11 @@ impl<'a, R: BitRegister, O: BitOrder<R>> BitWriter<'a, R, O> {
         ensures left { self.new.kept ≡ self.old.kept - count }
     {
         let left = self.kept - count;
-        let word = replaced(self.window, left, count, digits);
+        let known = low_digits::<R, u128>(self.window);
+        let word = replaced(known, left, count, digits);
         self.kept = 0;
-        self.slice.set_whole_word(self.word, word);
-        self.window = word;
+        memory::put_word(self.span, self.memory, self.word, word);
+        self.window = word.to_u128();
         self.kept = left;
     }
 
@@ -57,16 +57,17 @@ impl<'a, R: BitRegister, O: BitOrder<R>> BitWriter<'a, R, O> {
     fn step(&mut self)
         requires falls { Falls R.BITS O.at_of }
         requires none { self.old.kept ≡ 0 }
-        requires ends { (lent_span (target self.old)).head + self.old.end
+        requires ends { (target_span self.old).head + self.old.end
             ≡ self.old.word * R.BITS + R.BITS }
-        requires room { self.old.end + R.BITS ≤ lent_len (target self.old) }
-        ensures target { target self.new ≡ target self.old }
+        requires room { self.old.end + R.BITS ≤ (target_span self.old).len }
+        ensures memory { target_memory self.new ≡ target_memory self.old }
+        ensures span { target_span self.new ≡ target_span self.old }
         ensures position { bits_written self.new ≡ bits_written self.old }
         ensures kept { self.new.kept ≡ R.BITS }
     {
         let width = mem::bits_of::<R>();
         let word = self.word + 1;
-        self.window = self.slice.whole_word(word);
+        self.window = self.slice().whole_word(word).to_u128();
         self.word = word;
         self.end += width;
         self.kept = width;
@@ -80,7 +81,7 @@ impl<'a, R: BitRegister, O: BitOrder<R>> BitWriter<'a, R, O> {
         requires more { self.old.kept < count }
         requires near { count ≤ self.old.kept + R.BITS }
         requires few { count ≤ N.BITS }
-        requires room { self.old.end + R.BITS ≤ lent_len (target self.old) }
+        requires room { self.old.end + R.BITS ≤ (target_span self.old).len }
         ensures { Writes self.old self.new (digits_be count (N.number digits)) }
     {
         let rest = count - self.kept;
@@ -98,29 +99,29 @@ impl<'a, R: BitRegister, O: BitOrder<R>> BitWriter<'a, R, O> {
         ensures { Writes self.old self.new (digits_be count (N.number digits)) }
     {
         let position = self.position();
-        let end = position + count;
         self.kept = 0;
-        self.slice.store_digits_be(position, end, digits);
-        self.end = end;
+        memory::store_be(self.span, self.memory, position, count, digits);
+        self.end = position + count;
     }
 
     // Knows the word in which the next bit lies, where the slice has it whole.
     #[inline(always)]
     fn keep_word(&mut self)
         requires { Falls R.BITS O.at_of }
-        ensures target { target self.new ≡ target self.old }
+        ensures memory { target_memory self.new ≡ target_memory self.old }
+        ensures span { target_span self.new ≡ target_span self.old }
         ensures position { bits_written self.new ≡ bits_written self.old }
     {
         let width = mem::bits_of::<R>();
         let position = self.position();
-        let place = self.slice.head() + position;
+        let slice = self.slice();
+        let place = slice.head() + position;
         let word = place / width;
-        if self.slice.has_word(word) {
+        if slice.has_word(word) {
             let kept = width - place % width;
-            self.kept = 0;
-            self.end = position + kept;
-            self.window = self.slice.whole_word(word);
+            self.window = slice.whole_word(word).to_u128();
             self.word = word;
+            self.end = position + kept;
             self.kept = kept;
         }
     }
@@ -128,7 +129,8 @@ impl<'a, R: BitRegister, O: BitOrder<R>> BitWriter<'a, R, O> {
     // The same where positions fall.
     #[inline(always)]
     fn keep(&mut self)
-        ensures target { target self.new ≡ target self.old }
+        ensures memory { target_memory self.new ≡ target_memory self.old }
+        ensures span { target_span self.new ≡ target_span self.old }
         ensures position { bits_written self.new ≡ bits_written self.old }
     {
         match direction_of::<R, O>() {
@@ -147,7 +149,7 @@ impl<'a, R: BitRegister, O: BitOrder<R>> BitWriter<'a, R, O> {
     {
         let width = mem::bits_of::<R>();
         let is_near = 0 < self.kept && self.kept < count && count - self.kept <= width;
-        if is_near && width <= self.slice.len() - self.end {
+        if is_near && width <= self.span.len() - self.end {
             self.put_across(count, digits);
         } else {
             self.put_far(count, digits);

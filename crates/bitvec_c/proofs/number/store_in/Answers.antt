@@ -1,7 +1,9 @@
-use Rattle.std.proofs.Common.{true, false, map, rules}
+use Rattle.std.proofs.Common.{true, false, length, map, refl, rules}
 use Rattle.bitvec.proofs.PartLemmas.{length-list_of}
-use Rattle.bitvec_slice.specs.BitSliceMut.{lent_memory, lent_span}
-use Rattle.bitvec_c.proofs.PlainNumberLemmas.{lent_edit, stored_range}
+use Rattle.bitvec_slice.specs.BitSliceMut.{lent_span}
+use Rattle.bitvec_slice.proofs.LentLemmas.{lent_edit}
+use Rattle.bitvec_slice.specs.Field.{field_list}
+use Rattle.bitvec_c.proofs.PlainNumberLemmas.{stored_range}
 use Rattle.bitvec_c.proofs.number.store_in.Goals as goal
 
 pub returns-then-big : goal.returns-then-big
@@ -12,9 +14,8 @@ returns-then-big g c =
     let memory = c.args.memory.now in
     let range = c.bits_mut-range.result in
     let span = lent_span range in
-    let lent = (lent_memory range).now in
-    let many = length-list_of width at span (map number lent) in
-    let edit = lent_edit width at number memory lent (lent_memory c.store_be.new.self).now _ (search rules) c.bits_mut-range.ensures.memory c.store_be.ensures.stored.3 in
+    let many = length-list_of width at span (map number memory) in
+    let edit = lent_edit range c.store_be.new.self span memory _ (λ xs. field_list true width g.O.Sequential.RISES span.head (length xs) c.args.number) refl c.bits_mut-range.ensures.memory (search rules) c.store_be.ensures.stored in
     rw c.if-big.true
     (stored_range width at true g.O.Sequential.RISES c.args.start c.args.count c.args.number _ span _ _ c.bits_mut-range.ensures.span many edit)
 
@@ -26,8 +27,7 @@ returns-else-big g c =
     let memory = c.args.memory.now in
     let range = c.bits_mut-range.result in
     let span = lent_span range in
-    let lent = (lent_memory range).now in
-    let many = length-list_of width at span (map number lent) in
-    let edit = lent_edit width at number memory lent (lent_memory c.store_le.new.self).now _ (search rules) c.bits_mut-range.ensures.memory c.store_le.ensures.stored.3 in
+    let many = length-list_of width at span (map number memory) in
+    let edit = lent_edit range c.store_le.new.self span memory _ (λ xs. field_list false width g.O.Sequential.RISES span.head (length xs) c.args.number) refl c.bits_mut-range.ensures.memory (search rules) c.store_le.ensures.stored in
     rw c.if-big.false
     (stored_range width at false g.O.Sequential.RISES c.args.start c.args.count c.args.number _ span _ _ c.bits_mut-range.ensures.span many edit)

@@ -1,8 +1,11 @@
-use Rattle.std.proofs.Common.{true, false, map, to_z-of_z, FitsSigned, rules}
+use Rattle.std.proofs.Common.{true, false, length, map, refl, to_z-of_z, FitsSigned, rules}
 use Rattle.std.specs.Int.{w64}
+use mir.Val.{to_z, of_z}
 use Rattle.bitvec.proofs.PartLemmas.{length-list_of}
-use Rattle.bitvec_slice.specs.BitSliceMut.{lent_memory, lent_span}
-use Rattle.bitvec_c.proofs.PlainNumberLemmas.{lent_edit}
+use Rattle.bitvec_slice.specs.BitSliceMut.{lent_span}
+use Rattle.bitvec_slice.proofs.LentLemmas.{lent_edit}
+use Rattle.bitvec_slice.specs.Field.{field_list}
+use Rattle.bitvec_slice.specs.Signed.{complement_of}
 use Rattle.bitvec_c.proofs.SignedRangeLemmas.{stored_signed}
 use Rattle.bitvec_c.proofs.signed.store_in.Goals as goal
 
@@ -14,9 +17,9 @@ returns-then-big g c =
     let memory = c.args.memory.now in
     let range = c.bits_mut-range.result in
     let span = lent_span range in
-    let lent = (lent_memory range).now in
-    let many = length-list_of width at span (map number lent) in
-    let edit = lent_edit width at number memory lent (lent_memory c.store_signed_be.new.self).now _ (search rules) c.bits_mut-range.ensures.memory c.store_signed_be.ensures.stored.3 in
+    let many = length-list_of width at span (map number memory) in
+    let z = to_z w64 (of_z w64 c.args.number) in
+    let edit = lent_edit range c.store_signed_be.new.self span memory _ (λ xs. field_list true width g.O.Sequential.RISES span.head (length xs) (complement_of (length xs) z)) refl c.bits_mut-range.ensures.memory (search rules) c.store_signed_be.ensures.stored in
     let fits : FitsSigned w64 c.args.number = search rules in
     rw (c.if-big.true, ← to_z-of_z {w = w64} {z = c.args.number} fits)
     (stored_signed width at true g.O.Sequential.RISES c.args.start c.args.count _ _ span _ _ c.bits_mut-range.ensures.span many edit)
@@ -29,9 +32,9 @@ returns-else-big g c =
     let memory = c.args.memory.now in
     let range = c.bits_mut-range.result in
     let span = lent_span range in
-    let lent = (lent_memory range).now in
-    let many = length-list_of width at span (map number lent) in
-    let edit = lent_edit width at number memory lent (lent_memory c.store_signed_le.new.self).now _ (search rules) c.bits_mut-range.ensures.memory c.store_signed_le.ensures.stored.3 in
+    let many = length-list_of width at span (map number memory) in
+    let z = to_z w64 (of_z w64 c.args.number) in
+    let edit = lent_edit range c.store_signed_le.new.self span memory _ (λ xs. field_list false width g.O.Sequential.RISES span.head (length xs) (complement_of (length xs) z)) refl c.bits_mut-range.ensures.memory (search rules) c.store_signed_le.ensures.stored in
     let fits : FitsSigned w64 c.args.number = search rules in
     rw (c.if-big.false, ← to_z-of_z {w = w64} {z = c.args.number} fits)
     (stored_signed width at false g.O.Sequential.RISES c.args.start c.args.count _ _ span _ _ c.bits_mut-range.ensures.span many edit)

@@ -1,22 +1,20 @@
-use Rattle.std.proofs.Common.{◌≡◌, ◌≤◌, ℕ, ◌+◌, ◌-◌, ◌++◌, replicate, take, drop, length, ap, arith, length-drop}
+use Rattle.std.proofs.Common.{◌≡◌, ◌≤◌, ◌+◌, ◌-◌, length, arith, length-drop, replicate}
 use Rattle.std.proofs.lemmas.List.{length-replicate}
-use Rattle.bitvec_slice.specs.BitSliceMut.{lent_words, lent_bits}
-use Rattle.bitvec_slice.specs.Ranges.{with_range}
-use Rattle.bitvec_stream.proofs.WriterLemmas.{becomes-as, stretch_at}
+use Rattle.bitvec_stream.specs.Writer.{target_words, target_bits, bits_written}
+use Rattle.bitvec_stream.proofs.WriterLemmas.{stretch_at}
 use Rattle.bitvec_stream.proofs.writer.BitWriter.fill.Goals as goal
 
 pub returns : goal.returns
 returns g c =
     let it = c.args.self.now in
-    let new = c.fill_range.new.self in
-    let xs = lent_bits it.slice in
-    let p = it.end - it.kept in
     let at = c.position-position.result in
     let n = c.args.count in
-    let bit = c.args.bit in
-    let from : at ≡ p = c.position-position.ensures.value in
-    let some : at + n ≤ length xs = omega (arith, from, c.requires, length-drop p xs, it.within, it.behind, it.slice.many (lent_words it.slice)) in
-    let same : at + n - at ≡ n = omega arith in
-    let edit = becomes-as it.slice new _ (with_range xs at (at + n) (replicate n bit)) (ap (λ (m : ℕ). take at xs ++ replicate m bit ++ drop (at + n) xs) same) c.fill_range.ensures.bits in
+    let from = c.position-position.ensures.value in
     let to : at + n - 0 ≡ at + n = omega arith in
-    stretch_at it.slice new (replicate n bit) p (at + n - 0) at n from to (length-replicate n bit) some edit
+    let some : at + n ≤ length (target_bits it) = omega (arith, from, c.requires, length-drop (bits_written it) (target_bits it), it.within, it.behind, it.many (target_words it)) in
+    stretch_at it c.fill_bits.new.memory (replicate n c.args.bit) (at + n - 0) at n from to (length-replicate n c.args.bit) some c.fill_bits.ensures
+
+pub fill_bits-requires-clause-within : goal.fill_bits-requires-clause-within
+fill_bits-requires-clause-within g c =
+    let it = c.args.self.now in
+    omega (arith, c.position-position.ensures.value, c.requires, length-drop (bits_written it) (target_bits it), it.within, it.behind, it.many (target_words it))

@@ -13,7 +13,7 @@ returns g c =
     let rest = c.args.count - it.kept in
     let value = g.N.BitRegister.number c.args.digits in
     let high = g.N.BitRegister.number c.shr.result in
-    let behind = writes-from mid c.step.new.self new (digits_be rest value) c.step.ensures.target c.step.ensures.position c.put_kept-2.ensures.writes in
+    let behind = writes-from mid c.step.new.self new (digits_be rest value) c.step.ensures.memory c.step.ensures.span c.step.ensures.position c.put_kept-2.ensures.writes in
     let all : kept + rest ≡ c.args.count = omega (arith, c.requires.more) in
     writes-as it new _ (digits_be c.args.count value)
     (digits_be-split kept rest value high (λ q h. c.shr.ensures.moved q (omega (arith, h, all, c.requires.few))) ∙ ap (λ n. digits_be n value) all)

@@ -1,6 +1,6 @@
 use Rattle.bitvec.proofs.PartLemmas.{length-list_of}
 use Rattle.bitvec.specs.BitSpan.{span_of}
-use Rattle.bitvec_slice.proofs.slice.bit_slice.BitSlice.new.Goals as goal
+use Rattle.bitvec_slice.proofs.slice.bit_slice.BitSlice.new_unchecked.Goals as goal
 
 pub invariant_of-result-clause-many : goal.invariant_of-result-clause-many
 invariant_of-result-clause-many g c = length-list_of g.R.BitRegister.BITS g.O.BitAt.at_of (span_of c.args.span)
