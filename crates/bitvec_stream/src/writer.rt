@@ -31,8 +31,8 @@ use bitvec_slice::slice::{BitSlice, BitSliceMut};
 /// were written.
 ///
 /// The memory is lent until the writer is used for the last time, and then has what was written in
-/// its place and every other bit as it was. Where a call refuses, it writes nothing and the writer is
-/// as it was. Not in the Rust crate.
+/// its place and every other bit as it was. Where a call refuses, it writes nothing and the writer
+/// is as it was. Not in the Rust crate.
 ///
 /// # Examples
 ///
@@ -57,8 +57,8 @@ pub struct BitWriter<'a, R: BitRegister, O: BitOrder<R>> {
     // many stand there: 0 where no word is known.
     end: usize,
     kept: usize,
-    // Which word of those that the span meets that is, and its number. A value of type `R` beside the
-    // loan would hide from the checker what the memory has when the loan ends.
+    // Which word of those that the span meets that is, and its number. A value of type `R` beside
+    // the loan would hide from the checker what the memory has when the loan ends.
     word: usize,
     window: u128,
     pub ghost fits: { Fits R.BITS (span_of span) (length memory.now) },

@@ -1,4 +1,4 @@
-//! What a writer makes of the memory that it borrows, by a slice of its bits for as long as it takes.
+//! What a writer makes of the memory that it borrows, each time by a slice of its bits.
 
 ghost use Rattle.std.specs.Prelude.{◌+◌, ◌≤◌, length, replicate};
 ghost use Rattle.bitvec.specs.BitSpan.{span_of, list_by, Becomes};

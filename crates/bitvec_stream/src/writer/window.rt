@@ -29,10 +29,11 @@ fn replaced<R: BitRegister, N: BitRegister>(word: R, from: usize, count: usize, 
 }
 
 impl<'a, R: BitRegister, O: BitOrder<R>> BitWriter<'a, R, O> {
-    ghost use Rattle.bitvec_stream.specs.Writer.{target_memory, target_span, bits_written, room, Writes};
+    ghost use Rattle.bitvec_stream.specs.Writer.{target_memory, target_span, bits_written, room};
+    ghost use Rattle.bitvec_stream.specs.Writer.{Writes};
 
-    // Writes the `count` lowest digits of a number, the highest of them first, into the word that is
-    // known.
+    // Writes the `count` lowest digits of a number, the highest of them first, into the word that
+    // is known.
     #[inline(always)]
     pub(super) fn put_kept<N: BitRegister>(&mut self, count: usize, digits: N)
         requires some { 0 < count }
@@ -139,8 +140,8 @@ impl<'a, R: BitRegister, O: BitOrder<R>> BitWriter<'a, R, O> {
         }
     }
 
-    // Writes the `count` lowest digits of a number, the highest of them first, where the word that is
-    // known has not places for all of them. There is room for them.
+    // Writes the `count` lowest digits of a number, the highest of them first, where the word that
+    // is known has not places for all of them. There is room for them.
     #[inline(always)]
     pub(super) fn put_past<N: BitRegister>(&mut self, count: usize, digits: N)
         requires few { count ≤ N.BITS }
