@@ -6,7 +6,8 @@
 //! highest.
 
 ghost use Rattle.std.specs.Prelude.{◌≡◌, ℕ, ◌+◌, ◌-◌, ◌*◌, ◌/◌, ◌<◌, ◌≤◌, ◌==◌, ◌&&◌, ◌^◌, ◌%◌};
-ghost use Rattle.std.specs.Prelude.{Bool, true, false, not, nat_le, nat_lt, if◌then◌else◌, length, map, refl};
+ghost use Rattle.std.specs.Prelude.{Bool, true, false, not, nat_le, nat_lt, if◌then◌else◌};
+ghost use Rattle.std.specs.Prelude.{length, map, refl};
 ghost use Rattle.bitvec.specs.BitSpan.{span_of, list_by, Becomes};
 ghost use Rattle.bitvec.specs.Digit.{digit};
 ghost use Rattle.bitvec.specs.Place.{words_met};
@@ -219,8 +220,8 @@ fn merged<R: BitRegister>(low: R, high: R, by: u8) -> R
     low.shr(by).or(high.shl(R::BITS - by))
 }
 
-// The digits of a span of at most a word's bits in their order, from the lowest on. Above them stands
-// what lies beside them in their words.
+// The digits of a span of at most a word's bits in their order, from the lowest on. Above them
+// stands what lies beside them in their words.
 #[inline(always)]
 fn load_joined<R: BitRegister, O: Sequential<R>>(span: BitSpan<R, O>, memory: &[R]) -> R
     requires fits { Fits R.BITS (span_of span) (length memory.now) }
@@ -333,7 +334,8 @@ fn word_digits<R: BitRegister, O: Sequential<R>, N: BitRegister>(
     low_digits::<R, N>(part).shl(shift::<R, O>(span, k))
 }
 
-// The positions of the bits that the `k`-th word has of a span, as a word whose digits there are one.
+// The positions of the bits that the `k`-th word has of a span, as a word whose digits there are
+// one.
 #[inline(always)]
 fn word_mask<R: BitRegister, O: Sequential<R>>(span: BitSpan<R, O>, k: usize) -> R
     requires { k < words_met R.BITS (span_of span).head (span_of span).len }
@@ -449,8 +451,8 @@ fn in_second<R: BitRegister, O: Sequential<R>>(span: BitSpan<R, O>, word: R) -> 
     word.shl(R::BITS - over)
 }
 
-// Makes the bits of a span of at most a word's bits the lowest digits of a number in their order, in
-// one word or in two, and changes no other bit.
+// Makes the bits of a span of at most a word's bits the lowest digits of a number in their order,
+// in one word or in two, and changes no other bit.
 #[inline(always)]
 fn store_near<R: BitRegister, O: Sequential<R>, N: BitRegister>(
     span: BitSpan<R, O>,
@@ -549,7 +551,8 @@ impl<'a, R: BitRegister, O: Sequential<R>> BitSlice<'a, R, O> {
         ensures number { N.number result
             ≡ field_number false R.BITS O.RISES (slice_span self.now).head (bits_of self.now) }
         ensures digits { (j : ℕ) → j < length (bits_of self.now) → digit (N.number result)
-            (digit_place false R.BITS O.RISES (slice_span self.now).head (length (bits_of self.now)) j)
+            (digit_place false R.BITS O.RISES (slice_span self.now).head
+            (length (bits_of self.now)) j)
             ≡ element (bits_of self.now) j }
         ensures rising { O.RISES ≡ true → (j : ℕ) → j < length (bits_of self.now)
             → digit (N.number result) j ≡ element (bits_of self.now) j }
@@ -582,7 +585,8 @@ impl<'a, R: BitRegister, O: Sequential<R>> BitSlice<'a, R, O> {
         ensures number { N.number result
             ≡ field_number true R.BITS O.RISES (slice_span self.now).head (bits_of self.now) }
         ensures digits { (j : ℕ) → j < length (bits_of self.now) → digit (N.number result)
-            (digit_place true R.BITS O.RISES (slice_span self.now).head (length (bits_of self.now)) j)
+            (digit_place true R.BITS O.RISES (slice_span self.now).head
+            (length (bits_of self.now)) j)
             ≡ element (bits_of self.now) j }
         ensures falling { O.RISES ≡ false → (j : ℕ) → j < length (bits_of self.now)
             → digit (N.number result) j
@@ -605,7 +609,8 @@ impl<'a, R: BitRegister, O: Sequential<R>> BitSliceMut<'a, R, O> {
         ensures number { N.number result
             ≡ field_number false R.BITS O.RISES (lent_span self.now).head (lent_bits self.now) }
         ensures digits { (j : ℕ) → j < length (lent_bits self.now) → digit (N.number result)
-            (digit_place false R.BITS O.RISES (lent_span self.now).head (length (lent_bits self.now)) j)
+            (digit_place false R.BITS O.RISES (lent_span self.now).head
+            (length (lent_bits self.now)) j)
             ≡ element (lent_bits self.now) j }
         ensures rising { O.RISES ≡ true → (j : ℕ) → j < length (lent_bits self.now)
             → digit (N.number result) j ≡ element (lent_bits self.now) j }
@@ -622,7 +627,8 @@ impl<'a, R: BitRegister, O: Sequential<R>> BitSliceMut<'a, R, O> {
         ensures number { N.number result
             ≡ field_number true R.BITS O.RISES (lent_span self.now).head (lent_bits self.now) }
         ensures digits { (j : ℕ) → j < length (lent_bits self.now) → digit (N.number result)
-            (digit_place true R.BITS O.RISES (lent_span self.now).head (length (lent_bits self.now)) j)
+            (digit_place true R.BITS O.RISES (lent_span self.now).head
+            (length (lent_bits self.now)) j)
             ≡ element (lent_bits self.now) j }
         ensures falling { O.RISES ≡ false → (j : ℕ) → j < length (lent_bits self.now)
             → digit (N.number result) j

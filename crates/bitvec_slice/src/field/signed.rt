@@ -1,6 +1,7 @@
 //! Signed numbers in slices of bits, as two's complements.
 
-ghost use Rattle.std.specs.Prelude.{◌≡◌, ℕ, ℤ, ◌^◌, ◌<◌, ◌≤◌, ◌↔◌, IsSome, IfSome, false, true, length};
+ghost use Rattle.std.specs.Prelude.{◌≡◌, ℕ, ℤ, ◌^◌, ◌<◌, ◌≤◌, ◌↔◌, IsSome, IfSome, false, true};
+ghost use Rattle.std.specs.Prelude.{length};
 ghost use Rattle.std.proofs.Common.{lit≤};
 ghost use Rattle.bitvec_slice.specs.Field.{field_number, field_list};
 ghost use Rattle.bitvec_slice.specs.Signed.{signed_of, complement_of, HasDigits};

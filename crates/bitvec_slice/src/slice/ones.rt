@@ -120,6 +120,8 @@ impl<'a, R: BitRegister, O: BitOrder<R>> Iterator for IterOnes<'a, R, O> {
 
     ghost remaining = { item_count ones_left };
 
+    // Inlined, so that a loop over them knows which bits are wanted.
+    #[inline(always)]
     fn next(&mut self) -> Option<usize> {
         self.ahead.step(self.end)
     }
@@ -156,6 +158,8 @@ impl<'a, R: BitRegister, O: BitOrder<R>> Iterator for IterZeros<'a, R, O> {
 
     ghost remaining = { item_count zeros_left };
 
+    // Inlined, so that a loop over them knows which bits are wanted.
+    #[inline(always)]
     fn next(&mut self) -> Option<usize> {
         self.ahead.step(self.end)
     }

@@ -1,6 +1,7 @@
 //! The operators `&=`, `|=`, `^=` and `!` of a `BitSliceMut`.
 
-ghost use Rattle.std.specs.Prelude.{◌-◌, ◌++◌, ◌&&◌, ◌||◌, false, not, map, length, drop, replicate};
+ghost use Rattle.std.specs.Prelude.{◌-◌, ◌++◌, ◌&&◌, ◌||◌, false, not, map, length, drop};
+ghost use Rattle.std.specs.Prelude.{replicate};
 ghost use Rattle.bitvec.specs.BitSpan.{span_of, list_by, Becomes};
 ghost use Rattle.bitvec.specs.Digit.{exclusive_or};
 ghost use Rattle.bitvec.specs.Memory.{zip_with};

@@ -143,8 +143,8 @@ impl<'a, R: BitRegister, O: BitOrder<R>> fmt::Display for BitSlice<'a, R, O> {
     }
 }
 
-/// The text of `Display`; a format takes `{:b}` of numbers alone. Costs by bits. In the Rust crate it
-/// is a list with a text for each word.
+/// The text of `Display`; a format takes `{:b}` of numbers alone. Costs by bits. In the Rust crate
+/// it is a list with a text for each word.
 impl<'a, R: BitRegister, O: BitOrder<R>> fmt::Binary for BitSlice<'a, R, O> {
     fn fmt<W: fmt::Write>(&self, f: &mut fmt::Formatter<W>) -> fmt::Result
         ensures writes { WritesOnOk W.write_str_gives f.old result
