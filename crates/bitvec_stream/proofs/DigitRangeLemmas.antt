@@ -1,9 +1,14 @@
 -- Which numbers have so many digits, signed ones too.
-use Rattle.std.proofs.Common.{◌≡◌, ℕ, zero, suc, ◌+◌, ◌-◌, ◌*◌, ◌/◌, ◌^◌, ◌<◌, ◌≤◌, ℤ, pos, negsuc, ◌≤ℤ◌, ◌↔◌, sym, ap, subst, ◌∙◌, arith}
+use Rattle.std.proofs.Common.{◌≡◌, ℕ, zero, suc, ◌+◌, ◌-◌, ◌*◌, ◌/◌, ◌%◌, ◌^◌, ◌<◌, ◌≤◌, ◌&&◌, true, false, ℤ, pos, negsuc, ◌≤ℤ◌, ◌↔◌, sym, ap, subst, ◌∙◌, inl, inr, pow_mono, arith}
+use Rattle.std.proofs.Math.Bool.{and-true, and-false}
+use Rattle.std.proofs.lemmas.Bool.{cases_lt}
 use Rattle.std.proofs.lemmas.Int.{ints}
 use Rattle.std.proofs.lemmas.Nat.Bits.{ones_shr}
 use Rattle.std.proofs.lemmas.Nat.{div-mul-add, div-add-mod', mod_below, pow_pos}
 use Rattle.std.proofs.Math.Nat.{two-pow-succ}
+use Rattle.bitvec.specs.Digit.{digit}
+use Rattle.bitvec.specs.SameDigits.{same_from_digits}
+use Rattle.bitvec.proofs.DigitLemmas.{digit-mod, digit_above}
 use Rattle.bitvec_slice.specs.Signed.{HasDigits}
 
 -- the digits past so many are none exactly where the number is below the power
@@ -53,3 +58,20 @@ between_from_digits (suc k) z some has =
 pub no_digits : (z : ℤ) → HasDigits 0 z → z ≡ pos 0
 no_digits (pos n) h = let e : n ≡ 0 = omega (arith, h) in ap pos e
 no_digits (negsuc n) h = absurd (omega (arith, h))
+
+-- a number without its digits from `count` on, which a mask takes away
+pub masked_is : (bits n mask r count : ℕ) → count ≤ bits → r < 2 ^ bits → ((p : ℕ) → p < bits → digit r p ≡ (digit n p && digit mask p))
+    → ((p : ℕ) → p < bits → p < count → digit mask p ≡ true) → ((p : ℕ) → p < bits → count ≤ p → digit mask p ≡ false) → r ≡ n % 2 ^ count
+masked_is bits n mask r count few fits both ones none =
+    same_from_digits bits r (n % 2 ^ count) fits (omega (arith, mod_below n (2 ^ count) (pow_pos count), pow_mono few)) (λ p h. elim (cases_lt p count) [
+      | inl low ↦ both p h ∙ rw (ones p h low) (and-true (digit n p)) ∙ sym (digit-mod n count p low)
+      | inr high ↦ both p h ∙ rw (none p h high) (and-false (digit n p)) ∙ sym (digit_above (n % 2 ^ count) count p (mod_below n (2 ^ count) (pow_pos count)) high)
+    ])
+
+-- a number that was moved up in two steps, the second of one place, has no digit in the places that became free
+pub moved_low : (bits a b count : ℕ) → ((q : ℕ) → q < count - 1 → digit a q ≡ false) → ((q : ℕ) → q < 1 → digit b q ≡ false) → ((q : ℕ) → 1 + q < bits → digit b (1 + q) ≡ digit a q)
+    → (p : ℕ) → p < count → p < bits → digit b p ≡ false
+moved_low bits a b count low first moved zero h inside = first zero (omega arith)
+moved_low bits a b count low first moved (suc q) h inside =
+    let next : suc q ≡ 1 + q = omega arith in
+    ap (digit b) next ∙ moved q (omega (arith, inside)) ∙ low q (omega (arith, h))

@@ -1,5 +1,5 @@
 -- Elements of a list that are kept in a word.
-use Rattle.std.specs.Prelude.{◌≡◌, ℕ, ◌+◌, ◌-◌, ◌*◌, ◌/◌, ◌%◌, ◌<◌, ◌≤◌, Bool, false, List, length}
+use Rattle.std.specs.Prelude.{◌≡◌, ℕ, ◌+◌, ◌-◌, ◌*◌, ◌<◌, ◌≤◌, Bool, false, List}
 use Rattle.bitvec.specs.Digit.{digit}
 use Rattle.bitvec.specs.Order.{Falls}
 use Rattle.bitvec.specs.Span.{element}
@@ -11,8 +11,11 @@ pub record IsWindow (bits : ℕ) (xs : List Bool) (place kept w : ℕ) : Type 0 
   pub clean : (p : ℕ) → p + kept < bits → digit w p ≡ false
 
 -- A word of those that a list meets under a head may be known, in an order whose positions fall: where `kept` is not 0, it is
--- word m, its last `kept` elements end before element `end`, and its digits are its elements, the first the highest.
+-- word m, which ends where element `end` begins, and w is its number, turned round at a place among its elements. The `kept`
+-- elements behind that place are the digits of w from the highest down, and those before it, from the last back, the digits
+-- from the lowest up.
 pub record IsKnown (bits : ℕ) (at : ℕ → ℕ) (head : ℕ) (xs : List Bool) (end kept m w : ℕ) : Type 0 where
   pub falls : 0 < kept → Falls bits at
   pub whole : 0 < kept → (kept ≤ bits) × (head ≤ m * bits) × (head + end ≡ m * bits + bits)
-  pub word : 0 < kept → (j : ℕ) → j < length xs → (head + j) / bits ≡ m → digit w (bits - 1 - (head + j) % bits) ≡ element xs j
+  pub ahead : (j : ℕ) → j < kept → digit w (bits - 1 - j) ≡ element xs (end - kept + j)
+  pub before : 0 < kept → (j : ℕ) → j + kept < bits → digit w j ≡ element xs (end - kept - 1 - j)

@@ -11,8 +11,8 @@ use bitvec::mem;
 use bitvec::mem::BitRegister;
 use bitvec::order::BitOrder;
 
-// The number of a reader's next `count` bits, the first the highest digit, apart from the calls that
-// read what is kept.
+// The number of a reader's next `count` bits, the first the highest digit, apart from the calls
+// that read what is kept.
 #[cold]
 #[inline(never)]
 fn far_be<R: BitRegister, O: BitOrder<R>, N: BitRegister>(
@@ -30,8 +30,8 @@ fn far_be<R: BitRegister, O: BitOrder<R>, N: BitRegister>(
 impl<'a, R: BitRegister, O: BitOrder<R>> BitReader<'a, R, O> {
     ghost use Rattle.bitvec_stream.specs.Reader.{rest, Passes};
 
-    // What `read_be` does where the bits are neither kept nor those of one more word. It is a function
-    // of its own so that what it makes room for costs the others nothing.
+    // What `read_be` does where the bits are neither kept nor those of one more word. It is a
+    // function of its own so that what it makes room for costs the others nothing.
     #[inline(always)]
     fn read_far<N: BitRegister>(&mut self, count: usize) -> Result<N, ReadError>
         requires { count ≤ N.BITS }

@@ -111,7 +111,8 @@ impl<'a, R: BitRegister, O: BitOrder<R>> BitReader<'a, R, O> {
     // highest digit.
     #[inline(always)]
     pub(super) fn chunk(&self) -> Option<R>
-        ensures { MatchOption result ⊤ (λ chunk. (self.now.loaded + R.BITS ≤ slice_len self.now.slice)
+        ensures { MatchOption result ⊤ (λ chunk.
+            (self.now.loaded + R.BITS ≤ slice_len self.now.slice)
             × IsWindow R.BITS (bits_of self.now.slice) self.now.loaded R.BITS (R.number chunk)) }
     {
         let width = mem::bits_of::<R>();
@@ -159,8 +160,8 @@ impl<'a, R: BitRegister, O: BitOrder<R>> BitReader<'a, R, O> {
         };
     }
 
-    // Where the code that the bits that are left begin with lies in those that are kept: how long it
-    // is, and the number of its digits behind the zeros.
+    // Where the code that the bits that are left begin with lies in those that are kept: how long
+    // it is, and the number of its digits behind the zeros.
     #[inline(always)]
     pub(super) fn kept_code(&self) -> Option<(usize, R)>
         ensures { MatchOption result ⊤ (λ it. (it.0 ≤ self.now.kept)

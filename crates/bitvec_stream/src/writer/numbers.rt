@@ -5,6 +5,7 @@ ghost use Rattle.std.specs.Prelude.{length};
 ghost use Rattle.bitvec_stream.specs.Numbers.{digits_le, digits_be};
 
 use crate::error::WriteError;
+use crate::writer::window::lowest;
 use crate::writer::{BitWriter, memory};
 use bitvec::mem;
 use bitvec::mem::BitRegister;
@@ -32,7 +33,7 @@ impl<'a, R: BitRegister, O: BitOrder<R>> BitWriter<'a, R, O> {
         ensures { Writes self.old self.new (digits_be count (N.number digits)) }
     {
         if 0 < count && count <= self.kept {
-            self.put_kept(count, digits);
+            self.put_kept(count, lowest(count, digits));
         } else {
             self.put_past(count, digits);
         }

@@ -1,9 +1,11 @@
-//! A word of the bits that a writer writes into, kept so that it need not be read again. It is put
-//! into the memory at each write, so what was written stands there behind each call.
+//! A word of the bits that a writer writes into, kept so that it need not be read again, and
+//! turned round so that the next bit is its highest digit. It is put into the memory at each write,
+//! so what was written stands there behind each call.
 
-ghost use Rattle.std.specs.Prelude.{◌≡◌, ℕ, ◌+◌, ◌-◌, ◌*◌, ◌<◌, ◌≤◌, length};
+ghost use Rattle.std.specs.Prelude.{◌≡◌, ℕ, ◌+◌, ◌-◌, ◌*◌, ◌^◌, ◌%◌, ◌<◌, ◌≤◌, length};
 ghost use Rattle.bitvec.specs.Digit.{digit};
 ghost use Rattle.bitvec.specs.Order.{Falls};
+ghost use Rattle.bitvec_slice.specs.Words.{HasWord};
 ghost use Rattle.bitvec_stream.specs.Numbers.{digits_be};
 
 use crate::writer::{BitWriter, memory};
@@ -12,33 +14,55 @@ use bitvec::mem::BitRegister;
 use bitvec::order::{BitOrder, Direction, direction_of};
 use bitvec_slice::field::low_digits;
 
-// A word with the lowest `count` digits of a number in place of those from digit `from` on.
+// A word turned `count` places up: its highest digits become its lowest.
 #[inline(always)]
-fn replaced<R: BitRegister, N: BitRegister>(word: R, from: usize, count: usize, digits: N) -> R
-    requires some { 0 < count }
-    requires within { from + count ≤ R.BITS }
-    ensures below { (p : ℕ) → p < from → digit (R.number result) p ≡ digit (R.number word) p }
-    ensures inside { (p : ℕ) → p < count
-        → digit (R.number result) (from + p) ≡ digit (N.number digits) p }
-    ensures above { (p : ℕ) → from + count ≤ p → p < R.BITS
-        → digit (R.number result) p ≡ digit (R.number word) p }
+fn turned<R: BitRegister>(word: R, count: usize) -> R
+    requires { count < R.BITS }
+    ensures up { (p : ℕ) → count + p < R.BITS
+        → digit (R.number result) (count + p) ≡ digit (R.number word) p }
+    ensures round { (p : ℕ) → p < count
+        → digit (R.number result) p ≡ digit (R.number word) (R.BITS - count + p) }
 {
-    let ones = R::ALL.shr(R::BITS - count as u8).shl(from as u8);
-    let moved = low_digits::<R, N>(digits).shl(from as u8);
-    word.and(ones.not()).or(moved.and(ones))
+    if count == 0 {
+        return word;
+    }
+    word.shl(count as u8).or(word.shr(R::BITS - count as u8))
+}
+
+// A word moved `count` places up, with the digits of a number in the places that are free then.
+#[inline(always)]
+fn pushed<R: BitRegister, N: BitRegister>(word: R, count: usize, digits: N) -> R
+    requires some { 0 < count }
+    requires within { count ≤ R.BITS }
+    requires small { N.number digits < 2 ^ count }
+    ensures new { (p : ℕ) → p < count → digit (R.number result) p ≡ digit (N.number digits) p }
+    ensures old { (p : ℕ) → count + p < R.BITS
+        → digit (R.number result) (count + p) ≡ digit (R.number word) p }
+{
+    let moved = word.shl((count - 1) as u8).shl(1);
+    moved.or(low_digits::<R, N>(digits))
+}
+
+// The lowest `count` digits of a number.
+#[inline(always)]
+pub(super) fn lowest<N: BitRegister>(count: usize, digits: N) -> N
+    requires some { 0 < count }
+    requires few { count ≤ N.BITS }
+    ensures { N.number result ≡ N.number digits % 2 ^ count }
+{
+    digits.and(N::ALL.shr(N::BITS - count as u8))
 }
 
 impl<'a, R: BitRegister, O: BitOrder<R>> BitWriter<'a, R, O> {
     ghost use Rattle.bitvec_stream.specs.Writer.{target_memory, target_span, bits_written, room};
     ghost use Rattle.bitvec_stream.specs.Writer.{Writes};
 
-    // Writes the `count` lowest digits of a number, the highest of them first, into the word that
-    // is known.
+    // Writes a number of `count` digits, the highest first, into the word that is known.
     #[inline(always)]
     pub(super) fn put_kept<N: BitRegister>(&mut self, count: usize, digits: N)
         requires some { 0 < count }
         requires kept { count ≤ self.old.kept }
-        requires few { count ≤ N.BITS }
+        requires small { N.number digits < 2 ^ count }
         ensures writes { Writes self.old self.new (digits_be count (N.number digits)) }
         ensures end { self.new.end ≡ self.old.end }
         ensures word { self.new.word ≡ self.old.word }
@@ -46,32 +70,32 @@ impl<'a, R: BitRegister, O: BitOrder<R>> BitWriter<'a, R, O> {
     {
         let left = self.kept - count;
         let known = low_digits::<R, u128>(self.window);
-        let word = replaced(known, left, count, digits);
+        let window = pushed(known, count, digits);
         self.kept = 0;
-        memory::put_word(self.span, self.memory, self.word, word);
-        self.window = word.to_u128();
+        memory::put_word(self.span, self.memory, self.word, turned(window, left));
+        self.window = window.to_u128();
         self.kept = left;
     }
 
-    // Knows the word behind one that is written, which the slice has whole.
+    // Knows a word that the slice has whole, in which the next bit is number `passed`.
     #[inline(always)]
-    fn step(&mut self)
+    fn know(&mut self, word: usize, passed: usize)
         requires falls { Falls R.BITS O.at_of }
-        requires none { self.old.kept ≡ 0 }
-        requires ends { (target_span self.old).head + self.old.end
-            ≡ self.old.word * R.BITS + R.BITS }
-        requires room { self.old.end + R.BITS ≤ (target_span self.old).len }
+        requires whole { HasWord R.BITS (target_span self.old) word }
+        requires inner { passed < R.BITS }
+        requires place { (target_span self.old).head + bits_written self.old
+            ≡ word * R.BITS + passed }
         ensures memory { target_memory self.new ≡ target_memory self.old }
         ensures span { target_span self.new ≡ target_span self.old }
         ensures position { bits_written self.new ≡ bits_written self.old }
-        ensures kept { self.new.kept ≡ R.BITS }
+        ensures kept { self.new.kept ≡ R.BITS - passed }
     {
-        let width = mem::bits_of::<R>();
-        let word = self.word + 1;
-        self.window = self.slice().whole_word(word).to_u128();
+        let kept = mem::bits_of::<R>() - passed;
+        let position = self.position();
+        self.window = turned(self.slice().whole_word(word), passed).to_u128();
         self.word = word;
-        self.end += width;
-        self.kept = width;
+        self.end = position + kept;
+        self.kept = kept;
     }
 
     // Writes the `count` lowest digits of a number, the highest of them first: as many as the word
@@ -86,9 +110,9 @@ impl<'a, R: BitRegister, O: BitOrder<R>> BitWriter<'a, R, O> {
         ensures { Writes self.old self.new (digits_be count (N.number digits)) }
     {
         let rest = count - self.kept;
-        self.put_kept(self.kept, digits.shr(rest as u8));
-        self.step();
-        self.put_kept(rest, digits);
+        self.put_kept(self.kept, lowest(self.kept, digits.shr(rest as u8)));
+        self.know(self.word + 1, 0);
+        self.put_kept(rest, lowest(rest, digits));
     }
 
     // Writes the `count` lowest digits of a number, the highest of them first, wherever they lie.
@@ -119,11 +143,7 @@ impl<'a, R: BitRegister, O: BitOrder<R>> BitWriter<'a, R, O> {
         let place = slice.head() + position;
         let word = place / width;
         if slice.has_word(word) {
-            let kept = width - place % width;
-            self.window = slice.whole_word(word).to_u128();
-            self.word = word;
-            self.end = position + kept;
-            self.kept = kept;
+            self.know(word, place % width);
         }
     }
 
