@@ -1,7 +1,7 @@
 //! Callers.
 
-ghost use Rattle.std.specs.Prelude.{◌≡◌, ◌<◌, ◌≤◌, ◌↔◌, IfSome, IsTrue, IsFalse, true, false, length};
-ghost use Rattle.std.specs.Prelude.{[], ◌∷◌, map, slice_set};
+ghost use Rattle.std.specs.Prelude.{◌≡◌, ◌<◌, ◌≤◌, ◌↔◌, IfSome, IsTrue, IsFalse, true, false};
+ghost use Rattle.std.specs.Prelude.{[], ◌∷◌, length, map, slice_set};
 ghost use Rattle.bitvec.specs.BitSpan.{span_of, list_by};
 ghost use Rattle.bitvec.specs.Span.{Fits, KeepsOthers, element, span_from};
 ghost use Rattle.bitvec.specs.Commands.{reply_number};
@@ -9,6 +9,7 @@ ghost use Rattle.bitvec.specs.Run.{IsRun};
 ghost use Rattle.bitvec.specs.declared.run.command.Command.TheVariants.{Replace};
 ghost use Rattle.bitvec.specs.declared.run.command.Reply.TheVariants.{Bit};
 ghost use Rattle.bitvec_slice.specs.BitSlice.{slice_memory, slice_span};
+ghost use Rattle.bitvec_slice.specs.BitSliceMut.{lent_memory, lent_span, lent_bits};
 
 use bitvec::mem::BitRegister;
 use bitvec::order::BitOrder;
@@ -49,6 +50,26 @@ fn behind_the_first<'a, R: BitRegister, O: BitOrder<R>>(
     Some(bits.as_bitslice())
 }
 
+/// A bit of a span, read through a slice.
+fn bit_of_span<R: BitRegister, O: BitOrder<R>>(span: BitSpan<R, O>, memory: &[R], i: usize) -> bool
+    requires fits { Fits R.BITS (span_of span) (length memory.now) }
+    requires inside { i < (span_of span).len }
+    ensures { result ≡ element (list_by span O.at_of memory.now) i }
+{
+    BitSlice::new_unchecked(span, memory).get_unchecked(i)
+}
+
+/// A slice that was taken apart, and made again.
+fn again<'a, R: BitRegister, O: BitOrder<R>>(slice: BitSliceMut<'a, R, O>) -> BitSliceMut<'a, R, O>
+    ensures reference { (lent_memory result).ghost_name ≡ (lent_memory slice.entry).ghost_name }
+    ensures words { (lent_memory result).now ≡ (lent_memory slice.entry).now }
+    ensures span { lent_span result ≡ lent_span slice.entry }
+    ensures bits { lent_bits result ≡ lent_bits slice.entry }
+{
+    let (span, memory) = slice.into_parts();
+    BitSliceMut::new_unchecked(span, memory)
+}
+
 /// A bit of a slice is set, and then its span is run: they are one run, whose first request is the
 /// edit.
 fn set_and_run<R: BitRegister, O: BitOrder<R>>(
@@ -70,4 +91,29 @@ fn set_and_run<R: BitRegister, O: BitOrder<R>>(
     let mut slice = BitSliceMut::new_unchecked(span, memory);
     slice.set(i, bit);
     run(&[span], memory, requests, replies);
+}
+
+#[cfg(test)]
+mod tests {
+    use super::{again, bit_of_span};
+    use bitvec::order::{Lsb0, Msb0};
+    use bitvec::ptr::span::BitSpan;
+    use bitvec_slice::slice::BitSliceMut;
+
+    #[test]
+    fn a_bit_through_a_slice(rt: HostRuntime) {
+        let memory = [0x00u8, 0x20];
+        let span: BitSpan<u8, Msb0> = BitSpan::at_unchecked(4, 12);
+        assert!(rt; bit_of_span(span, &memory, 6));
+        assert!(rt; !bit_of_span(span, &memory, 7));
+    }
+
+    #[test]
+    fn a_slice_made_again(rt: HostRuntime) {
+        let mut memory = [0x00u8; 2];
+        let span: BitSpan<u8, Lsb0> = BitSpan::at_unchecked(7, 9);
+        let mut slice = again(BitSliceMut::new_unchecked(span, &mut memory));
+        slice.set(1, true);
+        assert_eq!(rt; memory, [0x00, 0x01]);
+    }
 }

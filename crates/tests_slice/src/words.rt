@@ -1,6 +1,7 @@
 //! Whole words of slices: asked for, read and put.
 
-ghost use Rattle.std.specs.Prelude.{◌≡◌, ℕ, ◌+◌, ◌/◌, ◌%◌, ◌<◌, ◌↔◌, IsTrue, IsFalse, MatchOption, not};
+ghost use Rattle.std.specs.Prelude.{◌≡◌, ℕ, ◌+◌, ◌/◌, ◌%◌, ◌<◌, ◌↔◌, not};
+ghost use Rattle.std.specs.Prelude.{IsTrue, IsFalse, MatchOption};
 ghost use Rattle.bitvec.specs.Digit.{digit};
 ghost use Rattle.bitvec.specs.Span.{element};
 ghost use Rattle.bitvec_slice.specs.BitSlice.{slice_span, slice_len, bits_of};

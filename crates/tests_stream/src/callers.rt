@@ -1,11 +1,14 @@
 //! Callers of the codes and of unary numbers, with what they know of the bits.
 
-ghost use Rattle.std.specs.Prelude.{◌≡◌, ◌^◌, ◌≤◌, ◌++◌, ◌∷◌, [], true, false};
+ghost use Rattle.std.specs.Prelude.{◌≡◌, ◌*◌, ◌^◌, ◌≤◌, ◌++◌, ◌∷◌, [], true, false, map};
 ghost use Rattle.std.specs.Prelude.{MatchOption, MatchResult, IfOk, IfErr, drop, length, replicate};
 ghost use Rattle.bitvec.specs.BitSpan.{span_of, list_by, Becomes};
+ghost use Rattle.bitvec.specs.Memory.{memory_bits};
+ghost use Rattle.bitvec.specs.Place.{region_max_bits};
 ghost use Rattle.bitvec.specs.Span.{Fits};
 ghost use Rattle.bitvec.specs.Truths.{AllAre};
 ghost use Rattle.bitvec_slice.specs.BitSlice.{bits_of};
+ghost use Rattle.bitvec_slice.specs.BitSliceMut.{lent_memory, lent_span, lent_bits};
 ghost use Rattle.bitvec_slice.specs.Bits.{BeginsWith};
 ghost use Rattle.bitvec_stream.specs.Golomb.{golomb, signed_place, StartsWith};
 ghost use Rattle.bitvec_stream.specs.Golomb.{IsSignedLacking};
@@ -17,7 +20,7 @@ ghost use Rattle.bitvec_stream.specs.Writer.{written, room};
 use bitvec::mem::BitRegister;
 use bitvec::order::BitOrder;
 use bitvec::ptr::span::BitSpan;
-use bitvec_slice::slice::BitSlice;
+use bitvec_slice::slice::{BitSlice, BitSliceMut};
 use bitvec_stream::error::{ReadError, WriteError};
 use bitvec_stream::reader::BitReader;
 use bitvec_stream::writer::BitWriter;
@@ -124,11 +127,40 @@ fn put_number<R: BitRegister, O: BitOrder<R>>(
     writer.write_be(count, number)
 }
 
+/// Writes a number at the start of a memory, and says each bit of it afterwards.
+fn put_first<R: BitRegister, O: BitOrder<R>>(
+    memory: &mut [R],
+    count: usize,
+    number: u64,
+) -> Result<(), WriteError>
+    requires most { length memory.old * R.BITS ≤ region_max_bits }
+    requires few { count ≤ 64 }
+    ensures written { let bits = memory_bits R.BITS O.at_of
+        in IfOk result (λ _. bits (map R.number memory.new)
+        ≡ digits_be count number ++ drop count (bits (map R.number memory.old))) }
+    ensures kept { IfErr result (λ _. memory.new ≡ memory.old) }
+{
+    let mut writer = BitWriter::<R, O>::all_unchecked(memory);
+    writer.write_be(count, number)
+}
+
+/// A slice that went through a writer which wrote nothing.
+fn through<'a, R: BitRegister, O: BitOrder<R>>(
+    slice: BitSliceMut<'a, R, O>,
+) -> BitSliceMut<'a, R, O>
+    ensures reference { (lent_memory result).ghost_name ≡ (lent_memory slice.entry).ghost_name }
+    ensures words { (lent_memory result).now ≡ (lent_memory slice.entry).now }
+    ensures span { lent_span result ≡ lent_span slice.entry }
+    ensures bits { lent_bits result ≡ lent_bits slice.entry }
+{
+    BitWriter::new(slice).finish()
+}
+
 #[cfg(test)]
 mod tests {
     use super::{
-        code_length, first_unary, put_number, read_code, read_signed_code, write_code,
-        write_signed_code, write_zeros,
+        code_length, first_unary, put_first, put_number, read_code, read_signed_code, through,
+        write_code, write_signed_code, write_zeros,
     };
     use bitvec::order::{Lsb0, Msb0};
     use bitvec::ptr::span::BitSpan;
@@ -167,6 +199,27 @@ mod tests {
             Err(WriteError::NoRoom)
         );
         assert_eq!(rt; memory, [0x8F, 0xF4, 0xFF]);
+    }
+
+    #[test]
+    fn a_number_at_the_start_of_a_memory(rt: HostRuntime) {
+        let mut memory = [0x00u8; 2];
+        assert_eq!(rt; put_first::<u8, Msb0>(&mut memory, 12, 0x765), Ok(()));
+        assert_eq!(rt; memory, [0x76, 0x50]);
+        assert_eq!(rt;
+            put_first::<u8, Msb0>(&mut memory, 3, 8),
+            Err(WriteError::TooManyDigits)
+        );
+        assert_eq!(rt; memory, [0x76, 0x50]);
+    }
+
+    #[test]
+    fn a_slice_through_a_writer(rt: HostRuntime) {
+        let mut memory = [0x0Fu8; 2];
+        let slice = BitSliceMut::<u8, Lsb0>::all_unchecked(&mut memory);
+        let mut again = through(slice);
+        again.set(4, true);
+        assert_eq!(rt; memory, [0x1F, 0x0F]);
     }
 
     #[test]

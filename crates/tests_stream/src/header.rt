@@ -67,8 +67,8 @@ fn read_header<R: BitRegister, O: BitOrder<R>>(
     })
 }
 
-/// What is read of a header that was written into a span of a memory; `None` where the span does not
-/// lie in it or is too short, or a number has too many digits.
+/// What is read of a header that was written into a span of a memory; `None` where the span does
+/// not lie in it or is too short, or a number has too many digits.
 fn passed<R: BitRegister, O: BitOrder<R>>(
     header: Header,
     span: BitSpan<R, O>,
