@@ -1,10 +1,11 @@
 //! How long the layer's calls take, and whether they do what plain loops do.
 //!
-//! With no argument it copies, runs, fills and searches a few thousand words, lets vectors grow, and
-//! hands out blocks of free maps, compares each memory or answer with what a plain loop makes, and prints a line for
-//! each that agrees. With the argument `time` it prints a name, a unit and the nanoseconds of one
-//! for each job; with `grow` it does so three times, each time with memories four times as large,
-//! so that what grows faster than its input shows; free maps have as many blocks each time.
+//! With no argument it copies, runs, fills and searches a few thousand words, lets vectors grow,
+//! and hands out blocks of free maps, compares each memory or answer with what a plain loop makes,
+//! and prints a line for each that agrees. With the argument `time` it prints a name, a unit and
+//! the nanoseconds of one for each job; with `grow` it does so three times, each time with memories
+//! four times as large, so that what grows faster than its input shows; free maps have as many
+//! blocks each time.
 #![tactic(auto)]
 
 mod copies;

@@ -220,7 +220,8 @@ fn all_back<M: Blocks>(map: &mut M, live: &mut [(usize, usize)]) {
     }
 }
 
-// One call of a history: a live range is taken back, or one is handed out, as a number that is drawn says.
+// One call of a history: a live range is taken back, or one is handed out, as a number that is
+// drawn says.
 #[inline(always)]
 fn call<M: Blocks>(map: &mut M, range: (usize, usize), draw: usize) -> (usize, usize) {
     let (at, count) = range;

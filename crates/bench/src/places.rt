@@ -16,7 +16,8 @@ use std::io;
 // What is done at each place.
 #[derive(Clone, Copy)]
 enum Act {
-    // 13 bits are loaded as a number: little-endian under a rising order, big-endian under a falling one.
+    // 13 bits are loaded as a number: little-endian under a rising order, big-endian under a
+    // falling one.
     Load,
     // 13 bits are stored.
     Store,

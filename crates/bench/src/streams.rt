@@ -1,5 +1,5 @@
-//! Numbers read and written one behind the other, under a rising and a falling order: of 13 bits, of
-//! widths from a list, and Exp-Golomb codes.
+//! Numbers read and written one behind the other, under a rising and a falling order: of 13 bits,
+//! of widths from a list, and Exp-Golomb codes.
 
 ghost use Rattle.std.specs.Prelude.{⊤, ◌≤◌, length};
 ghost use Rattle.bitvec.specs.BitSpan.{span_of};
@@ -26,7 +26,8 @@ const WIDTHS: [usize; 24] = [
 // What is done with each number.
 #[derive(Clone, Copy)]
 enum Act {
-    // 13 bits are read, the lowest digit first under a rising order, the highest under a falling one.
+    // 13 bits are read, the lowest digit first under a rising order, the highest under a falling
+    // one.
     Read,
     // As many as a list says are read so.
     ReadMixed,
