@@ -6,6 +6,7 @@ mod KnownLemmas
 mod MultipleLemmas
 mod ReadLemmas
 pub mod SignedGolombLemmas
+mod TurnedLemmas
 mod WindowLemmas
 pub mod WriteLemmas
 pub mod WriterLemmas

@@ -48,8 +48,10 @@ pub(super) fn copy_bits<R: BitRegister, O: BitOrder<R>, R2: BitRegister, O2: Bit
 }
 
 /// Makes `count` bits of a span from number `at` on the lowest digits of a number, the highest of
-/// them first.
-#[inline(always)]
+/// them first. Where a writer keeps a word, few writes come here: it is a function of its own so
+/// that it takes no registers of a loop over the others.
+#[cold]
+#[inline(never)]
 pub(super) fn store_be<R: BitRegister, O: BitOrder<R>, N: BitRegister>(
     span: BitSpan<R, O>,
     memory: &mut [R],

@@ -23,10 +23,9 @@ fn turned<R: BitRegister>(word: R, count: usize) -> R
     ensures round { (p : ℕ) → p < count
         → digit (R.number result) p ≡ digit (R.number word) (R.BITS - count + p) }
 {
-    if count == 0 {
-        return word;
-    }
-    word.shl(count as u8).or(word.shr(R::BITS - count as u8))
+    let up = count as u8 % R::BITS;
+    let down = (R::BITS - up) % R::BITS;
+    word.shl(up).or(word.shr(down))
 }
 
 // A word moved `count` places up, with the digits of a number in the places that are free then.

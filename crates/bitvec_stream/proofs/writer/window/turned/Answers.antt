@@ -1,19 +1,28 @@
-use Rattle.std.proofs.Common.{◌≡◌, ◌+◌, ◌-◌, ap, ◌∙◌, arith}
-use Rattle.std.proofs.Math.Bool.{or-false}
-use Rattle.bitvec.specs.Digit.{digit}
+use Rattle.std.proofs.Common.{◌≡◌, ℕ, ◌+◌, ◌-◌, ◌*◌, ◌%◌, ◌<◌, ◌∙◌, ap, arith}
+use Rattle.std.proofs.lemmas.Nat.{mod-mul-add}
+use Rattle.bitvec_stream.proofs.TurnedLemmas.{turned_up, turned_round}
 use Rattle.bitvec_stream.proofs.writer.window.turned.Goals as goal
 
+-- a number below another is its own rest
+itself : (n m w : ℕ) → n < w → m ≡ w → n % m ≡ n
+itself n m w below is =
+    let whole : n ≡ 0 * m + n = omega arith in
+    ap (λ k. k % m) whole ∙ mod-mul-add 0 m n (omega (arith, below, is))
+
 pub returns-clause-up : goal.returns-clause-up
-returns-clause-up g c = λ p h.
-    let n = c.args.count in
+returns-clause-up g c =
     let number = g.R.BitRegister.number in
-    c.or.ensures.digits (n + p) h
-    ∙ rw (c.shr.ensures.high (n + p) h (omega (arith, c.BITS.ensures, c.requires))) (or-false (digit (number c.shl.result) (n + p)))
-    ∙ c.shl.ensures.moved p h
+    let up = c.args.count % c.BITS.result in
+    let down = (c.BITS-2.result - up) % c.BITS-3.result in
+    turned_up g.R.BitRegister.BITS c.args.count up down (number c.args.word) (number c.shl.result) (number c.shr.result) (number c.or.result) c.requires (itself c.args.count c.BITS.result g.R.BitRegister.BITS c.requires c.BITS.ensures)
+    (ap (λ n. (n - up) % c.BITS-3.result) c.BITS-2.ensures ∙ ap (λ n. (g.R.BitRegister.BITS - up) % n) c.BITS-3.ensures)
+    c.shl.ensures.low c.shl.ensures.moved c.shr.ensures.moved c.shr.ensures.high c.or.ensures.digits
 
 pub returns-clause-round : goal.returns-clause-round
-returns-clause-round g c = λ p h.
-    let from : c.BITS.result - c.args.count + p ≡ g.R.BitRegister.BITS - c.args.count + p = omega (arith, c.BITS.ensures) in
-    c.or.ensures.digits p (omega (arith, h, c.requires))
-    ∙ rw (c.shl.ensures.low p h) (c.shr.ensures.moved p (omega (arith, h, c.requires, c.BITS.ensures)))
-    ∙ ap (digit (g.R.BitRegister.number c.args.word)) from
+returns-clause-round g c =
+    let number = g.R.BitRegister.number in
+    let up = c.args.count % c.BITS.result in
+    let down = (c.BITS-2.result - up) % c.BITS-3.result in
+    turned_round g.R.BitRegister.BITS c.args.count up down (number c.args.word) (number c.shl.result) (number c.shr.result) (number c.or.result) c.requires (itself c.args.count c.BITS.result g.R.BitRegister.BITS c.requires c.BITS.ensures)
+    (ap (λ n. (n - up) % c.BITS-3.result) c.BITS-2.ensures ∙ ap (λ n. (g.R.BitRegister.BITS - up) % n) c.BITS-3.ensures)
+    c.shl.ensures.low c.shl.ensures.moved c.shr.ensures.moved c.shr.ensures.high c.or.ensures.digits
