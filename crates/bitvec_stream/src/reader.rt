@@ -16,7 +16,7 @@ mod window;
 
 use crate::error::ReadError;
 use bitvec::mem::BitRegister;
-use bitvec::order::BitOrder;
+use bitvec::order::{BitOrder, Direction, direction_of};
 use bitvec_slice::slice::BitSlice;
 use std::alloc::AllocError;
 
@@ -121,7 +121,8 @@ impl<'a, R: BitRegister, O: BitOrder<R>> BitReader<'a, R, O> {
         requires { count ≤ length (rest self.old) }
         ensures { Passes self.old self.new count }
     {
-        if 0 < count && count <= self.kept {
+        let is_kept = 0 < count && count <= self.kept;
+        if is_kept && direction_of::<R, O>() == Direction::Falls {
             self.pass_kept(count);
         } else {
             *self = Self::behind(self.slice, self.position() + count);
