@@ -5,7 +5,7 @@ ghost use Rattle.bitvec.specs.BitPtr.{ptr_of};
 ghost use Rattle.bitvec.specs.Steps.{RangeIsIn};
 
 use crate::timer::{Job, Mode, Name, tell, time};
-use crate::words::{Formula, bit, words};
+use crate::words::{APART, Formula, bit, words};
 use bitvec::order::{BitOrder, Lsb0, Msb0};
 use bitvec::ptr::combine::{Combine, Or, Xor};
 use bitvec::ptr::single::BitPtr;
@@ -110,8 +110,11 @@ fn combine_across<C: Combine + Bits, O: BitOrder<u64> + Formula, O2: BitOrder<u6
     requires { 0 < units }
 {
     let source = words(rt, mode.words())?;
-    let before = words(rt, mode.words())?;
-    let mut target = words(rt, mode.words())?;
+    let before = words(rt, mode.words().saturating_add(APART))?;
+    let mut room = words(rt, mode.words().saturating_add(APART))?;
+    let apart = APART.min(room.len()).min(before.len());
+    let (_, before) = before.split_at(apart);
+    let (_, target) = room.split_at_mut(apart);
     let (from, to): (BitPtr<u64, O>, BitPtr<u64, O2>) = (
         BitPtr::at(ends.from),
         BitPtr::at(ends.to),
@@ -123,7 +126,7 @@ fn combine_across<C: Combine + Bits, O: BitOrder<u64> + Formula, O2: BitOrder<u6
     let mut job: Across<C, O, O2> = Across {
         source: &source,
         from,
-        target: &mut target,
+        target,
         to,
         count,
         of: PhantomData,
@@ -132,7 +135,7 @@ fn combine_across<C: Combine + Bits, O: BitOrder<u64> + Formula, O2: BitOrder<u6
         return time(rt, name, units, &mut job);
     }
     job.go();
-    let agrees = is_combined::<C, O, O2>(&source, &before, &target, ends);
+    let agrees = is_combined::<C, O, O2>(&source, before, job.target, ends);
     tell(rt, name, agrees)
 }
 

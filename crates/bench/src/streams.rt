@@ -63,6 +63,7 @@ fn read<O: Sequential<u64>>(
 }
 
 // The sum of numbers of 13 bits.
+#[inline(never)]
 fn read_all<O: Sequential<u64>>(
     mut reader: BitReader<'_, u64, O>,
     count: usize,
@@ -75,6 +76,7 @@ fn read_all<O: Sequential<u64>>(
 }
 
 // The sum of numbers of some widths.
+#[inline(never)]
 fn read_mixed<O: Sequential<u64>>(
     mut reader: BitReader<'_, u64, O>,
     widths: &[usize],
@@ -87,6 +89,7 @@ fn read_mixed<O: Sequential<u64>>(
 }
 
 // The sum of numbers that are read as codes.
+#[inline(never)]
 fn read_codes<O: Sequential<u64>>(
     mut reader: BitReader<'_, u64, O>,
     count: usize,
@@ -99,6 +102,7 @@ fn read_codes<O: Sequential<u64>>(
 }
 
 // Writes numbers of 13 bits from the first bit of a span on.
+#[inline(never)]
 fn write_all<O: Sequential<u64>>(
     span: BitSpan<u64, O>,
     memory: &mut [u64],

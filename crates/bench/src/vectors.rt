@@ -33,6 +33,7 @@ struct Growing<'a> {
 }
 
 // Puts the bits of a list behind the others, one after another.
+#[inline(never)]
 fn push_all(vec: &mut BitVec<u64, Lsb0>, list: &[bool]) -> Result<(), AllocError> {
     for bit in list {
         vec.push(*bit)?;

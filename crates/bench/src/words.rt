@@ -7,6 +7,10 @@ use bitvec::mem::BitRegister;
 use bitvec::order::{Lsb0, Msb0};
 use std::alloc::AllocError;
 
+/// Half a page in words. Memories begin at one place of their pages; a target of another begins so
+/// many words behind it, since a load waits for a store whose address has the same low digits.
+pub const APART: usize = 256;
+
 /// Words that look random, the same at each call.
 pub fn words(rt: HostRuntime, count: usize) -> Result<Vec<u64>, AllocError> {
     let mut words = Vec::new(rt.alloc());
