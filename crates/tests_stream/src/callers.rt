@@ -135,9 +135,9 @@ fn put_first<R: BitRegister, O: BitOrder<R>>(
 ) -> Result<(), WriteError>
     requires most { length memory.old * R.BITS ≤ region_max_bits }
     requires few { count ≤ 64 }
-    ensures written { let bits = memory_bits R.BITS O.at_of
-        in IfOk result (λ _. bits (map R.number memory.new)
-        ≡ digits_be count number ++ drop count (bits (map R.number memory.old))) }
+    ensures written { IfOk result (λ _. memory_bits R.BITS O.at_of (map R.number memory.new)
+        ≡ digits_be count number ++ drop (length (digits_be count number))
+        (memory_bits R.BITS O.at_of (map R.number memory.old))) }
     ensures kept { IfErr result (λ _. memory.new ≡ memory.old) }
 {
     let mut writer = BitWriter::<R, O>::all_unchecked(memory);
