@@ -1775,25 +1775,26 @@ fn time_vectors(source: &[u64]) {
 
 fn main() {
     let source = words();
-    // (half a page behind the place of a page at which the source begins, as in the program)
+    let mut target = words();
+    time_copies::<true>("lsb0", &source, &mut target);
+    time_copies::<false>("msb0", &source, &mut target);
+    time_other_copies(&source, &mut target);
+    // (an operator's target begins half a page behind the place of a page at which the source does, as in the program)
     let mut room = vec![0; 256];
     room.extend(words());
-    let target = &mut room[256..];
-    time_copies::<true>("lsb0", &source, target);
-    time_copies::<false>("msb0", &source, target);
-    time_other_copies(&source, target);
-    time_sets::<true>("lsb0", &source, target);
-    time_sets::<false>("msb0", &source, target);
-    time("xor-lsb0-msb0", WORDS, || xor_turned(black_box(&source), 64 + 3, black_box(&mut *target), 64 + 14, COPIED));
-    time_runs(target);
-    time_domains(&source, target);
+    let apart = &mut room[256..];
+    time_sets::<true>("lsb0", &source, apart);
+    time_sets::<false>("msb0", &source, apart);
+    time("xor-lsb0-msb0", WORDS, || xor_turned(black_box(&source), 64 + 3, black_box(&mut *apart), 64 + 14, COPIED));
+    time_runs(&mut target);
+    time_domains(&source, &mut target);
     time_reads::<true>("lsb0", &source);
     time_reads::<false>("msb0", &source);
-    time_edits::<true>("lsb0", target);
-    time_edits::<false>("msb0", target);
+    time_edits::<true>("lsb0", &mut target);
+    time_edits::<false>("msb0", &mut target);
     time_places::<true>("lsb0");
     time_places::<false>("msb0");
-    time_streams(&source, target);
+    time_streams(&source, &mut target);
     time_vectors(&source);
     time_maps();
 }
