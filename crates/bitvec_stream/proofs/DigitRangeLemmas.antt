@@ -10,6 +10,7 @@ use Rattle.bitvec.specs.Digit.{digit}
 use Rattle.bitvec.specs.SameDigits.{same_from_digits}
 use Rattle.bitvec.proofs.DigitLemmas.{digit-mod, digit_above}
 use Rattle.bitvec_slice.specs.Signed.{HasDigits}
+use Rattle.bitvec_slice.proofs.FieldLemmas.{small_from_digits}
 
 -- the digits past so many are none exactly where the number is below the power
 pub above_none : (n count : ℕ) → n / 2 ^ count ≡ 0 → n < 2 ^ count
@@ -75,3 +76,14 @@ moved_low bits a b count low first moved zero h inside = first zero (omega arith
 moved_low bits a b count low first moved (suc q) h inside =
     let next : suc q ≡ 1 + q = omega arith in
     ap (digit b) next ∙ moved q (omega (arith, inside)) ∙ low q (omega (arith, h))
+
+-- a number of `count` digits without its lowest `down`
+pub dropped_small : (bits n down left count m : ℕ) → down + left ≡ count → n < 2 ^ count → m < 2 ^ bits → ((p : ℕ) → down + p < bits → digit m p ≡ digit n (down + p)) → ((p : ℕ) → p < bits → bits ≤ down + p → digit m p ≡ false)
+    → m < 2 ^ left
+dropped_small bits n down left count m all small below moved high = small_from_digits m bits left below (λ p h. elim (cases_lt (down + p) bits) [
+  | inl inside ↦ moved p inside ∙ digit_above n count (down + p) small (omega (arith, h, all))
+  | inr above ↦ elim (cases_lt p bits) [
+    | inl less ↦ high p less above
+    | inr more ↦ digit_above m bits p below more
+  ]
+])

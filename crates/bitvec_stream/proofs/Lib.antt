@@ -2,6 +2,7 @@ mod CodeLemmas
 mod DigitRangeLemmas
 pub mod GolombLemmas
 pub mod ItemLemmas
+mod KeepLemmas
 mod KnownLemmas
 mod MultipleLemmas
 mod ReadLemmas

@@ -1,6 +1,6 @@
 -- Elements of a list that are kept in a word: how they are loaded, passed over and read.
-use Rattle.std.proofs.Common.{◌≡◌, ℕ, ◌+◌, ◌-◌, ◌*◌, ◌/◌, ◌%◌, ◌^◌, ◌<◌, ◌≤◌, ◌||◌, Bool, true, false, List, length, take, drop, refl, sym, ap, subst, ◌∙◌, inl, inr, arith, length-drop}
-use Rattle.std.proofs.Math.Bool.{Bool-set}
+use Rattle.std.proofs.Common.{◌≡◌, ℕ, ◌+◌, ◌-◌, ◌*◌, ◌/◌, ◌%◌, ◌^◌, ◌<◌, ◌≤◌, ◌||◌, Bool, true, false, List, length, take, drop, refl, sym, ap, ◌∙◌, inl, inr, arith, length-drop}
+use Rattle.std.proofs.Math.Bool.{Bool-set, or-false}
 use Rattle.std.proofs.lemmas.Bool.{cases_lt}
 use Rattle.std.proofs.lemmas.List.{length-take-le, get_or-take, get_or-drop}
 use Rattle.std.proofs.lemmas.Nat.{pow_pos, div-mul-add, mod-mul-add}
@@ -23,10 +23,6 @@ window_same bits xs place kept w a b i = record {
   shown = λ j h. Bool-set _ _ (a.shown j h) (b.shown j h) i;
   clean = λ p h. Bool-set _ _ (a.clean p h) (b.clean p h) i;
 }
-
--- the same at other names of the numbers
-pub window_at : (bits : ℕ) (xs : List Bool) (p q k l w : ℕ) → p ≡ q → k ≡ l → IsWindow bits xs p k w → IsWindow bits xs q l w
-window_at bits xs p q k l w e f is = subst (λ n. IsWindow bits xs n l w) e (subst (λ n. IsWindow bits xs p n w) f is)
 
 -- no elements
 pub window_none : (bits : ℕ) (xs : List Bool) (place w : ℕ) → w ≡ 0 → IsWindow bits xs place 0 w
@@ -66,19 +62,6 @@ window_moved bits xs place kept w n r is less most low moved = record {
   ];
 }
 
--- and so many of a whole word, which are moved by one less and by one
-pub window_after : (bits : ℕ) (xs : List Bool) (place n c d r : ℕ) → IsWindow bits xs place bits c → 0 < n → n ≤ bits
-    → ((p : ℕ) → p < n - 1 → digit d p ≡ false) → ((p : ℕ) → n - 1 + p < bits → digit d (n - 1 + p) ≡ digit c p)
-    → ((p : ℕ) → p < 1 → digit r p ≡ false) → ((p : ℕ) → 1 + p < bits → digit r (1 + p) ≡ digit d p) → IsWindow bits xs (place + n) (bits - n) r
-window_after bits xs place n c d r is some most low moved low_again moved_again =
-    let first = window_moved bits xs place bits c (n - 1) d is (omega (arith, most)) (omega arith) low moved in
-    let second = window_moved bits xs (place + (n - 1)) (bits - (n - 1)) d 1 r first (omega (arith, some, most)) (omega arith) low_again moved_again in
-    window_at bits xs _ (place + n) _ (bits - n) r (omega (arith, some)) (omega (arith, some, most)) second
-
-or_false : (b : Bool) → (b || false) ≡ b
-or_false true = refl
-or_false false = refl
-
 -- the elements that are kept, and behind them those of a whole word, moved down
 pub window_joined : (bits : ℕ) (xs : List Bool) (place next kept w c s r : ℕ) → IsWindow bits xs place kept w → IsWindow bits xs next bits c → next ≡ place + kept → kept < bits
     → ((p : ℕ) → kept + p < bits → digit s p ≡ digit c (kept + p)) → ((p : ℕ) → p < bits → bits ≤ kept + p → digit s p ≡ false)
@@ -89,7 +72,7 @@ window_joined bits xs place next kept w c s r first second behind_is less moved 
       ∙ elim (cases_lt j kept) [
         | inl front ↦ (
             ap (λ b. digit w (bits - 1 - j) || b) (high (bits - 1 - j) (omega (arith, h)) (omega (arith, front, h)))
-            ∙ or_false (digit w (bits - 1 - j))
+            ∙ or-false (digit w (bits - 1 - j))
             ∙ first.shown j front)
         | inr behind ↦ (
             let place_of : kept + (bits - 1 - j) ≡ bits - 1 - (j - kept) = omega (arith, behind, h) in

@@ -1,14 +1,31 @@
 -- Elements of a list that are kept in a word.
-use Rattle.std.specs.Prelude.{◌≡◌, ℕ, ◌+◌, ◌-◌, ◌*◌, ◌<◌, ◌≤◌, Bool, false, List}
+use Rattle.std.specs.Prelude.{◌≡◌, ◌⊎◌, ℕ, ◌+◌, ◌-◌, ◌*◌, ◌<◌, ◌≤◌, Bool, false, List, take}
 use Rattle.bitvec.specs.Digit.{digit}
-use Rattle.bitvec.specs.Order.{Falls}
+use Rattle.bitvec.specs.Order.{Rises, Falls}
 use Rattle.bitvec.specs.Span.{element}
+use Rattle.bitvec_slice.specs.Numbers.{number_le, number_be}
 
 -- A word of `bits` digits has so many elements of a list, from element `place` on: the first is its highest digit, and the
 -- digits below theirs are zero.
 pub record IsWindow (bits : ℕ) (xs : List Bool) (place kept w : ℕ) : Type 0 where
   pub shown : (j : ℕ) → j < kept → digit w (bits - 1 - j) ≡ element xs (place + j)
   pub clean : (p : ℕ) → p + kept < bits → digit w p ≡ false
+
+-- A word of `bits` digits keeps so many elements of a list under an order, from element `place` on: the first is its digit at
+-- the order's first position, the others follow, and the digits at the positions behind theirs are zero.
+pub record Keeps (bits : ℕ) (at : ℕ → ℕ) (xs : List Bool) (place kept w : ℕ) : Type 0 where
+  pub shown : (j : ℕ) → j < kept → digit w (at j) ≡ element xs (place + j)
+  pub clean : (j : ℕ) → kept ≤ j → j < bits → digit w (at j) ≡ false
+
+-- positions rise or fall
+abbrev pub IsSequential : ℕ → (ℕ → ℕ) → Type 0
+IsSequential bits at = Rises bits at ⊎ Falls bits at
+
+-- n is the number of a list's first `count` elements the way that an order's positions go: the first is the highest digit
+-- where they fall, and the lowest where they rise.
+pub record IsNumberOf (bits : ℕ) (at : ℕ → ℕ) (xs : List Bool) (count n : ℕ) : Type 0 where
+  pub falls : Falls bits at → n ≡ number_be (take count xs)
+  pub rises : Rises bits at → n ≡ number_le (take count xs)
 
 -- A word of those that a list meets under a head may be known, in an order whose positions fall: where `kept` is not 0, it is
 -- word m, which ends where element `end` begins, and w is its number, turned round at a place among its elements. The `kept`

@@ -1,9 +1,10 @@
-//! Numbers of all bits of a slice, signed ones too, whatever its register and order.
+//! Numbers of all bits of a slice, signed ones too, whatever its register and order, and the lowest
+//! digits of a number.
 //!
 //! The bits of signed numbers go through a word of 128 bits by the copies of slices, so no register
 //! and no order has a way of its own.
 
-ghost use Rattle.std.specs.Prelude.{◌≡◌, ◌≤◌, length};
+ghost use Rattle.std.specs.Prelude.{◌≡◌, ◌%◌, ◌^◌, ◌<◌, ◌≤◌, length};
 ghost use Rattle.bitvec.specs.BitSpan.{span_of};
 ghost use Rattle.bitvec.specs.Span.{Fits};
 ghost use Rattle.bitvec_slice.specs.BitSlice.{slice_len, bits_of};
@@ -15,6 +16,16 @@ use bitvec::order::{BitOrder, Lsb0, Msb0};
 use bitvec::ptr::span::BitSpan;
 use bitvec_slice::field::SignedNumber;
 use bitvec_slice::slice::{BitSlice, BitSliceMut};
+
+// The lowest `count` digits of a number.
+#[inline(always)]
+pub(crate) fn lowest<N: BitRegister>(count: usize, digits: N) -> N
+    requires some { 0 < count }
+    requires few { count ≤ N.BITS }
+    ensures { N.number result ≡ N.number digits % 2 ^ count }
+{
+    digits.and(N::ALL.shr(N::BITS - count as u8))
+}
 
 // The first `count` bits of a word under `Lsb0`.
 fn low_span(count: usize) -> BitSpan<u128, Lsb0>

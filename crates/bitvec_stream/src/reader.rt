@@ -6,7 +6,7 @@ ghost use Rattle.std.specs.Prelude.{IfErr, length, take};
 ghost use Rattle.bitvec.specs.Span.{element};
 ghost use Rattle.bitvec_slice.specs.BitSlice.{slice_len, bits_of};
 ghost use Rattle.bitvec_stream.specs.Multiples.{to_multiple};
-ghost use Rattle.bitvec_stream.specs.Window.{IsWindow};
+ghost use Rattle.bitvec_stream.specs.Window.{Keeps};
 
 mod golomb;
 mod numbers;
@@ -43,12 +43,13 @@ pub struct BitReader<'a, R: BitRegister, O: BitOrder<R>> {
     // How many bits were read, or are kept in the window; and of them, how many are kept.
     loaded: usize,
     kept: usize,
-    // The bits that are kept, the first the highest digit.
+    // The bits that are kept: the first is the word's first under the order, the others follow.
     window: R,
     pub ghost within: { loaded ≤ slice_len slice },
     pub ghost behind: { kept ≤ loaded },
     pub ghost few: { kept < R.BITS },
-    pub ghost shown: { IsWindow R.BITS (bits_of slice) (loaded - kept) kept (R.number window) },
+    pub ghost shown: { Keeps R.BITS O.at_of (bits_of slice) (loaded - kept) kept
+        (R.number window) },
 }
 
 impl<'a, R: BitRegister, O: BitOrder<R>> Clone for BitReader<'a, R, O> {
@@ -121,12 +122,13 @@ impl<'a, R: BitRegister, O: BitOrder<R>> BitReader<'a, R, O> {
         requires { count ≤ length (rest self.old) }
         ensures { Passes self.old self.new count }
     {
-        let is_kept = 0 < count && count <= self.kept;
-        if is_kept && direction_of::<R, O>() == Direction::Falls {
-            self.pass_kept(count);
-        } else {
-            *self = Self::behind(self.slice, self.position() + count);
+        if 0 < count && count <= self.kept {
+            if let Direction::Rises | Direction::Falls = direction_of::<R, O>() {
+                self.pass_kept(count);
+                return;
+            }
         }
+        *self = Self::behind(self.slice, self.position() + count);
     }
 
     /// The next bit. It refuses with `TooFew` exactly where none is left. Constant time. Not in the

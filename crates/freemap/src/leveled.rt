@@ -1,8 +1,8 @@
 //! A free map under levels that say which words are full, so that the lowest free block is found
 //! in a few words.
 
-ghost use Rattle.std.specs.Prelude.{◌≡◌, ◌↔◌, ℕ, ◌+◌, ◌<◌, ◌≤◌, true, false, IsTrue, IsFalse};
-ghost use Rattle.std.specs.Prelude.{IfSome, MatchOption, List, length, ◌∷◌, ◌++◌};
+ghost use Rattle.std.specs.Prelude.{◌≡◌, ◌↔◌, ℕ, ◌+◌, ◌/◌, ◌<◌, ◌≤◌, true, false, IsTrue};
+ghost use Rattle.std.specs.Prelude.{IsFalse, IfSome, MatchOption, List, length, ◌∷◌, ◌++◌};
 ghost use Rattle.bitvec.specs.Span.{element, with_filled};
 ghost use Rattle.bitvec_slice.specs.Bits.{AllBetween, AreFree};
 ghost use Rattle.bitvec_slice.specs.Patterns.{AreFreeFrom};
@@ -218,21 +218,22 @@ impl<'a, O: BitOrder<u64>, S: Level> LeveledMap<'a, O, S> {
             (with_filled (in_use old) at (at + 1) used) }
     {
         if used {
-            self.put_in_use(at);
+            self.put_in_use(at / 64, at);
         } else {
             self.put_free(at);
         }
     }
 
-    // Puts one block in use. The level is told only where its word became full.
+    // Puts one block of word `word` in use. The level is told only where the word became full.
     #[inline(always)]
-    fn put_in_use(&mut self, at: usize)
-        requires { at < length (in_use (map_of self.old)) }
+    fn put_in_use(&mut self, word: usize, at: usize)
+        requires inside { at < length (in_use (map_of self.old)) }
+        requires word { word ≡ at / 64 }
         ensures { let old = map_of self.old in BecomesBlocks old (map_of self.new)
             (with_filled (in_use old) at (at + 1) true) }
     {
         if self.blocks.put_in_use(at) {
-            self.full.set_mark(at / 64, true);
+            self.full.set_mark(word, true);
         }
     }
 
@@ -261,6 +262,21 @@ impl<'a, O: BitOrder<u64>, S: Level> LeveledMap<'a, O, S> {
             → Owns (in_use (map_of self.new)) ((at, count) ∷ live) }
     {
         self.mark(at, count, true);
+    }
+
+    // Hands out a free block of word `word`. A search knows the word before it knows the block, so
+    // the levels need not wait for that.
+    #[inline(always)]
+    fn take_one(&mut self, word: usize, at: usize)
+        requires free { AreFree (in_use (map_of self.old)) at 1 }
+        requires word { word ≡ at / 64 }
+        ensures taken { let old = map_of self.old in BecomesBlocks old (map_of self.new)
+            (with_filled (in_use old) at (at + 1) true) }
+        ensures handed { AreInUse (in_use (map_of self.new)) at 1 }
+        ensures owned { (live : List (ℕ × ℕ)) → Owns (in_use (map_of self.old)) live
+            → Owns (in_use (map_of self.new)) ((at, 1) ∷ live) }
+    {
+        self.put_in_use(word, at);
     }
 
     // The lowest free block.
@@ -292,8 +308,9 @@ impl<'a, O: BitOrder<u64>, S: Level> LeveledMap<'a, O, S> {
         ensures handed { IfSome result (λ at. AreInUse (in_use (map_of self.new)) at 1) }
         ensures owned { OwnsMore (in_use (map_of self.old)) (in_use (map_of self.new)) 1 result }
     {
-        let at = self.lowest_free()?;
-        self.take(at, 1);
+        let word = self.full.lowest_unmarked()?;
+        let at = self.blocks.free_in_word(word)?;
+        self.take_one(word, at);
         Some(at)
     }
 

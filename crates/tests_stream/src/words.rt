@@ -1,6 +1,7 @@
 //! Numbers at the widths of words, the texts of refusals, and places at multiples.
 
 use bitvec::order::{Lsb0, Msb0};
+use bitvec::ptr::span::BitSpan;
 use bitvec_slice::slice::{BitSlice, BitSliceMut};
 use bitvec_stream::error::{ReadError, WriteError};
 use bitvec_stream::reader::BitReader;
@@ -78,5 +79,47 @@ fn a_slice_of_another_order(rt: HostRuntime) -> Result<(), Fail> {
     let mut reader = BitReader::new(writer.written());
     reader.skip(3)?;
     assert_eq!(rt; reader.read_be::<u32>(32), Ok(0x12345678));
+    Ok(())
+}
+
+// Under a rising order the digits of the words in a row, the first word the lowest, are those of one
+// number, here 0xE86B5D270F967A1EB5C3: a number read lowest first is that one divided by two to the
+// place, and cut.
+#[test]
+fn lowest_first_across_words(rt: HostRuntime) -> Result<(), Fail> {
+    let memory = [0xB5C3u16, 0x7A1E, 0x0F96, 0x5D27, 0xE86B];
+    let span: BitSpan<u16, Lsb0> = BitSpan::at(3, 69).unwrap();
+    let slice = BitSlice::new(span, &memory).ok_or("outside")?;
+    let mut reader = BitReader::new(slice);
+    assert_eq!(rt; reader.read_le::<u8>(5), Ok(0x18));
+    assert_eq!(rt; reader.read_le::<u16>(13), Ok(0x1EB5));
+    assert_eq!(rt; reader.read_bit(), Ok(false));
+    assert_eq!(rt; reader.read_le::<u16>(16), Ok(0x59E8));
+    assert_eq!(rt; reader.peek_be::<u8>(5), Ok(0x0F));
+    assert_eq!(rt; reader.read_le::<u8>(7), Ok(0x3E));
+    reader.skip(2)?;
+    assert_eq!(rt; reader.read_le::<u64>(16), Ok(0xBA4E));
+    assert_eq!(rt; reader.read_le::<u64>(10), Err(ReadError::TooFew));
+    assert_eq!(rt; reader.read_le::<u64>(9), Ok(0xD6));
+    assert_eq!(rt; reader.read_le::<u8>(1), Err(ReadError::TooFew));
+    Ok(())
+}
+
+// The same under a falling order, the first word the highest: 0xB5C37A1E0F965D27E86B.
+#[test]
+fn highest_first_across_words(rt: HostRuntime) -> Result<(), Fail> {
+    let memory = [0xB5C3u16, 0x7A1E, 0x0F96, 0x5D27, 0xE86B];
+    let span: BitSpan<u16, Msb0> = BitSpan::at(3, 69).unwrap();
+    let slice = BitSlice::new(span, &memory).ok_or("outside")?;
+    let mut reader = BitReader::new(slice);
+    assert_eq!(rt; reader.read_be::<u8>(5), Ok(0x15));
+    assert_eq!(rt; reader.read_be::<u16>(13), Ok(0x186F));
+    assert_eq!(rt; reader.read_bit(), Ok(false));
+    assert_eq!(rt; reader.read_be::<u16>(16), Ok(0x8783));
+    assert_eq!(rt; reader.read_be::<u8>(7), Ok(0x72));
+    reader.skip(2)?;
+    assert_eq!(rt; reader.read_be::<u64>(16), Ok(0x2E93));
+    assert_eq!(rt; reader.read_be::<u64>(10), Err(ReadError::TooFew));
+    assert_eq!(rt; reader.read_be::<u64>(9), Ok(0x1E8));
     Ok(())
 }

@@ -6,10 +6,8 @@ ghost use Rattle.bitvec_stream.specs.Reader.{rest};
 
 use crate::error::ReadError;
 use crate::reader::BitReader;
-use crate::reader::window::first_digits;
-use bitvec::mem;
 use bitvec::mem::BitRegister;
-use bitvec::order::BitOrder;
+use bitvec::order::{BitOrder, Direction, direction_of};
 
 // The number of a reader's next `count` bits, the first the highest digit, apart from the calls
 // that read what is kept.
@@ -27,13 +25,28 @@ fn far_be<R: BitRegister, O: BitOrder<R>, N: BitRegister>(
     reader.slice.load_digits_be(position, position + count)
 }
 
+// The same, the first the lowest digit.
+#[cold]
+#[inline(never)]
+fn far_le<R: BitRegister, O: BitOrder<R>, N: BitRegister>(
+    reader: BitReader<'_, R, O>,
+    count: usize,
+) -> N
+    requires small { count ≤ N.BITS }
+    requires inside { count ≤ length (rest reader) }
+    ensures { N.number result ≡ number_le (take count (rest reader.entry)) }
+{
+    let position = reader.position();
+    reader.slice.load_digits_le(position, position + count)
+}
+
 impl<'a, R: BitRegister, O: BitOrder<R>> BitReader<'a, R, O> {
     ghost use Rattle.bitvec_stream.specs.Reader.{rest, Passes};
 
-    // What `read_be` does where the bits are neither kept nor those of one more word. It is a
-    // function of its own so that what it makes room for costs the others nothing.
+    // What `read_be` does where the bits are neither kept nor those of one more word, or where
+    // positions do not fall.
     #[inline(always)]
-    fn read_far<N: BitRegister>(&mut self, count: usize) -> Result<N, ReadError>
+    fn read_far_be<N: BitRegister>(&mut self, count: usize) -> Result<N, ReadError>
         requires { count ≤ N.BITS }
         ensures accepted { IsOk result ↔ (count ≤ length (rest self.old)) }
         ensures number { IfOk result (λ value. N.number value
@@ -45,6 +58,24 @@ impl<'a, R: BitRegister, O: BitOrder<R>> BitReader<'a, R, O> {
             return Err(ReadError::TooFew);
         }
         let value = far_be(Self::at(self.slice, self.position()), count);
+        self.pass(count);
+        Ok(value)
+    }
+
+    // The same of `read_le`, where positions do not rise.
+    #[inline(always)]
+    fn read_far_le<N: BitRegister>(&mut self, count: usize) -> Result<N, ReadError>
+        requires { count ≤ N.BITS }
+        ensures accepted { IsOk result ↔ (count ≤ length (rest self.old)) }
+        ensures number { IfOk result (λ value. N.number value
+            ≡ number_le (take count (rest self.old))) }
+        ensures moved { MatchResult result (λ _. Passes self.old self.new count)
+            (λ error. (error ≡ ReadError.TooFew) × (self.new ≡ self.old)) }
+    {
+        if self.remaining() < count {
+            return Err(ReadError::TooFew);
+        }
+        let value = far_le(Self::at(self.slice, self.position()), count);
         self.pass(count);
         Ok(value)
     }
@@ -63,19 +94,12 @@ impl<'a, R: BitRegister, O: BitOrder<R>> BitReader<'a, R, O> {
         ensures moved { MatchResult result (λ _. Passes self.old self.new count)
             (λ error. (error ≡ ReadError.TooFew) × (self.new ≡ self.old)) }
     {
-        if 0 < count && count <= self.kept {
-            let value = first_digits(self.window, count);
-            self.pass_kept(count);
-            return Ok(value);
-        }
-        if self.kept < count && count <= mem::bits_of::<R>() {
-            if let Some(chunk) = self.chunk() {
-                let value = first_digits(self.joined(chunk), count);
-                self.pass_into(chunk, count);
+        if direction_of::<R, O>() == Direction::Falls {
+            if let Some(value) = self.read_near(count) {
                 return Ok(value);
             }
         }
-        self.read_far(count)
+        self.read_far_be(count)
     }
 
     /// The number of the next `count` bits, the first the lowest digit. No bits are 0. It refuses
@@ -103,9 +127,12 @@ impl<'a, R: BitRegister, O: BitOrder<R>> BitReader<'a, R, O> {
         ensures moved { MatchResult result (λ _. Passes self.old self.new count)
             (λ error. (error ≡ ReadError.TooFew) × (self.new ≡ self.old)) }
     {
-        let value = self.peek_le(count)?;
-        self.pass(count);
-        Ok(value)
+        if direction_of::<R, O>() == Direction::Rises {
+            if let Some(value) = self.read_near(count) {
+                return Ok(value);
+            }
+        }
+        self.read_far_le(count)
     }
 
     /// What [`read_be`](BitReader::read_be) gives; the reader stays before the bits. Requires and

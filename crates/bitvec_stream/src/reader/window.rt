@@ -1,33 +1,83 @@
-//! The next bits of a reader, kept in a word: the first is the word's highest digit, and the digits
-//! below those that are kept are zero.
+//! The next bits of a reader, kept in a word under its order: the first is the word's first, the
+//! others follow, and the word's bits behind those are zero.
 
-ghost use Rattle.std.specs.Prelude.{◌≡◌, ⊤, ℕ, ◌+◌, ◌-◌, ◌<◌, ◌≤◌, Bool, List, MatchOption, length};
-ghost use Rattle.std.specs.Prelude.{take, drop};
+ghost use Rattle.std.specs.Prelude.{◌≡◌, ⊤, ℕ, ◌+◌, ◌-◌, ◌^◌, ◌<◌, ◌≤◌, Bool, List, MatchOption};
+ghost use Rattle.std.specs.Prelude.{length, drop};
 ghost use Rattle.bitvec.specs.Order.{Falls};
 ghost use Rattle.bitvec_slice.specs.BitSlice.{slice_len, bits_of};
 ghost use Rattle.bitvec_stream.specs.Golomb.{BeginsWithCode};
-ghost use Rattle.bitvec_stream.specs.Numbers.{number_be};
 ghost use Rattle.bitvec_stream.specs.Reader.{source, bits_read};
-ghost use Rattle.bitvec_stream.specs.Window.{IsWindow};
+ghost use Rattle.bitvec_stream.specs.Window.{IsWindow, IsNumberOf, IsSequential, Keeps};
 
+use crate::number::lowest;
 use crate::reader::BitReader;
 use bitvec::mem;
 use bitvec::mem::BitRegister;
 use bitvec::order::{BitOrder, Direction, direction_of};
 use bitvec_slice::slice::BitSlice;
 
-// The number of a word's first `count` digits, from the highest down.
+// A word that keeps bits, without the first `count` of them: those behind come to their places.
 #[inline(always)]
-pub(super) fn first_digits<R: BitRegister, N: BitRegister>(word: R, count: usize) -> N
+fn passed<R: BitRegister, O: BitOrder<R>>(word: R, count: usize) -> R
+    requires way { IsSequential R.BITS O.at_of }
+    requires within { count < R.BITS }
+    ensures { (xs : List Bool) (place kept : ℕ)
+        → Keeps R.BITS O.at_of xs place kept (R.number word) → count ≤ kept → kept ≤ R.BITS
+        → Keeps R.BITS O.at_of xs (place + count) (kept - count) (R.number result) }
+{
+    if direction_of::<R, O>() == Direction::Falls {
+        word.shl(count as u8)
+    } else {
+        word.shr(count as u8)
+    }
+}
+
+// A word that keeps `kept` bits, and behind them those of a whole word, as many as have place there.
+#[inline(always)]
+fn filled_up<R: BitRegister, O: BitOrder<R>>(word: R, kept: usize, next: R) -> R
+    requires way { IsSequential R.BITS O.at_of }
+    requires few { kept < R.BITS }
+    ensures { (xs : List Bool) (place : ℕ) → Keeps R.BITS O.at_of xs place kept (R.number word)
+        → Keeps R.BITS O.at_of xs (place + kept) R.BITS (R.number next)
+        → Keeps R.BITS O.at_of xs place R.BITS (R.number result) }
+{
+    if direction_of::<R, O>() == Direction::Falls {
+        word.or(next.shr(kept as u8))
+    } else {
+        word.or(next.shl(kept as u8))
+    }
+}
+
+// The first `count` bits of a word that keeps them, as a number's digits.
+#[inline(always)]
+fn first_digits<R: BitRegister, O: BitOrder<R>>(word: R, count: usize) -> R
     requires some { 0 < count }
     requires within { count ≤ R.BITS }
-    requires small { count ≤ N.BITS }
-    ensures { (xs : List Bool) (place kept : ℕ) → IsWindow R.BITS xs place kept (R.number word)
+    ensures small { R.number result < 2 ^ count }
+    ensures number { (xs : List Bool) (place kept : ℕ)
+        → Keeps R.BITS O.at_of xs place kept (R.number word)
         → count ≤ kept → kept ≤ R.BITS → place + kept ≤ length xs
-        → N.number result ≡ number_be (take count (drop place xs)) }
+        → IsNumberOf R.BITS O.at_of (drop place xs) count (R.number result) }
 {
-    let digits = word.shr(R::BITS - count as u8);
-    N::from_u128(digits.to_u128()).unwrap()
+    if direction_of::<R, O>() == Direction::Falls {
+        word.shr(R::BITS - count as u8)
+    } else {
+        lowest(count, word)
+    }
+}
+
+// The same as a number of any type that has as many digits.
+#[inline(always)]
+fn first_number<R: BitRegister, O: BitOrder<R>, N: BitRegister>(word: R, count: usize) -> N
+    requires some { 0 < count }
+    requires within { count ≤ R.BITS }
+    requires fits { count ≤ N.BITS }
+    ensures { (xs : List Bool) (place kept : ℕ)
+        → Keeps R.BITS O.at_of xs place kept (R.number word)
+        → count ≤ kept → kept ≤ R.BITS → place + kept ≤ length xs
+        → IsNumberOf R.BITS O.at_of (drop place xs) count (N.number result) }
+{
+    N::from_u128(first_digits::<R, O>(word, count).to_u128()).unwrap()
 }
 
 // Where the code that a word begins with lies in its first `kept` digits: how long it is, and the
@@ -56,31 +106,31 @@ fn filled<R: BitRegister, O: BitOrder<R>>(
     slice: BitSlice<'_, R, O>,
     position: usize,
 ) -> BitReader<'_, R, O>
-    requires falls { Falls R.BITS O.at_of }
+    requires way { IsSequential R.BITS O.at_of }
     requires inside { position ≤ slice_len slice }
     ensures source { source result ≡ slice.entry }
     ensures position { bits_read result ≡ position }
 {
     let width = mem::bits_of::<R>();
     let place = slice.head() + position;
-    let (word, passed) = (place / width, place % width);
-    if passed == 0 || !slice.has_word(word) {
+    let (word, behind) = (place / width, place % width);
+    if behind == 0 || !slice.has_word(word) {
         return BitReader::at(slice, position);
     }
-    let kept = width - passed;
+    let kept = width - behind;
     BitReader {
         slice,
         loaded: position + kept,
         kept,
-        window: slice.whole_word(word).shl(passed as u8),
+        window: passed::<R, O>(slice.whole_word(word), behind),
     }
 }
 
 impl<'a, R: BitRegister, O: BitOrder<R>> BitReader<'a, R, O> {
     ghost use Rattle.bitvec_stream.specs.Reader.{rest, Passes};
 
-    // A reader behind so many bits of a slice. Where the first bit of a word is its highest digit,
-    // it keeps what is left of the word there.
+    // A reader behind so many bits of a slice. Where positions rise or fall, it keeps what is left
+    // of the word there.
     #[inline(always)]
     pub(super) fn behind(slice: BitSlice<'a, R, O>, position: usize) -> Self
         requires { position ≤ slice_len slice }
@@ -88,38 +138,36 @@ impl<'a, R: BitRegister, O: BitOrder<R>> BitReader<'a, R, O> {
         ensures position { bits_read result ≡ position }
     {
         match direction_of::<R, O>() {
-            Direction::Falls => filled(slice, position),
-            Direction::Rises | Direction::Other => Self::at(slice, position),
+            Direction::Rises | Direction::Falls => filled(slice, position),
+            Direction::Other => Self::at(slice, position),
         }
     }
 
     // Passes over so many of the bits that are kept.
     #[inline(always)]
     pub(super) fn pass_kept(&mut self, count: usize)
-        requires { count ≤ self.old.kept }
+        requires way { IsSequential R.BITS O.at_of }
+        requires kept { count ≤ self.old.kept }
         ensures { Passes self.old self.new count }
     {
         *self = BitReader {
             slice: self.slice,
             loaded: self.loaded,
             kept: self.kept - count,
-            window: self.window.shl(count as u8),
+            window: passed::<R, O>(self.window, count),
         };
     }
 
-    // The word behind the bits that are kept, where the slice has it whole and its first bit is the
-    // highest digit.
+    // The word behind the bits that are kept, where the slice has it whole.
     #[inline(always)]
     pub(super) fn chunk(&self) -> Option<R>
         ensures { MatchOption result ⊤ (λ chunk.
             (self.now.loaded + R.BITS ≤ slice_len self.now.slice)
-            × IsWindow R.BITS (bits_of self.now.slice) self.now.loaded R.BITS (R.number chunk)) }
+            × Keeps R.BITS O.at_of (bits_of self.now.slice) self.now.loaded R.BITS
+            (R.number chunk)) }
     {
         let width = mem::bits_of::<R>();
         if self.slice.len() - self.loaded < width {
-            return None;
-        }
-        if direction_of::<R, O>() != Direction::Falls {
             return None;
         }
         let place = self.slice.head() + self.loaded;
@@ -131,22 +179,24 @@ impl<'a, R: BitRegister, O: BitOrder<R>> BitReader<'a, R, O> {
 
     // The bits that are kept, and those of a chunk behind them, as many as a word has.
     #[inline(always)]
-    pub(super) fn joined(&self, chunk: R) -> R
-        requires { IsWindow R.BITS (bits_of self.now.slice) self.now.loaded R.BITS
+    fn joined(&self, chunk: R) -> R
+        requires way { IsSequential R.BITS O.at_of }
+        requires chunk { Keeps R.BITS O.at_of (bits_of self.now.slice) self.now.loaded R.BITS
             (R.number chunk) }
-        ensures { IsWindow R.BITS (bits_of self.now.slice) (self.now.loaded - self.now.kept) R.BITS
-            (R.number result) }
+        ensures { Keeps R.BITS O.at_of (bits_of self.now.slice) (self.now.loaded - self.now.kept)
+            R.BITS (R.number result) }
     {
-        self.window.or(chunk.shr(self.kept as u8))
+        filled_up::<R, O>(self.window, self.kept, chunk)
     }
 
     // Passes over more bits than are kept, and keeps those of a chunk that are left.
     #[inline(always)]
     pub(super) fn pass_into(&mut self, chunk: R, count: usize)
+        requires way { IsSequential R.BITS O.at_of }
         requires more { self.old.kept < count }
         requires most { count ≤ R.BITS }
         requires room { self.old.loaded + R.BITS ≤ slice_len self.old.slice }
-        requires chunk { IsWindow R.BITS (bits_of self.old.slice) self.old.loaded R.BITS
+        requires chunk { Keeps R.BITS O.at_of (bits_of self.old.slice) self.old.loaded R.BITS
             (R.number chunk) }
         ensures { Passes self.old self.new count }
     {
@@ -156,29 +206,61 @@ impl<'a, R: BitRegister, O: BitOrder<R>> BitReader<'a, R, O> {
             slice: self.slice,
             loaded: self.loaded + width,
             kept: width - missing,
-            window: chunk.shl((missing - 1) as u8).shl(1),
+            window: passed::<R, O>(passed::<R, O>(chunk, missing - 1), 1),
         };
     }
 
-    // Where the code that the bits that are left begin with lies in those that are kept: how long
-    // it is, and the number of its digits behind the zeros.
+    // Reads the number of the next `count` bits, the way that positions go, where they are kept, or
+    // the last of them is in the word behind those that are. Else nothing is read.
+    #[inline(always)]
+    pub(super) fn read_near<N: BitRegister>(&mut self, count: usize) -> Option<N>
+        requires way { IsSequential R.BITS O.at_of }
+        requires few { count ≤ N.BITS }
+        ensures { MatchOption result (self.new ≡ self.old) (λ value.
+            (count ≤ length (rest self.old))
+            × IsNumberOf R.BITS O.at_of (rest self.old) count (N.number value)
+            × Passes self.old self.new count) }
+    {
+        if 0 < count && count <= self.kept {
+            let value = first_number::<R, O, N>(self.window, count);
+            self.pass_kept(count);
+            return Some(value);
+        }
+        if count <= self.kept || mem::bits_of::<R>() < count {
+            return None;
+        }
+        let chunk = self.chunk()?;
+        let value = first_number::<R, O, N>(self.joined(chunk), count);
+        self.pass_into(chunk, count);
+        Some(value)
+    }
+
+    // Where the code that the bits that are left begin with lies in those that are kept, and their
+    // positions fall: how long it is, and the number of its digits behind the zeros.
     #[inline(always)]
     pub(super) fn kept_code(&self) -> Option<(usize, R)>
-        ensures { MatchOption result ⊤ (λ it. (it.0 ≤ self.now.kept)
+        ensures { MatchOption result ⊤ (λ it. Falls R.BITS O.at_of × (it.0 ≤ self.now.kept)
             × BeginsWithCode (rest self.now) (R.number it.1) it.0) }
     {
-        code_in(self.window, self.kept)
+        match direction_of::<R, O>() {
+            Direction::Falls => code_in(self.window, self.kept),
+            Direction::Rises | Direction::Other => None,
+        }
     }
 
     // The same where it ends in a chunk behind them.
     #[inline(always)]
     pub(super) fn joined_code(&self, chunk: R) -> Option<(usize, R)>
         requires room { self.now.loaded + R.BITS ≤ slice_len self.now.slice }
-        requires chunk { IsWindow R.BITS (bits_of self.now.slice) self.now.loaded R.BITS
+        requires chunk { Keeps R.BITS O.at_of (bits_of self.now.slice) self.now.loaded R.BITS
             (R.number chunk) }
-        ensures { MatchOption result ⊤ (λ it. (self.now.kept < it.0) × (it.0 ≤ R.BITS)
+        ensures { MatchOption result ⊤ (λ it. Falls R.BITS O.at_of
+            × (self.now.kept < it.0) × (it.0 ≤ R.BITS)
             × BeginsWithCode (rest self.now) (R.number it.1) it.0) }
     {
+        if direction_of::<R, O>() != Direction::Falls {
+            return None;
+        }
         let (count, digits) = code_in(self.joined(chunk), mem::bits_of::<R>())?;
         if self.kept < count {
             Some((count, digits))

@@ -5,7 +5,7 @@ ghost use Rattle.std.specs.Prelude.{length};
 ghost use Rattle.bitvec_stream.specs.Numbers.{digits_le, digits_be};
 
 use crate::error::WriteError;
-use crate::writer::window::lowest;
+use crate::number::lowest;
 use crate::writer::{BitWriter, memory};
 use bitvec::mem;
 use bitvec::mem::BitRegister;
@@ -24,6 +24,18 @@ fn has_digits<N: BitRegister>(number: N, count: usize) -> bool
 impl<'a, R: BitRegister, O: BitOrder<R>> BitWriter<'a, R, O> {
     ghost use Rattle.bitvec_stream.specs.Writer.{room, Writes};
 
+    // Why a number is refused that has more than `count` digits: there may be no room either.
+    fn refusal(&self, count: usize) -> WriteError
+        ensures room { (result ≡ WriteError.NoRoom) ↔ (length (room self.now) < count) }
+        ensures digits { (result ≡ WriteError.TooManyDigits) ↔ (count ≤ length (room self.now)) }
+    {
+        if self.remaining() < count {
+            WriteError::NoRoom
+        } else {
+            WriteError::TooManyDigits
+        }
+    }
+
     // Writes the `count` lowest digits of a number, the highest of them first. There is room for
     // them.
     #[inline(always)]
@@ -34,6 +46,8 @@ impl<'a, R: BitRegister, O: BitOrder<R>> BitWriter<'a, R, O> {
     {
         if 0 < count && count <= self.kept {
             self.put_kept(count, lowest(count, digits));
+        } else if self.is_across(count) {
+            self.put_across(count, lowest(count, digits));
         } else {
             self.put_past(count, digits);
         }
@@ -68,20 +82,18 @@ impl<'a, R: BitRegister, O: BitOrder<R>> BitWriter<'a, R, O> {
             (λ _. Writes self.old self.new (digits_be count (N.number value)))
             (λ _. self.new ≡ self.old) }
     {
-        if 0 < count && count <= self.kept {
-            if !has_digits(value, count) {
-                return Err(WriteError::TooManyDigits);
-            }
-            self.put_kept(count, value);
-            return Ok(());
+        if !has_digits(value, count) {
+            return Err(self.refusal(count));
         }
-        if self.remaining() < count {
+        if 0 < count && count <= self.kept {
+            self.put_kept(count, value);
+        } else if self.is_across(count) {
+            self.put_across(count, value);
+        } else if count <= self.remaining() {
+            self.put_past(count, value);
+        } else {
             return Err(WriteError::NoRoom);
         }
-        if !has_digits(value, count) {
-            return Err(WriteError::TooManyDigits);
-        }
-        self.put_past(count, value);
         Ok(())
     }
 

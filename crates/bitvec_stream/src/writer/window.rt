@@ -2,12 +2,13 @@
 //! turned round so that the next bit is its highest digit. It is put into the memory at each write,
 //! so what was written stands there behind each call.
 
-ghost use Rattle.std.specs.Prelude.{◌≡◌, ℕ, ◌+◌, ◌-◌, ◌*◌, ◌^◌, ◌%◌, ◌<◌, ◌≤◌, length};
+ghost use Rattle.std.specs.Prelude.{◌≡◌, ℕ, ◌+◌, ◌-◌, ◌*◌, ◌^◌, ◌<◌, ◌≤◌, IsTrue, length};
 ghost use Rattle.bitvec.specs.Digit.{digit};
 ghost use Rattle.bitvec.specs.Order.{Falls};
 ghost use Rattle.bitvec_slice.specs.Words.{HasWord};
 ghost use Rattle.bitvec_stream.specs.Numbers.{digits_be};
 
+use crate::number::lowest;
 use crate::writer::{BitWriter, memory};
 use bitvec::mem;
 use bitvec::mem::BitRegister;
@@ -40,16 +41,6 @@ fn pushed<R: BitRegister, N: BitRegister>(word: R, count: usize, digits: N) -> R
 {
     let moved = word.shl((count - 1) as u8).shl(1);
     moved.or(low_digits::<R, N>(digits))
-}
-
-// The lowest `count` digits of a number.
-#[inline(always)]
-pub(super) fn lowest<N: BitRegister>(count: usize, digits: N) -> N
-    requires some { 0 < count }
-    requires few { count ≤ N.BITS }
-    ensures { N.number result ≡ N.number digits % 2 ^ count }
-{
-    digits.and(N::ALL.shr(N::BITS - count as u8))
 }
 
 impl<'a, R: BitRegister, O: BitOrder<R>> BitWriter<'a, R, O> {
@@ -97,19 +88,33 @@ impl<'a, R: BitRegister, O: BitOrder<R>> BitWriter<'a, R, O> {
         self.kept = kept;
     }
 
-    // Writes the `count` lowest digits of a number, the highest of them first: as many as the word
-    // that is known has places for into it, the others into the next one.
+    // Whether a number of `count` digits ends in the word behind the one that is known, and the slice
+    // has that word whole.
     #[inline(always)]
-    fn put_across<N: BitRegister>(&mut self, count: usize, digits: N)
+    pub(super) fn is_across(&self, count: usize) -> bool
+        ensures { IsTrue result → (0 < self.now.kept) × (self.now.kept < count)
+            × (count ≤ self.now.kept + R.BITS)
+            × (self.now.end + R.BITS ≤ (target_span self.now).len) }
+    {
+        let width = mem::bits_of::<R>();
+        let is_next = 0 < self.kept && self.kept < count && count - self.kept <= width;
+        is_next && width <= self.span.len() - self.end
+    }
+
+    // Writes a number of `count` digits, the highest of them first: as many as the word that is
+    // known has places for into it, the others into the next one.
+    #[inline(always)]
+    pub(super) fn put_across<N: BitRegister>(&mut self, count: usize, digits: N)
         requires some { 0 < self.old.kept }
         requires more { self.old.kept < count }
         requires near { count ≤ self.old.kept + R.BITS }
         requires few { count ≤ N.BITS }
+        requires small { N.number digits < 2 ^ count }
         requires room { self.old.end + R.BITS ≤ (target_span self.old).len }
         ensures { Writes self.old self.new (digits_be count (N.number digits)) }
     {
         let rest = count - self.kept;
-        self.put_kept(self.kept, lowest(self.kept, digits.shr(rest as u8)));
+        self.put_kept(self.kept, digits.shr(rest as u8));
         self.know(self.word + 1, 0);
         self.put_kept(rest, lowest(rest, digits));
     }
@@ -159,21 +164,14 @@ impl<'a, R: BitRegister, O: BitOrder<R>> BitWriter<'a, R, O> {
         }
     }
 
-    // Writes the `count` lowest digits of a number, the highest of them first, where the word that
-    // is known has not places for all of them. There is room for them.
+    // The same, and the word in which the next bit lies is known then.
     #[inline(always)]
     pub(super) fn put_past<N: BitRegister>(&mut self, count: usize, digits: N)
         requires few { count ≤ N.BITS }
         requires inside { count ≤ length (room self.old) }
         ensures { Writes self.old self.new (digits_be count (N.number digits)) }
     {
-        let width = mem::bits_of::<R>();
-        let is_near = 0 < self.kept && self.kept < count && count - self.kept <= width;
-        if is_near && width <= self.span.len() - self.end {
-            self.put_across(count, digits);
-        } else {
-            self.put_far(count, digits);
-            self.keep();
-        }
+        self.put_far(count, digits);
+        self.keep();
     }
 }

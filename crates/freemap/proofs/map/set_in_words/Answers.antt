@@ -1,4 +1,4 @@
-use Rattle.std.proofs.Common.{◌≡◌, ◌/◌, ◌∙◌, ℕ, Bool, List, length, map, refl, ap, arith}
+use Rattle.std.proofs.Common.{◌≡◌, ◌/◌, ℕ, Bool, List, length, map, refl, ap, arith}
 use Rattle.std.specs.Prelude.{slice_set, pos}
 use Rattle.std.proofs.lemmas.Int.{ints}
 use Rattle.bitvec.specs.Place.{Ptr, index_of}

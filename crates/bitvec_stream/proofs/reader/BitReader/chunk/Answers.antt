@@ -1,7 +1,7 @@
-use Rattle.std.proofs.Common.{rules, ◌≡◌, ◌+◌, ◌*◌, ◌/◌, ◌≤◌, length, ap, arith}
+use Rattle.std.proofs.Common.{◌≡◌, ◌+◌, ◌*◌, ◌/◌, ◌≤◌, length, ap, arith}
 use Rattle.std.proofs.lemmas.Nat.{div-add-mod'}
 use Rattle.bitvec_slice.specs.BitSlice.{slice_len, slice_span, bits_of}
-use Rattle.bitvec_stream.proofs.WindowLemmas.{window_word}
+use Rattle.bitvec_stream.proofs.KeepLemmas.{keeps_word}
 use Rattle.bitvec_stream.proofs.reader.BitReader.chunk.Goals as goal
 
 pub returns : goal.returns
@@ -18,7 +18,6 @@ returns g c =
     let row : k * width ≡ k * bits = ap (λ n. k * n) whole in
     let starts : place ≡ k * bits = omega (arith, parts, row, c.if-place-width-ne0.false, c.head.ensures) in (
       room,
-      window_word bits g.O.BitAt.at_of (slice_span it.slice).head (bits_of it.slice) it.loaded k (g.R.BitRegister.number c.whole_word.result)
-          (c.direction_of.ensures.falls.0 (search (rules, c.if-ne.false, c.ne.ensures))) starts inside
+      keeps_word bits g.O.BitAt.at_of (slice_span it.slice).head (bits_of it.slice) it.loaded k (g.R.BitRegister.number c.whole_word.result) starts inside
           (λ j h same. c.whole_word.ensures j (omega (arith, h, c.len.ensures.value, c.len.ensures.list)) same),
     )

@@ -2,7 +2,7 @@ use Rattle.std.proofs.Common.{◌≡◌, ℕ, ◌+◌, ◌-◌, ◌<◌, ◌≤�
 use Rattle.bitvec.specs.Digit.{digit}
 use Rattle.bitvec.proofs.DigitLemmas.{digit_all}
 use Rattle.bitvec_stream.proofs.DigitRangeLemmas.{masked_is}
-use Rattle.bitvec_stream.proofs.writer.window.lowest.Goals as goal
+use Rattle.bitvec_stream.proofs.number.lowest.Goals as goal
 
 pub returns : goal.returns
 returns g c =
