@@ -12,7 +12,7 @@ use Rattle.bitvec.proofs.DigitLemmas.{digit-mod, digit-zero}
 use Rattle.bitvec.proofs.MemoryLemmas.{tabulate-from_elements}
 use Rattle.bitvec_slice.proofs.DigitListLemmas.{number_le-back}
 use Rattle.bitvec_stream.specs.Numbers.{number_le, digits_le}
-use Rattle.bitvec_stream.specs.Window.{IsWindow, IsNumberOf, IsSequential, Keeps}
+use Rattle.bitvec_stream.specs.Window.{IsWindow, IsNumberOf, RisesOrFalls, Keeps}
 use Rattle.bitvec_stream.proofs.WindowLemmas.{window_moved, window_joined, first_number}
 
 -- positions of a word with more than one digit do not both rise and fall
@@ -20,7 +20,7 @@ not_both_ways : (bits : ℕ) (at : ℕ → ℕ) → 1 < bits → Falls bits at �
 not_both_ways bits at wide falls rises = (let first = falls 0 (omega (arith, wide)) in let same = rises 0 (omega (arith, wide)) in omega (arith, first, same, wide))
 
 -- positions that do not fall rise
-pub rises_else : (bits : ℕ) (at : ℕ → ℕ) → IsSequential bits at → (Falls bits at → ⊥) → Rises bits at
+pub rises_else : (bits : ℕ) (at : ℕ → ℕ) → RisesOrFalls bits at → (Falls bits at → ⊥) → Rises bits at
 rises_else bits at (inl rises) not = rises
 rises_else bits at (inr falls) not = absurd (not falls)
 

@@ -18,8 +18,8 @@ pub record Keeps (bits : ℕ) (at : ℕ → ℕ) (xs : List Bool) (place kept w 
   pub clean : (j : ℕ) → kept ≤ j → j < bits → digit w (at j) ≡ false
 
 -- positions rise or fall
-abbrev pub IsSequential : ℕ → (ℕ → ℕ) → Type 0
-IsSequential bits at = Rises bits at ⊎ Falls bits at
+abbrev pub RisesOrFalls : ℕ → (ℕ → ℕ) → Type 0
+RisesOrFalls bits at = Rises bits at ⊎ Falls bits at
 
 -- n is the number of a list's first `count` elements the way that an order's positions go: the first is the highest digit
 -- where they fall, and the lowest where they rise.

@@ -7,7 +7,7 @@ ghost use Rattle.bitvec.specs.Order.{Falls};
 ghost use Rattle.bitvec_slice.specs.BitSlice.{slice_len, bits_of};
 ghost use Rattle.bitvec_stream.specs.Golomb.{BeginsWithCode};
 ghost use Rattle.bitvec_stream.specs.Reader.{source, bits_read};
-ghost use Rattle.bitvec_stream.specs.Window.{IsWindow, IsNumberOf, IsSequential, Keeps};
+ghost use Rattle.bitvec_stream.specs.Window.{IsWindow, IsNumberOf, RisesOrFalls, Keeps};
 
 use crate::number::lowest;
 use crate::reader::BitReader;
@@ -19,7 +19,7 @@ use bitvec_slice::slice::BitSlice;
 // A word that keeps bits, without the first `count` of them: those behind come to their places.
 #[inline(always)]
 fn passed<R: BitRegister, O: BitOrder<R>>(word: R, count: usize) -> R
-    requires way { IsSequential R.BITS O.at_of }
+    requires way { RisesOrFalls R.BITS O.at_of }
     requires within { count < R.BITS }
     ensures { (xs : List Bool) (place kept : ℕ)
         → Keeps R.BITS O.at_of xs place kept (R.number word) → count ≤ kept → kept ≤ R.BITS
@@ -35,7 +35,7 @@ fn passed<R: BitRegister, O: BitOrder<R>>(word: R, count: usize) -> R
 // A word that keeps `kept` bits, and behind them those of a whole word, as many as have place there.
 #[inline(always)]
 fn filled_up<R: BitRegister, O: BitOrder<R>>(word: R, kept: usize, next: R) -> R
-    requires way { IsSequential R.BITS O.at_of }
+    requires way { RisesOrFalls R.BITS O.at_of }
     requires few { kept < R.BITS }
     ensures { (xs : List Bool) (place : ℕ) → Keeps R.BITS O.at_of xs place kept (R.number word)
         → Keeps R.BITS O.at_of xs (place + kept) R.BITS (R.number next)
@@ -106,7 +106,7 @@ fn filled<R: BitRegister, O: BitOrder<R>>(
     slice: BitSlice<'_, R, O>,
     position: usize,
 ) -> BitReader<'_, R, O>
-    requires way { IsSequential R.BITS O.at_of }
+    requires way { RisesOrFalls R.BITS O.at_of }
     requires inside { position ≤ slice_len slice }
     ensures source { source result ≡ slice.entry }
     ensures position { bits_read result ≡ position }
@@ -146,7 +146,7 @@ impl<'a, R: BitRegister, O: BitOrder<R>> BitReader<'a, R, O> {
     // Passes over so many of the bits that are kept.
     #[inline(always)]
     pub(super) fn pass_kept(&mut self, count: usize)
-        requires way { IsSequential R.BITS O.at_of }
+        requires way { RisesOrFalls R.BITS O.at_of }
         requires kept { count ≤ self.old.kept }
         ensures { Passes self.old self.new count }
     {
@@ -180,7 +180,7 @@ impl<'a, R: BitRegister, O: BitOrder<R>> BitReader<'a, R, O> {
     // The bits that are kept, and those of a chunk behind them, as many as a word has.
     #[inline(always)]
     fn joined(&self, chunk: R) -> R
-        requires way { IsSequential R.BITS O.at_of }
+        requires way { RisesOrFalls R.BITS O.at_of }
         requires chunk { Keeps R.BITS O.at_of (bits_of self.now.slice) self.now.loaded R.BITS
             (R.number chunk) }
         ensures { Keeps R.BITS O.at_of (bits_of self.now.slice) (self.now.loaded - self.now.kept)
@@ -192,7 +192,7 @@ impl<'a, R: BitRegister, O: BitOrder<R>> BitReader<'a, R, O> {
     // Passes over more bits than are kept, and keeps those of a chunk that are left.
     #[inline(always)]
     pub(super) fn pass_into(&mut self, chunk: R, count: usize)
-        requires way { IsSequential R.BITS O.at_of }
+        requires way { RisesOrFalls R.BITS O.at_of }
         requires more { self.old.kept < count }
         requires most { count ≤ R.BITS }
         requires room { self.old.loaded + R.BITS ≤ slice_len self.old.slice }
@@ -214,7 +214,7 @@ impl<'a, R: BitRegister, O: BitOrder<R>> BitReader<'a, R, O> {
     // the last of them is in the word behind those that are. Else nothing is read.
     #[inline(always)]
     pub(super) fn read_near<N: BitRegister>(&mut self, count: usize) -> Option<N>
-        requires way { IsSequential R.BITS O.at_of }
+        requires way { RisesOrFalls R.BITS O.at_of }
         requires few { count ≤ N.BITS }
         ensures { MatchOption result (self.new ≡ self.old) (λ value.
             (count ≤ length (rest self.old))

@@ -119,20 +119,6 @@ impl<'a, R: BitRegister, O: BitOrder<R>> BitWriter<'a, R, O> {
         self.put_kept(rest, lowest(rest, digits));
     }
 
-    // Writes the `count` lowest digits of a number, the highest of them first, wherever they lie.
-    // There is room for them.
-    #[inline(always)]
-    fn put_far<N: BitRegister>(&mut self, count: usize, digits: N)
-        requires few { count ≤ N.BITS }
-        requires inside { count ≤ length (room self.old) }
-        ensures { Writes self.old self.new (digits_be count (N.number digits)) }
-    {
-        let position = self.position();
-        self.kept = 0;
-        memory::store_be(self.span, self.memory, position, count, digits);
-        self.end = position + count;
-    }
-
     // Knows the word in which the next bit lies, where the slice has it whole.
     #[inline(always)]
     fn keep_word(&mut self)
@@ -164,14 +150,33 @@ impl<'a, R: BitRegister, O: BitOrder<R>> BitWriter<'a, R, O> {
         }
     }
 
-    // The same, and the word in which the next bit lies is known then.
+    // Writes the `count` lowest digits of a number, the highest of them first, wherever they lie.
+    // There is room for them.
+    #[inline(always)]
+    fn put_far<N: BitRegister>(&mut self, count: usize, digits: N)
+        requires few { count ≤ N.BITS }
+        requires inside { count ≤ length (room self.old) }
+        ensures { Writes self.old self.new (digits_be count (N.number digits)) }
+    {
+        let position = self.position();
+        self.kept = 0;
+        memory::store_be(self.span, self.memory, position, count, digits);
+        self.end = position + count;
+    }
+
+    // The same, but where the word in which the next bit lies can be known and has places for all
+    // of them, they go into that word.
     #[inline(always)]
     pub(super) fn put_past<N: BitRegister>(&mut self, count: usize, digits: N)
         requires few { count ≤ N.BITS }
         requires inside { count ≤ length (room self.old) }
         ensures { Writes self.old self.new (digits_be count (N.number digits)) }
     {
-        self.put_far(count, digits);
         self.keep();
+        if 0 < count && count <= self.kept {
+            self.put_kept(count, lowest(count, digits));
+        } else {
+            self.put_far(count, digits);
+        }
     }
 }
