@@ -257,14 +257,17 @@ fn act_on_all<O: Sequential<u64> + Formula>(
     }
     job.go();
     let read = job.sum;
-    if let Act::Write = act {
-        for n in 0..count {
-            let number = (n % 8192) as u64;
-            plain_put::<O>(&mut wanted, n.saturating_mul(13), 13, number, O::RISES);
+    let is_right = match act {
+        Act::Write => {
+            for n in 0..count {
+                let number = (n % 8192) as u64;
+                plain_put::<O>(&mut wanted, n.saturating_mul(13), 13, number, O::RISES);
+            }
+            wanted == memory
         }
-        return tell(rt, name, wanted == memory);
-    }
-    tell(rt, name, read == sum)
+        _ => read == sum,
+    };
+    tell(rt, name, is_right)
 }
 
 /// Numbers that are read and written.
