@@ -4,6 +4,7 @@ use crate::order::Order;
 use crate::register::Register;
 use crate::slice::{BitSlice, granted};
 use crate::slice_mut::BitSliceMut;
+use crate::sys::Exports;
 use core::iter::FusedIterator;
 
 /// Bits that were read and are still to be handed out: as digits, the first lowest.
@@ -41,7 +42,7 @@ impl Held {
 }
 
 /// The bits of a [`BitSlice`] in order: what [`BitSlice::iter`] returns. It reads up to 64 bits at
-/// a time.
+/// a time, and up to 1024 where all that are left are asked for in one call, as by `for_each`.
 ///
 /// # Examples
 ///
@@ -99,6 +100,65 @@ fn before<T: Register, O: Order>(bits: &BitSlice<'_, T, O>) -> usize {
     (last - last % 64).saturating_sub(start)
 }
 
+/// As many words as are read in one call where every bit is to be seen.
+const BLOCK: usize = 16;
+
+/// Bits that were read in one call, at most as many as `BLOCK` words of 64 have.
+struct Block {
+    /// As digits, the first bit lowest in the first word.
+    digits: [u64; BLOCK],
+    /// The index of the first, and how many they are.
+    from: usize,
+    len: usize,
+}
+
+impl Block {
+    /// The bits with an index from `from` to before `to`, there are some, to where the word of 64
+    /// bits ends in which the first lies and as many more words as make `words`.
+    #[inline]
+    fn read<T: Register, O: Order>(
+        bits: BitSlice<'_, T, O>,
+        from: usize,
+        to: usize,
+        words: usize,
+    ) -> Self {
+        let len = (bits.ahead(from) + 64 * (words - 1)).min(to - from);
+        let mut digits = [0; BLOCK];
+        if len <= 64 {
+            digits[0] = bits.window(from, len);
+        } else {
+            let (_, start) = bits.place();
+            let target = (&mut digits[..], 0);
+            granted(u64::convert(
+                O::CODE,
+                &bits.seen(),
+                start + from,
+                O::CODE,
+                target,
+                len,
+            ));
+            digits = digits.map(|word| O::turned(word, 64));
+        }
+        Self { digits, from, len }
+    }
+
+    /// The index behind them.
+    #[inline]
+    fn behind(&self) -> usize {
+        self.from + self.len
+    }
+
+    /// The digits of each word that are one, or zero where `FLIP`, and the index of the first.
+    #[inline]
+    fn words<const FLIP: bool>(&self) -> impl Iterator<Item = (u64, usize)> {
+        let starts = (0..self.len).step_by(64);
+        self.digits.iter().zip(starts).map(|(digits, at)| {
+            let count = (self.len - at).min(64);
+            (looked_for::<FLIP>(*digits, count), self.from + at)
+        })
+    }
+}
+
 impl<T: Register, O: Order> Iterator for Iter<'_, T, O> {
     type Item = bool;
 
@@ -148,10 +208,12 @@ impl<T: Register, O: Order> Iterator for Iter<'_, T, O> {
         let mut acc = held(init, self.front);
         let mut from = 0;
         while from < self.bits.len() {
-            let len = self.bits.ahead(from);
-            let digits = self.bits.window(from, len);
-            acc = held(acc, Held { digits, len });
-            from += len;
+            let block = Block::read(self.bits, from, self.bits.len(), BLOCK);
+            for (digits, at) in block.words::<false>() {
+                let len = (block.behind() - at).min(64);
+                acc = held(acc, Held { digits, len });
+            }
+            from = block.behind();
         }
         held(acc, self.back)
     }
@@ -223,21 +285,30 @@ impl<'a, T: Register, O: Order, const FLIP: bool> Indices<'a, T, O, FLIP> {
         take_last(&mut self.back)
     }
 
-    fn fold<B, F: FnMut(B, usize) -> B>(mut self, init: B, mut f: F) -> B {
-        let mut acc = init;
-        loop {
-            while let Some(index) = take_first(&mut self.front) {
+    fn fold<B, F: FnMut(B, usize) -> B>(self, init: B, mut f: F) -> B {
+        let mut each = |acc, mut held: (u64, usize)| {
+            let mut acc = acc;
+            while let Some(index) = take_first(&mut held) {
                 acc = f(acc, index);
             }
-            if self.from == self.to {
-                break;
+            acc
+        };
+        let mut acc = each(init, self.front);
+        let mut from = self.from;
+        // (more words at a time from one that has some on, since few are passed by faster)
+        let mut words = 1;
+        while from < self.to {
+            let block = Block::read(self.bits, from, self.to, words);
+            from = block.behind();
+            if block.words::<FLIP>().all(|(digits, _)| digits == 0) {
+                from += passed::<T, O, FLIP>(&self.bits, from, self.to - from);
+                words = 1;
+            } else {
+                acc = block.words::<FLIP>().fold(acc, &mut each);
+                words = BLOCK.min(2 * words);
             }
-            (self.front, self.from) = ahead::<T, O, FLIP>(self.bits, self.from, self.to);
         }
-        while let Some(index) = take_first(&mut self.back) {
-            acc = f(acc, index);
-        }
-        acc
+        each(acc, self.back)
     }
 
     fn size_hint(&self) -> (usize, Option<usize>) {
@@ -265,7 +336,12 @@ fn sought<T: Register, O: Order, const FLIP: bool>(
     from: usize,
     count: usize,
 ) -> u64 {
-    let digits = bits.window(from, count);
+    looked_for::<FLIP>(bits.window(from, count), count)
+}
+
+/// The lowest `count` digits, some and at most 64, or those that are zero where `FLIP`.
+#[inline]
+fn looked_for<const FLIP: bool>(digits: u64, count: usize) -> u64 {
     if FLIP {
         !digits & (!0 >> (64 - count))
     } else {

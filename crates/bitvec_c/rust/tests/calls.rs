@@ -170,6 +170,11 @@ mod cases {
             taken.0 -= usize::from(some.next().is_some());
             taken.1 -= usize::from(other.next_back().is_some());
         }
+        let (mut later_ones, mut earlier_zeros) = (Vec::new(), Vec::new());
+        some.clone().for_each(|index| later_ones.push(index));
+        other.clone().for_each(|index| earlier_zeros.push(index));
+        assert_eq!(later_ones, ones[ones.len() - taken.0..]);
+        assert_eq!(earlier_zeros, zeros[..taken.1]);
         assert_eq!((some.count(), other.count()), taken);
         assert_eq!(bits.iter_ones().last(), ones.last().copied());
         assert_eq!(bits.iter_zeros().last(), zeros.last().copied());
