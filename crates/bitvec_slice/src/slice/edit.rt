@@ -65,8 +65,8 @@ impl<'a, R: BitRegister, O: BitOrder<R>> BitSliceMut<'a, R, O> {
         span.swap(memory, i, j);
     }
 
-    /// Copies the bits of a range to as many from number `dest` on, word by word. What is copied is
-    /// what was there before the call.
+    /// Copies the bits of a range to as many from number `dest` on: by words where the order's
+    /// positions rise or fall, else by bits. What is copied is what was there before the call.
     ///
     /// Requires that the range rises, and that both ranges of bits end within the length.
     pub fn copy_within(&mut self, src: Range<usize>, dest: usize)
@@ -82,8 +82,9 @@ impl<'a, R: BitRegister, O: BitOrder<R>> BitSliceMut<'a, R, O> {
         span.copy_within(memory, src.start, dest, src.end - src.start);
     }
 
-    /// Copies the bits of another slice, of any register and order, word by word. Requires that it
-    /// has as many.
+    /// Copies the bits of another slice, of any register and order: by words where both orders
+    /// rise, both fall, or are one order with both slices at the same bit of a word, else by bits.
+    /// Requires that it has as many.
     pub fn copy_from_bitslice<R2: BitRegister, O2: BitOrder<R2>>(
         &mut self,
         source: BitSlice<'_, R2, O2>,
@@ -106,8 +107,9 @@ impl<'a, R: BitRegister, O: BitOrder<R>> BitSliceMut<'a, R, O> {
         reverse_bits(span, memory);
     }
 
-    /// Moves each bit `by` places towards the first, word by word: the first `by` bits are lost,
-    /// and the last `by` become zero. Requires that `by` is at most the length.
+    /// Moves each bit `by` places towards the first: the first `by` bits are lost, and the last
+    /// `by` become zero. Goes by words where the order's positions rise or fall, else by bits.
+    /// Requires that `by` is at most the length.
     pub fn shift_left(&mut self, by: usize)
         requires { by ≤ lent_len self.old }
         ensures { let xs = lent_bits self.old
@@ -118,8 +120,9 @@ impl<'a, R: BitRegister, O: BitOrder<R>> BitSliceMut<'a, R, O> {
         shift_bits_left(span, memory, by);
     }
 
-    /// Moves each bit `by` places towards the last, word by word: the last `by` bits are lost,
-    /// and the first `by` become zero. Requires that `by` is at most the length.
+    /// Moves each bit `by` places towards the last: the last `by` bits are lost, and the first
+    /// `by` become zero. Goes by words where the order's positions rise or fall, else by bits.
+    /// Requires that `by` is at most the length.
     pub fn shift_right(&mut self, by: usize)
         requires { by ≤ lent_len self.old }
         ensures { let xs = lent_bits self.old

@@ -1,7 +1,7 @@
 //! Whether a slice has the bits of another, and where; and a slice without its first bit or last.
 
 ghost use Rattle.std.specs.Prelude.{◌≡◌, ◌↔◌, ◌+◌, ◌-◌, ◌≤◌, ◌∷◌, ◌++◌, [], ℕ, IsTrue, MatchOption};
-ghost use Rattle.std.specs.Prelude.{false, length, take, drop};
+ghost use Rattle.std.specs.Prelude.{IfSome, false, length, take, drop};
 ghost use Rattle.bitvec_slice.specs.Patterns.{HasAt, IsLeast};
 
 use crate::slice::BitSlice;
@@ -9,7 +9,8 @@ use bitvec::mem::BitRegister;
 use bitvec::order::BitOrder;
 
 impl<'a, R: BitRegister, O: BitOrder<R>> BitSlice<'a, R, O> {
-    ghost use Rattle.bitvec_slice.specs.BitSlice.{slice_len, bits_of};
+    ghost use Rattle.bitvec.specs.Span.{span_from, span_upto};
+    ghost use Rattle.bitvec_slice.specs.BitSlice.{slice_memory, slice_span, slice_len, bits_of};
 
     /// The first bit and the bits behind it, and `None` where there are no bits. Constant time. As
     /// in the Rust crate.
@@ -25,8 +26,11 @@ impl<'a, R: BitRegister, O: BitOrder<R>> BitSlice<'a, R, O> {
     /// assert_eq!(rt; rest.first_one(), Some(1));
     /// ```
     pub fn split_first(&self) -> Option<(bool, Self)>
-        ensures { MatchOption result (length (bits_of self.now) ≡ 0)
+        ensures bits { MatchOption result (length (bits_of self.now) ≡ 0)
             (λ it. bits_of self.now ≡ it.0 ∷ bits_of it.1) }
+        ensures memory { IfSome result (λ it. slice_memory it.1 ≡ slice_memory self.now) }
+        ensures span { IfSome result (λ it. slice_span it.1
+            ≡ span_from R.BITS (slice_span self.now) 1) }
     {
         let bit = self.first()?;
         let (_, rest) = self.split_at(1);
@@ -36,8 +40,11 @@ impl<'a, R: BitRegister, O: BitOrder<R>> BitSlice<'a, R, O> {
     /// The last bit and the bits before it, and `None` where there are no bits. Constant time. As
     /// in the Rust crate.
     pub fn split_last(&self) -> Option<(bool, Self)>
-        ensures { MatchOption result (length (bits_of self.now) ≡ 0)
+        ensures bits { MatchOption result (length (bits_of self.now) ≡ 0)
             (λ it. bits_of self.now ≡ bits_of it.1 ++ (it.0 ∷ [])) }
+        ensures memory { IfSome result (λ it. slice_memory it.1 ≡ slice_memory self.now) }
+        ensures span { IfSome result (λ it. slice_span it.1
+            ≡ span_upto (slice_span self.now) (slice_len self.now - 1)) }
     {
         let bit = self.last()?;
         let (rest, _) = self.split_at(self.len() - 1);

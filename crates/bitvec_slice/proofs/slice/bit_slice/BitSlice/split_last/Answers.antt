@@ -3,8 +3,8 @@ use Rattle.bitvec_slice.specs.BitSlice.{bits_of}
 use Rattle.bitvec_slice.proofs.PatternLemmas.{rest_then_last}
 use Rattle.bitvec_slice.proofs.slice.bit_slice.BitSlice.split_last.Goals as goal
 
-pub returns : goal.returns
-returns g c =
+pub returns-clause-bits : goal.returns-clause-bits
+returns-clause-bits g c =
     let xs = bits_of c.args.self.now in
     let last = c.in_ok-bit.ensures in
     let rest = c.split_at.ensures.front ∙ ap (λ n. take (n - 1) xs) c.len.ensures.list in
