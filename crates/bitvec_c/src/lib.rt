@@ -1,8 +1,9 @@
 //! Bits in words, for callers in C and in Rust.
 //!
 //! Each call tests what the library asks of its caller and returns a status: 0, or the first of its
-//! conditions that does not hold, and then nothing is changed. A place counts the bits of a memory
-//! from 0 on, and a range has the place of its first bit and a count.
+//! conditions that does not hold, and then nothing is changed, but for the room that a run of any
+//! number of spans is lent. A place counts the bits of a memory from 0 on, and a range has the place
+//! of its first bit and a count.
 #![tactic(auto)]
 
 mod bit;

@@ -19,7 +19,7 @@ pub(crate) const TOO_MANY_SPANS: u8 = 2;
 /// A range has more than [`MAX_BITS`] bits.
 pub(crate) const TOO_LONG: u8 = 3;
 
-/// A range ends behind its memory.
+/// A range ends behind its memory, a move goes past its range, or a stream ends before its place.
 pub(crate) const OUTSIDE: u8 = 4;
 
 /// A number is to have more than [`MAX_DIGITS`] digits.

@@ -67,8 +67,8 @@ impl<O: BitOrder<usize>, const N: usize> BitArray<O, N> {
         span.range(from, to).fill(&mut self.words, bit);
     }
 
-    /// Copies the bits of a range to as many from number `dest` on, word by word. What is copied is
-    /// what was there before the call.
+    /// Copies the bits of a range to as many from number `dest` on: by words where the order's
+    /// positions rise or fall, else by bits. What is copied is what was there before the call.
     ///
     /// Requires that the range rises, and that both ranges of bits end within the length.
     pub fn copy_within(&mut self, src: Range<usize>, dest: usize)
@@ -82,8 +82,9 @@ impl<O: BitOrder<usize>, const N: usize> BitArray<O, N> {
         span_of_all::<O, N>().copy_within(&mut self.words, src.start, dest, count);
     }
 
-    /// Copies the bits of a slice, of any register and order, to as many from number `from` on,
-    /// word by word.
+    /// Copies the bits of a slice, of any register and order, to as many from number `from` on: by
+    /// words where both orders rise, both fall, or are one order with both ranges at the same bit
+    /// of a word, else by bits.
     ///
     /// Requires that these end within the length. As `copy_from_bitslice` of a part for writing in
     /// the Rust crate.
