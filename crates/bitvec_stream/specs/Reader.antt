@@ -1,6 +1,7 @@
 -- What a `BitReader` shows.
 use Rattle.std.specs.Prelude.{◌≡◌, ℕ, ◌+◌, ◌-◌, Bool, List, drop}
-use Rattle.bitvec_slice.specs.BitSlice.{bits_of}
+use Rattle.bitvec.specs.Span.{Span, span_upto, span_from}
+use Rattle.bitvec_slice.specs.BitSlice.{slice_span, bits_of}
 use Rattle.bitvec_slice.specs.declared.slice.bit_slice.BitSlice.{BitSlice}
 use Rattle.bitvec_stream.specs.declared.reader.BitReader.{BitReader}
 
@@ -15,6 +16,10 @@ bits_read reader = reader.loaded - reader.kept
 -- the bits that are left, in order
 abbrev pub rest : {R O : Type 0} {a b c d e f g h i : _} → BitReader R O a b c d e f g h i → List Bool
 rest reader = drop (reader.loaded - reader.kept) (bits_of reader.slice)
+
+-- where the next `count` bits lie
+abbrev pub next_span : {R O : Type 0} {a b c d e f g h i : _} → (bits : ℕ) → BitReader R O a b c d e f g h i → ℕ → Span
+next_span bits reader count = span_upto (span_from bits (slice_span reader.slice) (reader.loaded - reader.kept)) count
 
 -- A reader has passed over so many bits: those behind them are left, of the same slice.
 abbrev pub Passes : {R O : Type 0} {a b c d e f g h i : _} → (old new : BitReader R O a b c d e f g h i) → ℕ → Type 0

@@ -2,7 +2,7 @@
 //!
 //! A [`BitReader`](reader::BitReader) keeps the place in a
 //! [`BitSlice`](bitvec_slice::slice::BitSlice) and a [`BitWriter`](writer::BitWriter) that in a
-//! [`BitSliceMut`](bitvec_slice::slice::BitSliceMut). Each takes numbers of any width, in any
+//! span of a memory that it borrows. Each takes numbers of any width up to their type's, in any
 //! register and any lawful order; a contract speaks of the list of bits that is left, or that was
 //! written.
 #![tactic(auto)]

@@ -4,7 +4,7 @@ ghost use Rattle.std.specs.Prelude.{◌≡◌, ⊤, ◌+◌, ◌-◌, ◌<◌, �
 ghost use Rattle.std.specs.Prelude.{MatchResult};
 ghost use Rattle.std.specs.Prelude.{IfErr, length, take};
 ghost use Rattle.bitvec.specs.Span.{element};
-ghost use Rattle.bitvec_slice.specs.BitSlice.{slice_len, bits_of};
+ghost use Rattle.bitvec_slice.specs.BitSlice.{slice_memory, slice_span, slice_len, bits_of};
 ghost use Rattle.bitvec_stream.specs.Multiples.{to_multiple};
 ghost use Rattle.bitvec_stream.specs.Window.{Keeps};
 
@@ -68,7 +68,7 @@ impl<'a, R: BitRegister, O: BitOrder<R>> Clone for BitReader<'a, R, O> {
 }
 
 impl<'a, R: BitRegister, O: BitOrder<R>> BitReader<'a, R, O> {
-    ghost use Rattle.bitvec_stream.specs.Reader.{source, bits_read, rest, Passes};
+    ghost use Rattle.bitvec_stream.specs.Reader.{source, bits_read, rest, next_span, Passes};
 
     /// A reader before the first bit of a slice. Constant time. Not in the Rust crate.
     pub fn new(slice: BitSlice<'a, R, O>) -> Self
@@ -154,6 +154,8 @@ impl<'a, R: BitRegister, O: BitOrder<R>> BitReader<'a, R, O> {
         ensures accepted { IsOk result ↔ (count ≤ length (rest self.now)) }
         ensures bits { IfOk result (λ part. bits_of part ≡ take count (rest self.now)) }
         ensures len { IfOk result (λ part. slice_len part ≡ count) }
+        ensures memory { IfOk result (λ part. slice_memory part ≡ slice_memory (source self.now)) }
+        ensures span { IfOk result (λ part. slice_span part ≡ next_span R.BITS self.now count) }
         ensures refused { IfErr result (λ error. error ≡ ReadError.TooFew) }
     {
         if count > self.remaining() {
@@ -182,6 +184,8 @@ impl<'a, R: BitRegister, O: BitOrder<R>> BitReader<'a, R, O> {
         ensures accepted { IsOk result ↔ (count ≤ length (rest self.old)) }
         ensures bits { IfOk result (λ part. bits_of part ≡ take count (rest self.old)) }
         ensures len { IfOk result (λ part. slice_len part ≡ count) }
+        ensures memory { IfOk result (λ part. slice_memory part ≡ slice_memory (source self.old)) }
+        ensures span { IfOk result (λ part. slice_span part ≡ next_span R.BITS self.old count) }
         ensures moved { MatchResult result (λ _. Passes self.old self.new count)
             (λ error. (error ≡ ReadError.TooFew) × (self.new ≡ self.old)) }
     {

@@ -6,7 +6,7 @@ ghost use Rattle.std.specs.Prelude.{length, map};
 ghost use Rattle.bitvec.specs.BitSpan.{span_of, list_by};
 ghost use Rattle.bitvec.specs.Memory.{memory_bits};
 ghost use Rattle.bitvec.specs.Place.{region_max_bits};
-ghost use Rattle.bitvec.specs.Span.{Fits};
+ghost use Rattle.bitvec.specs.Span.{Fits, span_upto};
 ghost use Rattle.bitvec_slice.specs.BitSlice.{slice_memory, slice_span, slice_len, bits_of};
 ghost use Rattle.bitvec_slice.specs.BitSliceMut.{lent_memory, lent_span, lent_bits};
 ghost use Rattle.bitvec_slice.specs.Lengths.{HasLength};
@@ -161,7 +161,9 @@ impl<'a, R: BitRegister, O: BitOrder<R>> BitWriter<'a, R, O> {
     /// assert_eq!(rt; reader.read_le::<u8>(5), Ok(11));
     /// ```
     pub fn written(&self) -> BitSlice<'_, R, O>
-        ensures { bits_of result ≡ written self.now }
+        ensures bits { bits_of result ≡ written self.now }
+        ensures memory { slice_memory result ≡ (target_memory self.now).now }
+        ensures span { slice_span result ≡ span_upto (target_span self.now) (bits_written self.now) }
     {
         let (written, _) = self.slice().split_at(self.position());
         written

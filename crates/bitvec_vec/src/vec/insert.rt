@@ -116,6 +116,7 @@ impl<R: BitRegister, O: BitOrder<R>, A: Allocator> BitVec<R, O, A> {
         ensures bits { vec_bits self.new ≡ (if is_ok result
             then vec_bits self.old ++ vec_bits other.old else vec_bits self.old) }
         ensures other { vec_bits other.new ≡ (if is_ok result then [] else vec_bits other.old) }
+        ensures room { bit_capacity other.new ≡ bit_capacity other.old }
         ensures capacity { bit_capacity self.old ≤ bit_capacity self.new }
         ensures full { OnErr result (bit_capacity self.old
             < length (vec_bits self.old) + length (vec_bits other.old)) }
