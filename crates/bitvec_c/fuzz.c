@@ -533,10 +533,12 @@ static void sorted_room(struct buffer room, const struct bitvec_span *spans, uin
         }                                                                                          \
         *(bool *)answer.at = before;                                                               \
         protect(memory, PROT_READ);                                                                \
+        protect(other, PROT_READ);                                                                 \
         uint8_t status = bitvec_c_equal_##W(order, (const T *)(void *)memory.at, words,            \
                                             range.start, (const T *)(void *)other.at, other_words, \
                                             there, range.count, (bool *)answer.at);                \
         protect(memory, PROT_READ | PROT_WRITE);                                                   \
+        protect(other, PROT_READ | PROT_WRITE);                                                    \
         uint8_t wanted = range_status(width, order, words, range.start, range.count);              \
         if (wanted == BITVEC_OK)                                                                   \
             wanted = range_status(width, order, other_words, there, range.count);                  \
@@ -963,11 +965,13 @@ static uint64_t with_sign(uint64_t digits, size_t count) {
         }                                                                                          \
         memcpy(answer.at, &before, 8);                                                             \
         protect(memory, PROT_READ);                                                                \
+        protect(other, PROT_READ);                                                                 \
         uint8_t status =                                                                           \
             bitvec_c_##C(order, (const T *)(void *)memory.at, words, range.start,                  \
                                other_order, (const S *)(void *)other.at, other_words, there,       \
                                range.count, (size_t *)(void *)answer.at);                          \
         protect(memory, PROT_READ | PROT_WRITE);                                                   \
+        protect(other, PROT_READ | PROT_WRITE);                                                    \
         same_status(status, pair_status(width, order, words, range.start, other_width,             \
                                         other_order,                                               \
                                         other_words, there, range.count));                         \

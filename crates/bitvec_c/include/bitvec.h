@@ -8,9 +8,12 @@
  * index 0 at the least digit, BITVEC_MSB0 at the greatest.
  *
  * Each call returns a status: BITVEC_OK, or, of the conditions below that the call names and that
- * do not hold, the one with the lowest number. Where the status is not BITVEC_OK, nothing is
- * changed and no answer is written. A call that changes bits changes those of its range alone,
- * also in words that the range shares.
+ * do not hold, the one with the lowest number. Two kinds of calls test in another order: one with
+ * an order for each of two memories tests the memory that comes first among its arguments whole
+ * before the other, and bitvec_c_can_run_in_W and bitvec_c_run_in_W test that `room_count` is
+ * `span_count` right behind the order. Where the status is not BITVEC_OK, nothing is changed and no
+ * answer is written, but for the room of these two calls, which say what it holds then. A call that
+ * changes bits changes those of its range alone, also in words that the range shares.
  *
  * What a caller sees to, since nothing tests it:
  *
@@ -751,9 +754,10 @@ BITVEC_CHECKED uint8_t bitvec_c_copy_u64_to_u64(
 
 /* The calls from here to bitvec_c_read_signed_exp_golomb_W read numbers that stand one behind the
  * other: each takes bits from `*place` on, of those that end before `end`, and moves `*place`
- * behind them. BITVEC_OUTSIDE: `end` is before `*place`, or past the last bit of the memory.
- * BITVEC_TOO_FEW: fewer bits are left than it takes. To pass over bits, or to go back, a caller
- * sets `*place` itself. */
+ * behind them. BITVEC_TOO_LONG: more than BITVEC_MAX_BITS bits lie between the two.
+ * BITVEC_OUTSIDE: `end` is before `*place`, or past the last bit of the memory. BITVEC_TOO_FEW:
+ * fewer bits are left than it takes. To pass over bits, or to go back, a caller sets `*place`
+ * itself. */
 
 /* Writes to `number` the number of the next `count` bits: the first is its lowest digit or, where
  * `big_endian`, the highest, whatever the order and the width are. For no bits it is 0.
@@ -772,7 +776,7 @@ BITVEC_CHECKED uint8_t bitvec_c_read_u64(
     size_t count, uint64_t *number) BITVEC_NONNULL(5) BITVEC_NONNULL(8);
 
 /* Writes to `number` the signed number whose two's complement of `count` digits that is; for no
- * bits it is 0. Costs by words. */
+ * bits it is 0. BITVEC_TOO_WIDE: as above. Costs by words. */
 BITVEC_CHECKED uint8_t bitvec_c_read_signed_u8(
     uint8_t order, bool big_endian, const uint8_t *memory, size_t words, size_t *place, size_t end,
     size_t count, int64_t *number) BITVEC_NONNULL(5) BITVEC_NONNULL(8);
@@ -837,8 +841,8 @@ BITVEC_CHECKED uint8_t bitvec_c_read_signed_exp_golomb_u64(
 
 /* The calls from here to bitvec_c_write_signed_exp_golomb_W write numbers one behind the other, so
  * that the calls above read them back: each writes bits from `*place` on, of those that end before
- * `end`, moves `*place` behind them, and changes no other bit. BITVEC_OUTSIDE: as above.
- * BITVEC_TOO_FEW: fewer bits are left than it writes. */
+ * `end`, moves `*place` behind them, and changes no other bit. BITVEC_TOO_LONG and
+ * BITVEC_OUTSIDE: as above. BITVEC_TOO_FEW: fewer bits are left than it writes. */
 
 /* Makes the next `count` bits the digits of a number: the first becomes its lowest digit or, where
  * `big_endian`, the highest, whatever the order and the width are. BITVEC_TOO_WIDE: `count` is past
@@ -931,7 +935,8 @@ BITVEC_CHECKED uint8_t bitvec_c_can_run_u64(
 
 /* Serves the requests in their order, each through the span that it names, and writes the n-th
  * reply to the n-th request. It tests what bitvec_c_can_run_W does, and BITVEC_NO_ROOM and
- * BITVEC_NO_COMMAND, before it serves the first. */
+ * BITVEC_NO_COMMAND, before it serves the first. Costs these tests, and what the commands cost:
+ * BITVEC_COPY and BITVEC_FILL by words, each other one constant. */
 BITVEC_CHECKED uint8_t bitvec_c_run_u8(
     uint8_t order, const struct bitvec_span *spans, size_t span_count, uint8_t *memory,
     size_t words, const struct bitvec_request *requests, size_t request_count,
@@ -968,7 +973,7 @@ BITVEC_CHECKED uint8_t bitvec_c_can_run_in_u64(
 
 /* The run above through any number of spans, which are tested as bitvec_c_can_run_in_W does; where
  * each of them lies in the memory, and there is room for the number of each, `room` holds these
- * afterwards also where the run is refused. */
+ * afterwards also where the run is refused. Costs as that run, with these tests. */
 BITVEC_CHECKED uint8_t bitvec_c_run_in_u8(
     uint8_t order, const struct bitvec_span *spans, size_t span_count, uint8_t *memory,
     size_t words, const struct bitvec_request *requests, size_t request_count,

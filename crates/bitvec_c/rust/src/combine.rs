@@ -33,7 +33,7 @@ impl<T: Register, O: Order> BitSliceMut<'_, T, O> {
     }
 
     /// Clears those bits whose bit in another slice is one: the difference of two sets. Costs by
-    /// words.
+    /// words, or by bits where both have words of one type and their orders differ.
     ///
     /// # Errors
     ///
@@ -62,7 +62,8 @@ impl<T: Register, O: Order> BitSliceMut<'_, T, O> {
 }
 
 /// Leaves one those bits whose bit in the other slice, of any words and order, is one. Where that
-/// is shorter, the bits behind its last become zero. Costs by words.
+/// is shorter, the bits behind its last become zero. Costs by words, or by bits where both have
+/// words of one type and their orders differ.
 ///
 /// # Examples
 ///
@@ -86,7 +87,8 @@ impl<'b, T: Register, O: Order, T2: Register, O2: Order> BitAndAssign<BitSlice<'
 }
 
 /// Makes one those bits whose bit in the other slice, of any words and order, is one. Where that is
-/// shorter, the bits behind its last stay. Costs by words.
+/// shorter, the bits behind its last stay. Costs by words, or by bits where both have words of one
+/// type and their orders differ.
 ///
 /// # Examples
 ///
@@ -107,7 +109,8 @@ impl<'b, T: Register, O: Order, T2: Register, O2: Order> BitOrAssign<BitSlice<'b
 }
 
 /// Turns over those bits whose bit in the other slice, of any words and order, is one. Where that
-/// is shorter, the bits behind its last stay. Costs by words.
+/// is shorter, the bits behind its last stay. Costs by words, or by bits where both have words of
+/// one type and their orders differ.
 ///
 /// # Examples
 ///
@@ -179,8 +182,8 @@ type Question<T> = fn(u8, (&[T], usize), u8, (&[T], usize), usize) -> Result<usi
 
 impl<T: Register, O: Order> BitSlice<'_, T, O> {
     /// Whether each index with a one here has a one in another slice: whether one set lies in
-    /// another. Behind its last bit a slice has no ones. Costs by words, up to the first that
-    /// decides.
+    /// another. Behind its last bit a slice has no ones. Costs by words, or by bits where both have
+    /// words of one type and their orders differ, up to the first index that decides.
     ///
     /// # Examples
     ///
@@ -194,14 +197,20 @@ impl<T: Register, O: Order> BitSlice<'_, T, O> {
     #[must_use]
     pub fn is_subset<T2: Register, O2: Order>(&self, other: &BitSlice<'_, T2, O2>) -> bool {
         let common = self.len().min(other.len());
-        !self.rest(common).any()
-            && self
+        if self.rest(common).any() {
+            return false;
+        }
+        match T::same(&other.seen()) {
+            Some(words) => self.ask(words, other, common, T::first_and_not) == common,
+            None => self
                 .windows_with(other)
-                .all(|(here, there)| here & !there == 0)
+                .all(|(here, there)| here & !there == 0),
+        }
     }
 
     /// Whether there is an index with a one here and in another slice: whether two sets have an
-    /// element in common. Costs by words, up to the first that decides.
+    /// element in common. Costs by words, or by bits where both have words of one type and their
+    /// orders differ, up to the first such index.
     ///
     /// # Examples
     ///
@@ -213,12 +222,18 @@ impl<T: Register, O: Order> BitSlice<'_, T, O> {
     /// ```
     #[must_use]
     pub fn intersects<T2: Register, O2: Order>(&self, other: &BitSlice<'_, T2, O2>) -> bool {
-        self.windows_with(other)
-            .any(|(here, there)| here & there != 0)
+        let common = self.len().min(other.len());
+        match T::same(&other.seen()) {
+            Some(words) => self.ask(words, other, common, T::first_and) != common,
+            None => self
+                .windows_with(other)
+                .any(|(here, there)| here & there != 0),
+        }
     }
 
     /// At how many indices there is a one here and in another slice: how many elements two sets
-    /// have in common. Costs by words.
+    /// have in common. Costs by words, or by bits where both have words of one type and their
+    /// orders differ.
     ///
     /// # Examples
     ///

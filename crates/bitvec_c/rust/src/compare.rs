@@ -8,8 +8,8 @@ use core::cmp::Ordering;
 use core::hash::{Hash, Hasher};
 
 impl<T: Register, O: Order> BitSlice<'_, T, O> {
-    /// Whether another slice has as many bits, and the same ones: what `==` answers. Costs by
-    /// words, up to the first difference.
+    /// Whether another slice has as many bits, and the same ones: what `==` answers. Costs by words
+    /// where the orders are the same, else by bits, up to the first difference.
     ///
     /// # Examples
     ///
@@ -39,7 +39,7 @@ impl<T: Register, O: Order> BitSlice<'_, T, O> {
     }
 
     /// The first index at which the slices have different bits, as far as both go, and `None` where
-    /// there is none. Costs by words, up to that bit.
+    /// there is none. Costs by words where the orders are the same, else by bits, up to that bit.
     ///
     /// # Examples
     ///
@@ -68,7 +68,7 @@ impl<T: Register, O: Order> BitSlice<'_, T, O> {
 
     /// How the bits compare with those of another slice, as two lists of `bool` do: at the first
     /// difference the one with the zero is less, and where there is none, the shorter. Costs by
-    /// words, up to the first difference.
+    /// words where the orders are the same, else by bits, up to the first difference.
     ///
     /// # Examples
     ///
@@ -89,7 +89,8 @@ impl<T: Register, O: Order> BitSlice<'_, T, O> {
         }
     }
 
-    /// Whether the bits begin with those of another slice. Costs by words.
+    /// Whether the bits begin with those of another slice. Costs by words where the orders are the
+    /// same, else by bits.
     ///
     /// # Examples
     ///
@@ -105,7 +106,8 @@ impl<T: Register, O: Order> BitSlice<'_, T, O> {
             .is_ok_and(|start| start.equals(other))
     }
 
-    /// Whether the bits end with those of another slice. Costs by words.
+    /// Whether the bits end with those of another slice. Costs by words where the orders are the
+    /// same, else by bits.
     ///
     /// # Examples
     ///
@@ -126,7 +128,7 @@ impl<T: Register, O: Order> BitSlice<'_, T, O> {
 }
 
 /// Whether two slices have as many bits, and the same ones, whatever their words and orders are.
-/// Costs by words.
+/// Costs by words where the orders are the same, else by bits.
 ///
 /// # Examples
 ///
@@ -171,18 +173,25 @@ impl<'b, T: Register, O: Order, T2: Register, O2: Order> PartialEq<BitSliceMut<'
     }
 }
 
-/// Whether a list of truth values is that of the bits. Costs by bits.
-impl<T: Register, O: Order> PartialEq<[bool]> for BitSlice<'_, T, O> {
-    fn eq(&self, other: &[bool]) -> bool {
-        self.iter().eq(other.iter().copied())
-    }
+macro_rules! lists {
+    ($($slice:ident)*) => { $(
+        /// Whether a list of truth values is that of the bits. Costs by bits.
+        impl<T: Register, O: Order> PartialEq<[bool]> for $slice<'_, T, O> {
+            fn eq(&self, other: &[bool]) -> bool {
+                self.iter().eq(other.iter().copied())
+            }
+        }
+
+        /// As with a slice of truth values.
+        impl<T: Register, O: Order, const N: usize> PartialEq<[bool; N]> for $slice<'_, T, O> {
+            fn eq(&self, other: &[bool; N]) -> bool {
+                *self == other[..]
+            }
+        }
+    )* };
 }
 
-impl<T: Register, O: Order, const N: usize> PartialEq<[bool; N]> for BitSlice<'_, T, O> {
-    fn eq(&self, other: &[bool; N]) -> bool {
-        *self == other[..]
-    }
-}
+lists!(BitSlice BitSliceMut);
 
 impl<T: Register, O: Order> Eq for BitSlice<'_, T, O> {}
 
@@ -197,7 +206,8 @@ impl<'b, T: Register, O: Order, T2: Register, O2: Order> PartialOrd<BitSlice<'b,
 }
 
 /// The order of two lists of `bool`: that of the first bits that differ, and else a slice that goes
-/// on is the greater. Slices of other words and orders compare by `<` too. Costs by words.
+/// on is the greater. Slices of other words and orders compare by `<` too. Costs by words, or by
+/// bits where the orders differ.
 ///
 /// # Examples
 ///
@@ -222,6 +232,22 @@ impl<'b, T: Register, O: Order, T2: Register, O2: Order> PartialOrd<BitSliceMut<
 {
     fn partial_cmp(&self, other: &BitSliceMut<'b, T2, O2>) -> Option<Ordering> {
         Some(self.as_bitslice().compare(&other.as_bitslice()))
+    }
+}
+
+impl<'b, T: Register, O: Order, T2: Register, O2: Order> PartialOrd<BitSliceMut<'b, T2, O2>>
+    for BitSlice<'_, T, O>
+{
+    fn partial_cmp(&self, other: &BitSliceMut<'b, T2, O2>) -> Option<Ordering> {
+        Some(self.compare(&other.as_bitslice()))
+    }
+}
+
+impl<'b, T: Register, O: Order, T2: Register, O2: Order> PartialOrd<BitSlice<'b, T2, O2>>
+    for BitSliceMut<'_, T, O>
+{
+    fn partial_cmp(&self, other: &BitSlice<'b, T2, O2>) -> Option<Ordering> {
+        Some(self.as_bitslice().compare(other))
     }
 }
 

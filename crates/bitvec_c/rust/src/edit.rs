@@ -172,7 +172,8 @@ impl<T: Register, O: Order> BitSliceMut<'_, T, O> {
         number.store(O::CODE, true, words, start, len)
     }
 
-    /// Makes the bits the same as those of another slice, of any words and order. Costs by words.
+    /// Makes the bits the same as those of another slice, of any words and order. Costs by words
+    /// where the orders are the same, else by bits.
     ///
     /// # Errors
     ///

@@ -105,7 +105,8 @@ impl<T: Register, O: Order> BitSlice<'_, T, O> {
     ///
     /// # Errors
     ///
-    /// [`Refusal::Reversed`](crate::Refusal::Reversed) where the range starts past its end, and
+    /// [`Refusal::Reversed`](crate::Refusal::Reversed) where the range starts past its end,
+    /// [`Refusal::TooLong`](crate::Refusal::TooLong) where it has too many bits, and
     /// [`Refusal::Outside`](crate::Refusal::Outside) where it ends past the last bit.
     ///
     /// # Examples

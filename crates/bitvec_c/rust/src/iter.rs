@@ -55,6 +55,7 @@ impl Held {
 /// assert_eq!(bits.iter().rev().position(|bit| bit), Some(4));
 /// ```
 #[derive(Clone, Debug)]
+#[must_use = "iterators are lazy and do nothing unless consumed"]
 pub struct Iter<'a, T: Register, O: Order> {
     front: Held,
     /// The bits that are not read yet.
@@ -229,6 +230,16 @@ impl<T: Register, O: Order> DoubleEndedIterator for Iter<'_, T, O> {
             (self.back, self.bits) = read_last(self.bits);
         }
         self.back.last()
+    }
+
+    fn nth_back(&mut self, n: usize) -> Option<bool> {
+        let here = n.min(self.back.len);
+        self.back.len -= here;
+        let before = (n - here).min(self.bits.len());
+        self.bits = self.bits.start(self.bits.len() - before);
+        let behind = (n - here - before).min(self.front.len);
+        self.front.len -= behind;
+        self.next_back()
     }
 }
 
@@ -428,6 +439,7 @@ macro_rules! indices {
     ($($(#[$doc:meta])* $name:ident $flip:literal;)*) => { $(
         $(#[$doc])*
         #[derive(Clone, Debug)]
+        #[must_use = "iterators are lazy and do nothing unless consumed"]
         pub struct $name<'a, T: Register, O: Order>(Indices<'a, T, O, $flip>);
 
         impl<T: Register, O: Order> Iterator for $name<'_, T, O> {
@@ -505,6 +517,7 @@ indices! {
 /// assert_eq!(digits.collect::<Vec<_>>(), [1, 2, 3, 4]);
 /// ```
 #[derive(Clone, Debug)]
+#[must_use = "iterators are lazy and do nothing unless consumed"]
 pub struct Chunks<'a, T: Register, O: Order> {
     bits: BitSlice<'a, T, O>,
     size: usize,
@@ -527,6 +540,20 @@ impl<'a, T: Register, O: Order> Iterator for Chunks<'a, T, O> {
         let left = self.bits.len().div_ceil(self.size);
         (left, Some(left))
     }
+
+    fn count(self) -> usize {
+        self.len()
+    }
+
+    fn nth(&mut self, n: usize) -> Option<Self::Item> {
+        let passed = n.saturating_mul(self.size).min(self.bits.len());
+        self.bits = self.bits.rest(passed);
+        self.next()
+    }
+
+    fn last(mut self) -> Option<Self::Item> {
+        self.next_back()
+    }
 }
 
 impl<T: Register, O: Order> DoubleEndedIterator for Chunks<'_, T, O> {
@@ -543,7 +570,8 @@ impl<T: Register, O: Order> ExactSizeIterator for Chunks<'_, T, O> {}
 impl<T: Register, O: Order> FusedIterator for Chunks<'_, T, O> {}
 
 impl<'a, T: Register, O: Order> BitSlice<'a, T, O> {
-    /// The bits in order. It reads up to 64 of them by one call.
+    /// The bits in order. It reads up to 64 of them by one call, and up to 1024 where all that are
+    /// left are asked for at once.
     ///
     /// # Examples
     ///
@@ -554,7 +582,6 @@ impl<'a, T: Register, O: Order> BitSlice<'a, T, O> {
     /// let mut bits = words.view_bits::<Msb0>().iter();
     /// assert_eq!((bits.next(), bits.len()), (Some(true), 7));
     /// ```
-    #[must_use]
     pub fn iter(&self) -> Iter<'a, T, O> {
         Iter::new(*self)
     }
@@ -571,7 +598,6 @@ impl<'a, T: Register, O: Order> BitSlice<'a, T, O> {
     /// assert_eq!(bits.iter_ones().rev().next(), Some(6));
     /// # Ok::<(), worghulen::Refusal>(())
     /// ```
-    #[must_use]
     pub fn iter_ones(&self) -> Ones<'a, T, O> {
         Ones(Indices::new(*self))
     }
@@ -587,7 +613,6 @@ impl<'a, T: Register, O: Order> BitSlice<'a, T, O> {
     /// assert_eq!(bits.iter_zeros().collect::<Vec<_>>(), [2, 3, 5]);
     /// # Ok::<(), worghulen::Refusal>(())
     /// ```
-    #[must_use]
     pub fn iter_zeros(&self) -> Zeros<'a, T, O> {
         Zeros(Indices::new(*self))
     }
@@ -607,7 +632,6 @@ impl<'a, T: Register, O: Order> BitSlice<'a, T, O> {
     /// let counts = words.view_bits::<Lsb0>().chunks(3).map(|chunk| chunk.count_ones());
     /// assert_eq!(counts.collect::<Vec<_>>(), [0, 2, 2]);
     /// ```
-    #[must_use]
     #[track_caller]
     pub fn chunks(&self, size: usize) -> Chunks<'a, T, O> {
         assert!(size != 0, "a chunk has no bits");

@@ -2,8 +2,13 @@
 #![no_std]
 #![deny(missing_docs, unsafe_code)]
 
-#[cfg(not(all(target_arch = "x86_64", target_pointer_width = "64")))]
-compile_error!("the static library is compiled for x86-64 alone");
+#[cfg(not(all(
+    target_arch = "x86_64",
+    target_pointer_width = "64",
+    target_feature = "sse2",
+    not(any(windows, target_os = "uefi")),
+)))]
+compile_error!("the static library is compiled for x86-64 with SSE2 and the System V calls alone");
 
 #[cfg(test)]
 extern crate std;

@@ -1,7 +1,10 @@
 //! Where the bit of an index lies in a word.
 
+use core::fmt::Debug;
+use core::hash::Hash;
+
 /// An order of the bits in a word: [`Lsb0`] or [`Msb0`], and no other.
-pub trait Order: code::Code + Copy + 'static {}
+pub trait Order: code::Code + Copy + Eq + Hash + Debug + Send + Sync + 'static {}
 
 /// The bit of index `i` of a word is its digit `i`: index 0 is least.
 ///

@@ -52,9 +52,9 @@ readers! {
     #[must_use] not_any() -> bool;
     #[must_use] all() -> bool;
     #[must_use] not_all() -> bool;
-    #[must_use] iter() -> Iter<'_, T, O>;
-    #[must_use] iter_ones() -> Ones<'_, T, O>;
-    #[must_use] iter_zeros() -> Zeros<'_, T, O>;
+    iter() -> Iter<'_, T, O>;
+    iter_ones() -> Ones<'_, T, O>;
+    iter_zeros() -> Zeros<'_, T, O>;
     #[must_use] split_at_checked(mid: usize) -> Option<(BitSlice<'_, T, O>, BitSlice<'_, T, O>)>;
     #[must_use] split_first() -> Option<(bool, BitSlice<'_, T, O>)>;
     #[must_use] split_last() -> Option<(bool, BitSlice<'_, T, O>)>;
@@ -87,7 +87,7 @@ readers! {
     /// # Panics
     ///
     /// As that call.
-    #[must_use] #[track_caller] chunks(size: usize) -> Chunks<'_, T, O>;
+    #[track_caller] chunks(size: usize) -> Chunks<'_, T, O>;
 }
 
 impl<T: Register, O: Order> BitSliceMut<'_, T, O> {

@@ -3,7 +3,8 @@
 use core::error::Error;
 use core::fmt::{self, Display, Formatter};
 
-/// Why a call is refused. It has then changed nothing.
+/// Why a call is refused. It has then changed nothing, but for the room of a
+/// [`ManySpans`](crate::ManySpans).
 ///
 /// # Examples
 ///
@@ -23,7 +24,8 @@ pub enum Refusal {
     TooManySpans,
     /// A range has more than 2305843009213693951 bits.
     TooLong,
-    /// A range ends past the last bit of its memory or slice, or there is no bit at an index.
+    /// A range ends past the last bit of its memory or slice, there is no bit at an index, or bits
+    /// are to be moved by more places than there are.
     Outside,
     /// A number is to have more bits than its type, or more than 64.
     TooWide,

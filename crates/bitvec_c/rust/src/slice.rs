@@ -13,8 +13,8 @@ use core::ops::RangeBounds;
 /// A range of bits of a slice of words, to be read.
 ///
 /// Indices count its bits from 0 on. Two are equal where they have as many bits, and the same ones,
-/// whatever their words and orders are, and they are ordered as two lists of `bool` are. It is as
-/// cheap to hand on as a `&[T]`.
+/// whatever their words and orders are, and they are ordered as two lists of `bool` are. It is
+/// `Copy`, of four machine words.
 ///
 /// # Examples
 ///

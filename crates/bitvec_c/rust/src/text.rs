@@ -4,25 +4,51 @@ use crate::order::Order;
 use crate::register::Register;
 use crate::slice::BitSlice;
 use crate::slice_mut::BitSliceMut;
-use core::fmt::{self, Binary, Debug, Display, Formatter, Write};
+use core::fmt::{self, Alignment, Binary, Debug, Display, Formatter, Write};
 
-/// The bits in order, each as 0 or 1, with nothing between them. Costs by bits.
+/// Writes a prefix and the bits in order, each as 0 or 1, in as wide a field as is asked for.
+fn write_bits<T: Register, O: Order>(
+    f: &mut Formatter<'_>,
+    prefix: &str,
+    bits: &BitSlice<'_, T, O>,
+) -> fmt::Result {
+    let room = f.width().unwrap_or(0);
+    let empty = room.saturating_sub(prefix.len()).saturating_sub(bits.len());
+    let before = match f.align() {
+        Some(Alignment::Right) => empty,
+        Some(Alignment::Center) => empty / 2,
+        _ => 0,
+    };
+    let fill = f.fill();
+    (0..before).try_for_each(|_| f.write_char(fill))?;
+    f.write_str(prefix)?;
+    bits.iter()
+        .try_for_each(|bit| f.write_char(if bit { '1' } else { '0' }))?;
+    (before..empty).try_for_each(|_| f.write_char(fill))
+}
+
+/// The bits in order, each as 0 or 1, with nothing between them. Width, fill and alignment are as
+/// of a text. Costs by bits.
 ///
 /// # Examples
 ///
 /// ```
 /// use worghulen::{BitView, Lsb0};
 ///
-/// assert_eq!(format!("{}", [0b0000_1101_u8].view_bits::<Lsb0>()), "10110000");
+/// let words = [0b0000_1101_u8];
+/// let bits = words.view_bits::<Lsb0>();
+/// assert_eq!(format!("{bits}"), "10110000");
+/// let (low, high) = bits.split_at(4);
+/// assert_eq!(format!("{low:>6}|{high:.<6}"), "  1011|0000..");
 /// ```
 impl<T: Register, O: Order> Display for BitSlice<'_, T, O> {
     fn fmt(&self, f: &mut Formatter<'_>) -> fmt::Result {
-        self.iter()
-            .try_for_each(|bit| f.write_char(if bit { '1' } else { '0' }))
+        write_bits(f, "", self)
     }
 }
 
-/// The text of `Display`, behind `0b` where the flag `#` asks for it. Costs by bits.
+/// The text of `Display`, behind `0b` where the flag `#` asks for it. No zeros are put before it.
+/// Costs by bits.
 ///
 /// # Examples
 ///
@@ -35,10 +61,7 @@ impl<T: Register, O: Order> Display for BitSlice<'_, T, O> {
 /// ```
 impl<T: Register, O: Order> Binary for BitSlice<'_, T, O> {
     fn fmt(&self, f: &mut Formatter<'_>) -> fmt::Result {
-        if f.alternate() {
-            f.write_str("0b")?;
-        }
-        Display::fmt(self, f)
+        write_bits(f, if f.alternate() { "0b" } else { "" }, self)
     }
 }
 

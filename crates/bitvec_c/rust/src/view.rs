@@ -56,6 +56,20 @@ impl<T: Register> BitView for [T] {
     }
 }
 
+impl<T: Register, const N: usize> BitView for [T; N] {
+    type Word = T;
+
+    #[inline]
+    fn view_bits<O: Order>(&self) -> BitSlice<'_, T, O> {
+        self.as_slice().view_bits()
+    }
+
+    #[inline]
+    fn view_bits_mut<O: Order>(&mut self) -> BitSliceMut<'_, T, O> {
+        self.as_mut_slice().view_bits_mut()
+    }
+}
+
 macro_rules! words {
     ($($word:ident)*) => { $(
         impl BitView for $word {

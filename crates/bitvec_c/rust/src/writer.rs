@@ -201,7 +201,8 @@ impl<'a, T: Register, O: Order> BitWriter<'a, T, O> {
         Ok(())
     }
 
-    /// Writes the bits of a slice, of any words and order. Costs by words.
+    /// Writes the bits of a slice, of any words and order. Costs by words where the orders are the
+    /// same, else by bits.
     ///
     /// # Errors
     ///

@@ -3,8 +3,12 @@
 mod common;
 
 use common::{CASES, Random, for_all_memories};
+use std::cmp::Ordering;
 use std::collections::HashSet;
-use worghulen::{BitView, Lsb0, Msb0, Number, Refusal};
+use std::hash::{DefaultHasher, Hash, Hasher};
+use worghulen::{
+    BitSlice, BitSliceMut, BitView, Lsb0, Msb0, Number, Order, Refusal, Register, Spans,
+};
 
 for_all_memories!(parts_have_the_bits_of_their_ranges, 21);
 for_all_memories!(bits_come_from_both_ends, 22);
@@ -19,6 +23,7 @@ for_all_memories!(bits_are_edited, 30);
 for_all_memories!(bits_are_moved, 31);
 for_all_memories!(parts_are_lent, 32);
 for_all_memories!(numbers_have_types, 33);
+for_all_memories!(folds_go_over_blocks, 34);
 
 mod cases {
     use crate::common::{Layout, Random, Word, bits_of, checked, with_any_other};
@@ -94,27 +99,34 @@ mod cases {
         );
         let back = bits.chunks(size).rev().map(list);
         assert!(back.eq(model.chunks(size).rev().map(<[bool]>::to_vec)));
-        assert_eq!(bits.chunks(size).len(), model.chunks(size).len());
+        let (chunks, lists) = (bits.chunks(size), model.chunks(size));
+        assert_eq!(chunks.len(), lists.len());
+        assert_eq!(chunks.clone().count(), lists.len());
+        assert_eq!(
+            chunks.clone().last().map(list),
+            lists.clone().last().map(<[bool]>::to_vec)
+        );
+        same_from_both_ends(random, chunks.map(list), lists.map(<[bool]>::to_vec));
     }
 
     /// Takes from both ends, in any turns, what an iterator and its model have.
     fn same_from_both_ends<I: PartialEq + std::fmt::Debug>(
         random: &mut Random,
         mut ours: impl DoubleEndedIterator<Item = I>,
-        mut theirs: impl DoubleEndedIterator<Item = I>,
+        mut theirs: impl DoubleEndedIterator<Item = I> + Clone,
     ) {
         loop {
             let (low, high) = ours.size_hint();
-            let (one, other) = match random.below(3) {
+            let left = theirs.clone().count();
+            assert!(low <= left && high.is_none_or(|high| left <= high));
+            let n = random.below(70);
+            let (one, other) = match random.below(4) {
                 0 => (ours.next(), theirs.next()),
                 1 => (ours.next_back(), theirs.next_back()),
-                _ => {
-                    let n = random.below(70);
-                    (ours.nth(n), theirs.nth(n))
-                }
+                2 => (ours.nth(n), theirs.nth(n)),
+                _ => (ours.nth_back(n), theirs.nth_back(n)),
             };
             assert_eq!(one, other);
-            assert!(high.is_none_or(|high| low <= high));
             if one.is_none() {
                 assert_eq!((ours.next(), ours.next_back()), (None, None));
                 return;
@@ -165,19 +177,58 @@ mod cases {
         same_from_both_ends(random, bits.iter_ones(), ones.iter().copied());
         same_from_both_ends(random, bits.iter_zeros(), zeros.iter().copied());
         let (mut some, mut other) = (bits.iter_ones(), bits.iter_zeros());
-        let mut taken = (ones.len(), zeros.len());
+        let mut left = (ones.iter().copied(), zeros.iter().copied());
         for _ in 0..random.below(9) {
-            taken.0 -= usize::from(some.next().is_some());
-            taken.1 -= usize::from(other.next_back().is_some());
+            if random.bit() {
+                assert_eq!(some.next(), left.0.next());
+                assert_eq!(other.next_back(), left.1.next_back());
+            } else {
+                assert_eq!(some.next_back(), left.0.next_back());
+                assert_eq!(other.next(), left.1.next());
+            }
         }
-        let (mut later_ones, mut earlier_zeros) = (Vec::new(), Vec::new());
-        some.clone().for_each(|index| later_ones.push(index));
-        other.clone().for_each(|index| earlier_zeros.push(index));
-        assert_eq!(later_ones, ones[ones.len() - taken.0..]);
-        assert_eq!(earlier_zeros, zeros[..taken.1]);
-        assert_eq!((some.count(), other.count()), taken);
+        let (mut ones_left, mut zeros_left) = (Vec::new(), Vec::new());
+        some.clone().for_each(|index| ones_left.push(index));
+        other.clone().for_each(|index| zeros_left.push(index));
+        assert_eq!((some.count(), other.count()), (left.0.len(), left.1.len()));
+        assert_eq!(ones_left, left.0.collect::<Vec<_>>());
+        assert_eq!(zeros_left, left.1.collect::<Vec<_>>());
         assert_eq!(bits.iter_ones().last(), ones.last().copied());
         assert_eq!(bits.iter_zeros().last(), zeros.last().copied());
+    }
+
+    /// What was read in one call of many words, from any place on.
+    pub fn folds_go_over_blocks<T: Word, O: Layout>(random: &mut Random) {
+        if !random.one_in(64) {
+            return;
+        }
+        let kind = random.below(3);
+        let word = |_| match kind {
+            0 => T::of(u64::MAX),
+            1 if !random.one_in(40) => T::of(0),
+            _ => T::of(random.number()),
+        };
+        let words: Vec<T> = (0..4096 / T::BITS).map(word).collect();
+        let range = inner(random, 4096);
+        let model = bits_of::<T, O>(&words)[range.clone()].to_vec();
+        let bits = BitSlice::<T, O>::new(&words, range).unwrap();
+        let (mut iter, mut left) = (bits.iter(), model.iter().copied());
+        for _ in 0..random.below(9) {
+            assert_eq!(iter.next(), left.next());
+            assert_eq!(iter.next_back(), left.next_back());
+        }
+        let mut folded = Vec::new();
+        iter.for_each(|bit| folded.push(bit));
+        assert_eq!(folded, left.collect::<Vec<_>>());
+        let of = |bit| {
+            (0..model.len())
+                .filter(|i| model[*i] == bit)
+                .collect::<Vec<_>>()
+        };
+        let (mut ones, mut zeros) = (Vec::new(), Vec::new());
+        bits.iter_ones().for_each(|index| ones.push(index));
+        bits.iter_zeros().for_each(|index| zeros.push(index));
+        assert_eq!((ones, zeros), (of(true), of(false)));
     }
 
     pub fn what_is_found_is_there<T: Word, O: Layout>(random: &mut Random) {
@@ -613,6 +664,56 @@ fn equal_slices_are_one_key() {
     seen.insert(words.view_bits::<Msb0>().get(4..12).unwrap());
     assert!(seen.contains(&turned.view_bits::<Msb0>().get(..8).unwrap()) == false);
     assert!(seen.contains(&words.view_bits::<Msb0>().get(4..12).unwrap()));
+    let moved = [0x00ff_u16];
+    assert!(seen.contains(&moved.view_bits::<Msb0>().get(8..).unwrap()));
+}
+
+#[test]
+fn slices_for_reading_and_for_writing_are_alike() {
+    let none = BitSliceMut::<u8, Msb0>::default();
+    assert!(BitSlice::<u8, Lsb0>::default().is_empty() && none.is_empty());
+    let (read, mut words) = ([0x0f_u8], [0x0f_u8]);
+    let (one, other) = (read.view_bits::<Lsb0>(), words.view_bits_mut::<Lsb0>());
+    assert_eq!(one, other);
+    assert_eq!(other, one);
+    assert_eq!(one.partial_cmp(&other), Some(Ordering::Equal));
+    assert_eq!(other.partial_cmp(&one), Some(Ordering::Equal));
+    assert_eq!(other.partial_cmp(&none), Some(Ordering::Greater));
+    assert_eq!(other.cmp(&other), Ordering::Equal);
+    assert_eq!(other, [true, true, true, true, false, false, false, false]);
+    let hash = |feed: &dyn Fn(&mut DefaultHasher)| {
+        let mut hasher = DefaultHasher::new();
+        feed(&mut hasher);
+        hasher.finish()
+    };
+    assert_eq!(hash(&|it| one.hash(it)), hash(&|it| other.hash(it)));
+    assert_eq!((!other).to_string(), "00001111");
+}
+
+#[test]
+fn texts_are_padded() {
+    let words = [0b0000_1101_u8];
+    let bits = words.view_bits::<Msb0>().get(4..).unwrap();
+    assert_eq!(
+        format!("{bits:6}|{bits:>6}|{bits:^7}|{bits:2}"),
+        "1101  |  1101| 1101  |1101"
+    );
+    assert_eq!(format!("{bits:*>#8b}|{bits:08b}"), "**0b1101|1101    ");
+}
+
+#[test]
+fn a_generic_caller_needs_no_bounds_of_its_own() {
+    fn text<V: BitView + ?Sized>(words: &V) -> String {
+        let bits = words.view_bits::<Msb0>();
+        format!("{:?}", bits.iter().rev().nth(1))
+    }
+    fn shared<T: Register, O: Order>(bits: BitSlice<'_, T, O>) -> usize {
+        let spans = Spans::<O>::new(&[]).unwrap();
+        assert!(spans == spans && format!("{:?}", bits.iter_ones()).starts_with("Ones"));
+        std::thread::scope(|scope| scope.spawn(|| bits.count_ones()).join().unwrap())
+    }
+    assert_eq!(text(&[0x02_u8; 2]), "Some(true)");
+    assert_eq!(shared([0x02_u16; 2].view_bits::<Lsb0>()), 2);
 }
 
 #[test]

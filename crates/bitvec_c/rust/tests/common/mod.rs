@@ -211,14 +211,16 @@ macro_rules! for_all_memories {
 }
 
 /// Calls a function that is generic over two words and two orders, of which the second two are any of
-/// five pairs: the first two themselves, which have calls of their own, and others.
+/// seven pairs: the first two themselves, which have calls of their own, and others.
 macro_rules! with_any_other {
     ($random:ident, $call:ident::<$t:ident, $o:ident>) => {
-        match $random.below(5) {
+        match $random.below(7) {
             0 => $call::<$t, $o, u8, Msb0>($random),
             1 => $call::<$t, $o, u16, Lsb0>($random),
             2 => $call::<$t, $o, u32, Msb0>($random),
             3 => $call::<$t, $o, u64, Lsb0>($random),
+            4 => $call::<$t, $o, usize, Lsb0>($random),
+            5 => $call::<$t, $o, usize, Msb0>($random),
             _ => $call::<$t, $o, $t, $o>($random),
         }
     };
