@@ -956,8 +956,8 @@ BITVEC_CHECKED uint8_t bitvec_c_run_u64(
 
 /* The same as the tests above of any number of spans, in time n log n for n of them: `room` has as
  * many numbers as there are spans. Where the status is BITVEC_OK or BITVEC_OVERLAP it holds the
- * numbers of the spans in an order in which their first bits rise. BITVEC_NO_ROOM: `room_count` is
- * not `span_count`. */
+ * numbers of the spans in an order in which their first bits rise; else it is as it was.
+ * BITVEC_NO_ROOM: `room_count` is not `span_count`. */
 BITVEC_CHECKED uint8_t bitvec_c_can_run_in_u8(
     uint8_t order, const struct bitvec_span *spans, size_t span_count, size_t words, size_t *room,
     size_t room_count);
@@ -971,9 +971,10 @@ BITVEC_CHECKED uint8_t bitvec_c_can_run_in_u64(
     uint8_t order, const struct bitvec_span *spans, size_t span_count, size_t words, size_t *room,
     size_t room_count);
 
-/* The run above through any number of spans, which are tested as bitvec_c_can_run_in_W does; where
- * each of them lies in the memory, and there is room for the number of each, `room` holds these
- * afterwards also where the run is refused. Costs as that run, with these tests. */
+/* The run above through any number of spans, which are tested as bitvec_c_can_run_in_W does. Where
+ * that test would answer BITVEC_OK or BITVEC_OVERLAP, `room` holds the numbers of the spans
+ * afterwards, also where the run is refused; else it is as it was. Costs as that run, with these
+ * tests. */
 BITVEC_CHECKED uint8_t bitvec_c_run_in_u8(
     uint8_t order, const struct bitvec_span *spans, size_t span_count, uint8_t *memory,
     size_t words, const struct bitvec_request *requests, size_t request_count,
