@@ -19,7 +19,7 @@ when within reply xs = if within then Some (reply, xs) else None
 abbrev pub on_word : ℕ → (ℕ → ℕ) → ℕ → List Bool → ℕ → List Bool → Option (Reply ℕ × List Bool)
 on_word bits at head xs k ys = when (nat_lt k (words_met bits head (length xs))) (Word (word_of bits at head xs k)) ys
 
--- one command on one list: its reply and the list that it leaves; none where it names a word or a bit past the end
+-- one command on one list: its reply and the list that it leaves; none where it names a word or a bit past the end, or fills from behind where it fills to
 abbrev pub outcome : {W : Type 0} → (W → ℕ) → ℕ → (ℕ → ℕ) → ℕ → Command W → List Bool → Option (Reply ℕ × List Bool)
 outcome number bits at head (Load k) xs = on_word bits at head xs k xs
 outcome number bits at head (Store k v) xs = on_word bits at head xs k (with_word bits head xs k (λ j. digit (number v) (at ((head + j) % bits))))

@@ -67,8 +67,9 @@ abbrev pub IsRoomyRun : ℕ → List PlainSpan → Part → Part → List PlainR
 IsRoomyRun room spans old new requests replies_old replies_new result =
     IsRunCall (roomy_conditions old.bits old.order spans old.words room ++ requests_conditions requests (length replies_old)) spans old new requests replies_old replies_new result
 
--- What becomes of the room: where each span lies in a memory of `words` words, and there is room for the number of each, it
--- holds these in an order in which the spans start; else it is as before.
+-- What becomes of the room: where the order is one of the two, there is just room for the number of each span, and each is
+-- short enough and lies in a memory of `words` words, it holds the numbers in an order in which the spans start; else it is as
+-- before.
 pub record IsRoomAfter (bits order : ℕ) (spans : List PlainSpan) (words : ℕ) (old new : List ℕ) : Type 0 where
   pub sorted : order ≤ 1 → length old ≡ length spans → AllShort spans → AllInside bits words spans → IsRising bits (plain_span bits) spans new
   pub kept : ¬ ((order ≤ 1) × (length old ≡ length spans) × AllShort spans × AllInside bits words spans) → new ≡ old

@@ -25,7 +25,7 @@ abbrev pub IsPreviousOr : Bool → ℕ → List Bool → ℕ → ℕ → Type 0
 IsPreviousOr bit before xs end i = IsLastBetween bit xs 0 (min before (length xs)) i ⊎ (AllBetween (not bit) xs 0 (min before (length xs)) × (i ≡ end))
 
 -- The first index not before `from`, and a multiple of a number, from which on so many elements of a list are there and
--- false, and `end` where there is none. Each is a multiple of 0, as it is of 1.
+-- false, and `end` where there is none. For the number 0 as for 1, each index serves.
 abbrev pub IsFreeFromOr : ℕ → ℕ → ℕ → List Bool → ℕ → ℕ → Type 0
 IsFreeFromOr from zeros multiple_of xs end i =
     let IsRun = AreFreeFrom xs from zeros (max multiple_of 1) in IsLeast IsRun i ⊎ (((k : ℕ) → ¬ IsRun k) × (i ≡ end))

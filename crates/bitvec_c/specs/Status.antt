@@ -18,7 +18,7 @@ too_many_spans = 2
 abbrev pub too_long : ℕ
 too_long = 3
 
--- a range ends behind its memory
+-- a range ends behind its memory, or a move passes its range
 abbrev pub outside : ℕ
 outside = 4
 

@@ -54,7 +54,8 @@ pub struct PlainReply {
     /// The word or the bit, and else 0.
     pub number: u64,
     /// What the reply is: 0 a word, 1 a bit, 2 that the command is done, 3 that it names a word or
-    /// a bit past the end of its span, 4 that there is no such span.
+    /// a bit past the end of its span or fills from behind where it fills to, 4 that there is no
+    /// such span.
     pub kind: u8,
 }
 

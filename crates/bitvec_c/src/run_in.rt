@@ -61,8 +61,9 @@ fn run_plain_in<R: BitRegister>(
 }
 
 /// Whether any number of spans serve for a run in a memory of `words` words of 8 bits: each lies in
-/// it, and no two have a bit in common. There is room for the number of each, which holds these
-/// afterwards in the order in which the spans start, where each lies in the memory.
+/// it, and no two have a bit in common. There is room for the number of each. It holds
+/// these afterwards, in an order in which the spans start, where the answer is `OK` or `OVERLAP`;
+/// else it is as it was.
 ///
 /// It refuses with `NO_ORDER`, `NO_ROOM`, `TOO_LONG`, `OUTSIDE` or `OVERLAP`.
 #[unsafe(no_mangle)]
@@ -80,8 +81,9 @@ pub extern "C" fn bitvec_c_can_run_in_u8(
 }
 
 /// Whether any number of spans serve for a run in a memory of `words` words of 16 bits: each lies
-/// in it, and no two have a bit in common. There is room for the number of each, which holds these
-/// afterwards in the order in which the spans start, where each lies in the memory.
+/// in it, and no two have a bit in common. There is room for the number of each. It holds
+/// these afterwards, in an order in which the spans start, where the answer is `OK` or `OVERLAP`;
+/// else it is as it was.
 ///
 /// It refuses with `NO_ORDER`, `NO_ROOM`, `TOO_LONG`, `OUTSIDE` or `OVERLAP`.
 #[unsafe(no_mangle)]
@@ -99,8 +101,9 @@ pub extern "C" fn bitvec_c_can_run_in_u16(
 }
 
 /// Whether any number of spans serve for a run in a memory of `words` words of 32 bits: each lies
-/// in it, and no two have a bit in common. There is room for the number of each, which holds these
-/// afterwards in the order in which the spans start, where each lies in the memory.
+/// in it, and no two have a bit in common. There is room for the number of each. It holds
+/// these afterwards, in an order in which the spans start, where the answer is `OK` or `OVERLAP`;
+/// else it is as it was.
 ///
 /// It refuses with `NO_ORDER`, `NO_ROOM`, `TOO_LONG`, `OUTSIDE` or `OVERLAP`.
 #[unsafe(no_mangle)]
@@ -118,8 +121,9 @@ pub extern "C" fn bitvec_c_can_run_in_u32(
 }
 
 /// Whether any number of spans serve for a run in a memory of `words` words of 64 bits: each lies
-/// in it, and no two have a bit in common. There is room for the number of each, which holds these
-/// afterwards in the order in which the spans start, where each lies in the memory.
+/// in it, and no two have a bit in common. There is room for the number of each. It holds
+/// these afterwards, in an order in which the spans start, where the answer is `OK` or `OVERLAP`;
+/// else it is as it was.
 ///
 /// It refuses with `NO_ORDER`, `NO_ROOM`, `TOO_LONG`, `OUTSIDE` or `OVERLAP`.
 #[unsafe(no_mangle)]

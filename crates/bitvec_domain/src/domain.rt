@@ -148,7 +148,8 @@ impl<R: BitRegister, O: BitOrder<R>> BitSpan<R, O> {
     /// The part of the `k`-th word that the span meets, counted from 0.
     ///
     /// Its head is the span's in the first word, else the least; its tail is the span's in the last
-    /// word, else the greatest. Constant time. Not in the Rust crate.
+    /// word, else the greatest. Requires a span that [`fits`](BitSpan::fits), and that `k` is below
+    /// the number of its [`elements`](BitSpan::elements). Constant time. Not in the Rust crate.
     pub fn part<'a>(self, memory: &'a [R], k: usize) -> PartialElement<'a, R, O>
         requires fits { Fits R.BITS (span_of self) (length memory.now) }
         requires met { k < words_met R.BITS (span_of self).head (span_of self).len }
@@ -184,8 +185,8 @@ impl<R: BitRegister, O: BitOrder<R>> BitSpan<R, O> {
 
     /// The words and parts of words of a memory that the span meets.
     ///
-    /// An empty span has the empty domain; there the Rust crate may answer an enclave. Constant
-    /// time.
+    /// An empty span has the empty domain; there the Rust crate may answer an enclave. Requires a
+    /// span that [`fits`](BitSpan::fits). Constant time.
     ///
     /// # Examples
     ///

@@ -103,6 +103,7 @@ pub trait BitRegister: Copy + Default + Eq + Ord + Hash + Debug {
             → digit (number result) p ≡ not (digit (number self) p) };
 
     /// Each digit moved `n` positions up; the lowest `n` become zero, and the highest `n` are lost.
+    /// Requires that `n` is below the width.
     fn shl(self, n: u8) -> Self
         requires { n < BITS }
         ensures below { number result < 2 ^ BITS }
@@ -111,7 +112,7 @@ pub trait BitRegister: Copy + Default + Eq + Ord + Hash + Debug {
             → digit (number result) (n + p) ≡ digit (number self) p };
 
     /// Each digit moved `n` positions down; the highest `n` become zero, and the lowest `n` are
-    /// lost.
+    /// lost. Requires that `n` is below the width.
     fn shr(self, n: u8) -> Self
         requires { n < BITS }
         ensures below { number result < 2 ^ BITS }

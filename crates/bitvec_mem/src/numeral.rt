@@ -45,9 +45,10 @@ fn encode(n: u128, base: u8, upper: bool, least: usize, out: &mut [u8; 128]) -> 
     at
 }
 
-/// The digits of a number in the base, highest first, with zeros before them up to `least` digits;
-/// `upper` chooses the letters' case. They stand in the buffer that is handed in. Costs by the
-/// digits that are written. Not in the Rust crate.
+/// The digits of a number in the base, highest first, with zeros before them up to `least` digits,
+/// and none for 0 where `least` is 0; `upper` chooses the letters' case. Requires a base from 2 to
+/// 16, and at most 128 for `least`. The buffer is room to write in, and what it holds afterwards
+/// is not said. Costs by the digits that are written. Not in the Rust crate.
 pub fn numeral_in(n: u128, base: u8, upper: bool, least: usize, buffer: &mut [u8; 128]) -> &str
     requires low { 2 ≤ base }
     requires high { base ≤ 16 }
@@ -59,7 +60,8 @@ pub fn numeral_in(n: u128, base: u8, upper: bool, least: usize, buffer: &mut [u8
 }
 
 /// Writes the digits of a number in the base, highest first, with zeros before them up to `least`
-/// digits; `upper` chooses the letters' case.
+/// digits, and none for 0 where `least` is 0; `upper` chooses the letters' case. Requires a base
+/// from 2 to 16, and at most 128 for `least`.
 ///
 /// The caller's flags change nothing. The contract says what is written where the call succeeds and
 /// the formatter indents nothing. Costs by the digits that are written.

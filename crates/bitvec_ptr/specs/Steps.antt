@@ -21,7 +21,7 @@ distance bits ptr origin = place_of bits ptr -ℤ place_of bits origin
 abbrev pub IsIn : Ptr → ℕ → Type 0
 IsIn ptr words = (pos 0 ≤ℤ ptr.word) × (ptr.word <ℤ pos words)
 
--- the words that `count` bits from a pointer on meet are among the first `words` of a memory
+-- the words that `count` bits from a pointer on meet are among the first `words` of a memory; for no bits the pointer may also be to the word behind them
 abbrev pub RangeIsIn : ℕ → Ptr → ℕ → ℕ → Type 0
 RangeIsIn bits ptr words count = (pos 0 ≤ℤ ptr.word) × (nat_abs ptr.word + words_met bits ptr.bit count ≤ words)
 

@@ -40,6 +40,6 @@ AreFree xs i count = (i + count ≤ length xs) × ((j : ℕ) → i ≤ j → j <
 abbrev pub ones_between : List Bool → ℕ → ℕ → List ℕ
 ones_between xs from upto = filter (element xs) (range_with_len from (upto - from))
 
--- the same of those that are false
+-- the same of those that are false, and of the indices past the list
 abbrev pub zeros_between : List Bool → ℕ → ℕ → List ℕ
 zeros_between xs from upto = filter (λ i. not (element xs i)) (range_with_len from (upto - from))

@@ -39,7 +39,7 @@ chunks_exact_rest it = chunks_rest it.whole
 abbrev pub rchunks_rest : {R O : Type 0} {a b c d e f g h i : _} → RChunks R O a b c d e f g h i → BitSlice R O a b c d e f g h i
 rchunks_rest it = it.rest
 
--- how many bits a piece has: the last may have less
+-- how many bits a piece has; the last of `chunks` and of `rchunks` may have less
 abbrev pub windows_size : {R O : Type 0} {a b c d e f g h i : _} → Windows R O a b c d e f g h i → ℕ
 windows_size it = it.size
 

@@ -1,6 +1,7 @@
 -- Lists of truth values as texts: a `1`, code 49, or a `0`, code 48, for each.
-use Rattle.std.specs.Prelude.{◌≡◌, ◌⊎◌, ℕ, ◌<◌, ◌==◌, Bool, false, List, map, slice_index, if◌then◌else◌}
+use Rattle.std.specs.Prelude.{◌≡◌, ◌⊎◌, ℕ, ◌<◌, ◌==◌, Bool, false, List, ◌++◌, codes, map, slice_index, if◌then◌else◌}
 use Rattle.bitvec.specs.ItemText.{list_text}
+use Rattle.bitvec.specs.Text.{decimal_text}
 
 -- the digit of a truth value
 abbrev pub digit_text : Bool → ℕ
@@ -18,7 +19,7 @@ digit_value bit = if bit then 1 else 0
 abbrev pub truths_text : List Bool → List ℕ
 truths_text xs = list_text 10 false (map digit_value xs)
 
--- the truth values of a text's characters: those that are `1`
+-- a truth value for each of a text's characters: true where it is `1`
 abbrev pub text_bits : List ℕ → List Bool
 text_bits text = map (λ c. c == 49) text
 
@@ -29,3 +30,10 @@ IsDigit c = (c ≡ 48) ⊎ (c ≡ 49)
 -- the characters of a text before number n are zeros and ones
 abbrev pub AreDigits : List ℕ → ℕ → Type 0
 AreDigits text n = (k : ℕ) → k < n → IsDigit (slice_index text k)
+
+-- that the character at a place is no digit, and that there are so many digits, in words
+abbrev pub not_a_digit_text : ℕ → List ℕ
+not_a_digit_text at = codes "character " ++ (decimal_text at ++ codes " is neither 0 nor 1")
+
+abbrev pub other_length_text : ℕ → List ℕ
+other_length_text digits = decimal_text digits ++ codes " digits for another number of bits"

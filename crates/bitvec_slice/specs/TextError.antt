@@ -1,7 +1,6 @@
 -- Why a text is not the digits of some bits.
-use Rattle.std.specs.Prelude.{◌≡◌, ℕ, ◌<◌, ◌++◌, List, codes, length, slice_index}
-use Rattle.std.specs.Fmt.{decimal}
-use Rattle.bitvec_slice.specs.SliceText.{IsDigit, AreDigits}
+use Rattle.std.specs.Prelude.{◌≡◌, ℕ, ◌<◌, List, length, slice_index}
+use Rattle.bitvec_slice.specs.SliceText.{IsDigit, AreDigits, not_a_digit_text, other_length_text}
 use Rattle.bitvec_slice.specs.declared.slice.text.TextError.{TextError}
 use Rattle.bitvec_slice.specs.declared.slice.text.TextError.TheVariants.{NotADigit, OtherLength}
 
@@ -12,5 +11,5 @@ IsRefusal len text (OtherLength digits) = (digits ≡ length text) × (¬ (digit
 
 -- that in words, for a reader
 abbrev pub reason_text : TextError → List ℕ
-reason_text (NotADigit at) = codes "character " ++ (decimal at ++ codes " is neither 0 nor 1")
-reason_text (OtherLength digits) = decimal digits ++ codes " digits for another number of bits"
+reason_text (NotADigit at) = not_a_digit_text at
+reason_text (OtherLength digits) = other_length_text digits

@@ -4,7 +4,7 @@ use Rattle.std.specs.Prelude.{◌≡◌, ℕ, nat_abs, ◌+◌, ◌-◌, ◌*◌
 use Rattle.bitvec.specs.Digit.{digit}
 use Rattle.bitvec.specs.Span.{Span}
 
--- the position of the index as far from the highest as an index is from 0 is as far from the highest as its position
+-- where an index is as far from the highest as another is from 0, so are their positions
 abbrev pub Mirrors : ℕ → (ℕ → ℕ) → Type 0
 Mirrors bits at = (i : ℕ) → i < bits → at (bits - 1 - i) ≡ bits - 1 - at i
 

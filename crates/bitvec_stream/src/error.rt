@@ -25,11 +25,13 @@ pub enum WriteError {
     TooManyDigits,
 }
 
-/// A fixed text for each.
+/// A fixed text for each, whatever the caller's flags.
 impl fmt::Display for ReadError {
     ghost use Rattle.bitvec_stream.specs.ErrorText.{read_error_text};
 
     ghost output = { λ error. Some (read_error_text error) };
+
+    ghost styled_output = { λ error _. Some (read_error_text error) };
 
     fn fmt<W: fmt::Write>(&self, f: &mut fmt::Formatter<W>) -> fmt::Result {
         match *self {
@@ -42,11 +44,13 @@ impl fmt::Display for ReadError {
 
 impl Error for ReadError {}
 
-/// A fixed text for each.
+/// A fixed text for each, whatever the caller's flags.
 impl fmt::Display for WriteError {
     ghost use Rattle.bitvec_stream.specs.ErrorText.{write_error_text};
 
     ghost output = { λ error. Some (write_error_text error) };
+
+    ghost styled_output = { λ error _. Some (write_error_text error) };
 
     fn fmt<W: fmt::Write>(&self, f: &mut fmt::Formatter<W>) -> fmt::Result {
         match *self {

@@ -94,7 +94,7 @@ impl<'a, R: BitRegister, O: BitOrder<R>> BitWriter<'a, R, O> {
     }
 
     /// A writer before the first bit of a memory. Requires that there are at most
-    /// 2305843009213693951. Constant time. Not in the Rust crate.
+    /// 2305843009213693951 bits. Constant time. Not in the Rust crate.
     pub fn all_unchecked(memory: &'a mut [R]) -> Self
         requires { length memory.old * R.BITS ≤ region_max_bits }
         ensures reference { (target_memory result).ghost_name ≡ memory.entry.ghost_name }
@@ -210,7 +210,8 @@ impl<'a, R: BitRegister, O: BitOrder<R>> BitWriter<'a, R, O> {
     }
 
     /// Writes the bits of a slice, of any register and order. It refuses with `NoRoom` exactly
-    /// where there is room for fewer. Costs by words. Not in the Rust crate.
+    /// where there is room for fewer. Costs by words where both orders rise, both fall, or are one
+    /// order with both places at the same bit of a word; else by bits. Not in the Rust crate.
     ///
     /// # Examples
     ///

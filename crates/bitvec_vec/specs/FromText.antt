@@ -1,7 +1,6 @@
 -- Why a text is not read as a vector.
-use Rattle.std.specs.Prelude.{ℕ, ◌<◌, ◌++◌, List, codes, length, slice_index}
-use Rattle.std.specs.Fmt.{decimal}
-use Rattle.bitvec_slice.specs.SliceText.{IsDigit, AreDigits}
+use Rattle.std.specs.Prelude.{ℕ, ◌<◌, List, codes, length, slice_index}
+use Rattle.bitvec_slice.specs.SliceText.{IsDigit, AreDigits, not_a_digit_text}
 use Rattle.bitvec_vec.specs.declared.vec.text.FromTextError.{FromTextError}
 use Rattle.bitvec_vec.specs.declared.vec.text.FromTextError.TheVariants.{NotADigit, NoMemory}
 
@@ -12,5 +11,5 @@ IsTextRefusal text NoMemory = (0 < length text) × AreDigits text (length text)
 
 -- that in words, for a reader
 abbrev pub unread_text : FromTextError → List ℕ
-unread_text (NotADigit at) = codes "character " ++ (decimal at ++ codes " is neither 0 nor 1")
+unread_text (NotADigit at) = not_a_digit_text at
 unread_text NoMemory = codes "there is no memory"

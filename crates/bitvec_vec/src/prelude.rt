@@ -4,8 +4,8 @@ pub use crate::vec::{BitVec, FromTextError};
 pub use bitvec_slice::prelude::{
     And, AndNot, BitAt, BitDomain, BitDomainMut, BitElement, BitEnd, BitIdx, BitIdxError, BitMask,
     BitOrder, BitPos, BitPtr, BitPtrRange, BitRegister, BitSel, BitSlice, BitSliceMut, BitSpan,
-    BitSpanError, BitWords, BitWordsMut, Chunks, Combine, Command, Dangling, Domain, DomainMut,
-    EmptyRange, Iter, IterOnes, IterRuns, IterZeros, Limits, LocalBits, Lsb0, MaskLimits, Msb0, Or,
-    OrderCandidate, PartialElement, PartialElementMut, RChunks, Reply, Request, Sequential,
-    SignedNumber, SpanLimits, TextError, Windows, Xor,
+    BitSpanError, BitWords, BitWordsMut, Chunks, ChunksExact, Combine, Command, Dangling, Domain,
+    DomainMut, EmptyRange, Iter, IterOnes, IterRuns, IterZeros, Limits, LocalBits, Lsb0,
+    MaskLimits, Msb0, Or, OrderCandidate, PartialElement, PartialElementMut, RChunks, Reply,
+    Request, Sequential, SignedNumber, SpanLimits, TextError, Windows, Xor,
 };

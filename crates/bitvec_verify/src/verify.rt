@@ -227,7 +227,7 @@ fn scan<R: BitRegister, O: OrderCandidate<R>>() -> Result<(), OrderFault<R>>
 /// its position; then the mask of each pair of present bounds, starts in rising order and for each
 /// the ends from there to the width; then both bounds absent, an absent end for each start, and an
 /// absent start for each end. The Rust crate panics at a fault, prints on demand and tests no
-/// absent bound.
+/// absent bound. Costs by the cube of the width.
 ///
 /// # Examples
 ///

@@ -15,7 +15,8 @@ use bitvec::order::BitOrder;
 use bitvec::ptr::span::BitSpan;
 use bitvec::run::Command;
 
-/// The bits of a number: the index of the first in the word, and how many there are.
+/// The bits of a number: the index of the first in the word, and how many there are, at least one
+/// and none past the word's 32.
 #[derive(Clone, Copy)]
 pub struct Field {
     /// The index of the first bit.

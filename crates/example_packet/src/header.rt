@@ -22,7 +22,8 @@ pub const FLAGS: Field = Field { start: 10, len: 6 };
 /// The length of the packet, in bytes.
 pub const LENGTH: Field = Field { start: 16, len: 16 };
 
-/// The numbers of a header, each below two to the length of its field.
+/// The numbers of a header. Each is meant to be below two to the length of its field: digits past
+/// that are not written.
 #[derive(Clone, Copy, PartialEq, Eq, Debug)]
 pub struct Header {
     /// The number in [`VERSION`].

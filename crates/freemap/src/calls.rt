@@ -95,8 +95,8 @@ impl<'a, O: BitOrder<u64>> FreeMap<'a, O> {
     }
 
     /// Puts `count` blocks from block `at` on in use, and returns whether it did: it refuses
-    /// exactly where one of them is in use or is not there, and then the map stays as it is. Costs
-    /// by words.
+    /// exactly where one of them is in use or is not there, or `at` itself is past the map's end,
+    /// and then the map stays as it is. Costs by words.
     pub fn reserve(&mut self, at: usize, count: usize) -> bool
         ensures answer { IsTrue result ↔ AreFree (in_use self.old) at count }
         ensures taken { IsTrue result → BecomesBlocks self.old self.new

@@ -17,17 +17,19 @@ pub trait Level: Drop {
     // Whether each word is marked, in order.
     ghost marks: { Self → List Bool };
 
-    /// Marks a word, or takes its mark away.
+    /// Marks a word, or takes its mark away. Requires that the level has the word. Constant time,
+    /// and for a level with another over it a step for each level above.
     fn set_mark(&mut self, word: usize, marked: bool)
         requires { word < length (marks self.old) }
         ensures { marks self.new ≡ with_filled (marks self.old) word (word + 1) marked };
 
-    /// The same of `count` words from one on.
+    /// The same of `count` words from one on. Costs by words of 64 marks.
     fn set_marks(&mut self, word: usize, count: usize, marked: bool)
         requires { word + count ≤ length (marks self.old) }
         ensures { marks self.new ≡ with_filled (marks self.old) word (word + count) marked };
 
-    /// The lowest word that is not marked; `None` exactly where each is.
+    /// The lowest word that is not marked; `None` exactly where each is. Costs by words of 64
+    /// marks, and for a level with another over it a step for each level above.
     fn lowest_unmarked(&self) -> Option<usize>
         ensures { IsLowest (λ word. AreFree (marks self.now) word 1) result };
 
@@ -37,16 +39,24 @@ pub trait Level: Drop {
 }
 
 impl<'a, O: BitOrder<u64>> Level for FreeMap<'a, O> {
-    ghost use Rattle.freemap.specs.Map.{in_use};
+    ghost use Rattle.freemap.specs.Map.{in_use, BecomesBlocks};
 
     ghost marks = { λ map. in_use map };
 
     #[inline(always)]
-    fn set_mark(&mut self, word: usize, marked: bool) {
+    fn set_mark(&mut self, word: usize, marked: bool)
+        requires { word < length (in_use self.old) }
+        ensures { BecomesBlocks self.old self.new
+            (with_filled (in_use self.old) word (word + 1) marked) }
+    {
         self.set(word, marked);
     }
 
-    fn set_marks(&mut self, word: usize, count: usize, marked: bool) {
+    fn set_marks(&mut self, word: usize, count: usize, marked: bool)
+        requires { word + count ≤ length (in_use self.old) }
+        ensures { BecomesBlocks self.old self.new
+            (with_filled (in_use self.old) word (word + count) marked) }
+    {
         self.mark(word, count, marked);
     }
 

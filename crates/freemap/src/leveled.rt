@@ -369,8 +369,8 @@ impl<'a, O: BitOrder<u64>, S: Level> LeveledMap<'a, O, S> {
     }
 
     /// Puts `count` blocks from block `at` on in use, and returns whether it did: it refuses
-    /// exactly where one of them is in use or is not there, and then the map stays as it is. Costs
-    /// by words.
+    /// exactly where one of them is in use or is not there, or `at` itself is past the map's end,
+    /// and then the map stays as it is. Costs by words.
     pub fn reserve(&mut self, at: usize, count: usize) -> bool
         ensures answer { IsTrue result ↔ AreFree (in_use (map_of self.old)) at count }
         ensures taken { IsTrue result → BecomesBlocks (map_of self.old) (map_of self.new)

@@ -202,7 +202,8 @@ impl<'a, O: BitOrder<u64>> FreeMap<'a, O> {
     }
 
     /// The map of `blocks` blocks that words have, as they were stored. It refuses exactly where
-    /// they are too few for it, and then gives them back as they were. Constant time.
+    /// they are too few for it, or there would be more than 2305843009213693951 blocks, and then
+    /// gives them back as they were. Constant time.
     pub fn from_words(words: &'a mut [u64], blocks: usize) -> Result<Self, &'a mut [u64]>
         ensures accepted { IsOk result ↔ HasRoom (length words.old) blocks }
         ensures reference { IfOk result (λ map. (map_words map).ghost_name

@@ -2,11 +2,22 @@
 
 mod callers;
 
+ghost use Rattle.std.specs.Prelude.{◌≡◌, Ok};
+
 use crate::leveled::summary_words_for;
 use crate::map::{FreeMap, has_room, words_for};
+use crate::runs::FreeRuns;
 use crate::stack::two_levels;
-use bitvec::order::{Lsb0, Msb0};
+use bitvec::order::{BitOrder, Lsb0, Msb0};
+use std::alloc::AllocError;
 use std::test::Fail;
+
+// A copy of an iterator over free runs has still to give what the iterator has.
+fn copied_runs<'a, O: BitOrder<u64>>(runs: &FreeRuns<'a, O>) -> Result<FreeRuns<'a, O>, AllocError>
+    ensures { result ≡ Ok runs.now }
+{
+    runs.clone()
+}
 
 #[test]
 fn runs_come_and_go(rt: HostRuntime) -> Result<(), Fail> {

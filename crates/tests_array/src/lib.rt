@@ -4,5 +4,6 @@
 pub mod callers;
 #[cfg(test)]
 mod examples;
+mod traits;
 #[cfg(test)]
 mod values;

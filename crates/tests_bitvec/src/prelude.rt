@@ -1,9 +1,10 @@
 //! The names that one line brings in.
 //!
-//! Which order each of the line's names stands for is proved, as the values that a test compares
-//! would be the same of one order under the other's name.
+//! Which order and which operator each of the line's names stands for is proved, as the values that
+//! a test compares would be the same of one under another's name.
 
-ghost use Rattle.std.specs.Prelude.{◌≡◌, ◌-◌};
+ghost use Rattle.std.specs.Prelude.{◌≡◌, ◌-◌, ◌<◌, ◌&&◌, ◌||◌, ℕ, not};
+ghost use Rattle.bitvec.specs.Digit.{digit, exclusive_or};
 
 use bitvec::prelude::*;
 
@@ -23,6 +24,34 @@ fn position_in_local_bits<R: BitRegister>(index: BitIdx<R>) -> BitPos<R>
     ensures { result ≡ index }
 {
     <LocalBits as BitAt<R>>::at(index)
+}
+
+fn and_of_words<R: BitRegister>(old: R, with: R) -> R
+    ensures { (p : ℕ) → p < R.BITS → digit (R.number result) p
+        ≡ (digit (R.number old) p && digit (R.number with) p) }
+{
+    And::word(old, with)
+}
+
+fn or_of_words<R: BitRegister>(old: R, with: R) -> R
+    ensures { (p : ℕ) → p < R.BITS → digit (R.number result) p
+        ≡ (digit (R.number old) p || digit (R.number with) p) }
+{
+    Or::word(old, with)
+}
+
+fn xor_of_words<R: BitRegister>(old: R, with: R) -> R
+    ensures { (p : ℕ) → p < R.BITS → digit (R.number result) p
+        ≡ exclusive_or (digit (R.number old) p) (digit (R.number with) p) }
+{
+    Xor::word(old, with)
+}
+
+fn and_not_of_words<R: BitRegister>(old: R, with: R) -> R
+    ensures { (p : ℕ) → p < R.BITS → digit (R.number result) p
+        ≡ (digit (R.number old) p && not (digit (R.number with) p)) }
+{
+    AndNot::word(old, with)
 }
 
 #[test]

@@ -4,7 +4,7 @@
 //! Each function does what its name says, and its contract is the promise: so a body of an impl
 //! that breaks it is refused, though no contract of the layer names it.
 
-ghost use Rattle.std.specs.Prelude.{◌≡◌, ◌↔◌, ◌-◌, pos, IsTrue, Ok};
+ghost use Rattle.std.specs.Prelude.{◌≡◌, ◌↔◌, ◌-◌, pos, IsTrue, IfOk, Ok};
 ghost use Rattle.std.specs.Ordering.{nat_cmp, int_cmp};
 ghost use Rattle.std.specs.declared.cmp.Ordering.TheVariants.{Less};
 ghost use Rattle.bitvec.specs.BitDomain.{bit_parts};
@@ -167,6 +167,26 @@ fn equal_replies<R: Eq>(here: &Reply<R>, there: &Reply<R>) -> bool
         → (IsTrue result ↔ (here.now ≡ there.now)) }
 {
     *here == *there
+}
+
+// A copy of one is itself, where a copy of a word is.
+
+fn copied_command<R: Clone>(command: &Command<R>) -> Result<Command<R>, AllocError>
+    ensures { ((a b : R) → R.is_clone a b → b ≡ a) → IfOk result (λ copy. copy ≡ command.now) }
+{
+    command.clone()
+}
+
+fn copied_request<R: Clone>(request: &Request<R>) -> Result<Request<R>, AllocError>
+    ensures { ((a b : R) → R.is_clone a b → b ≡ a) → IfOk result (λ copy. copy ≡ request.now) }
+{
+    request.clone()
+}
+
+fn copied_reply<R: Clone>(reply: &Reply<R>) -> Result<Reply<R>, AllocError>
+    ensures { ((a b : R) → R.is_clone a b → b ≡ a) → IfOk result (λ copy. copy ≡ reply.now) }
+{
+    reply.clone()
 }
 
 // Which order each name stands for: by the position of an index.

@@ -12,6 +12,7 @@ ghost use Rattle.std.specs.declared.cmp.Ordering.TheVariants.{Equal};
 use bitvec_mem::mem::{BitElement, BitRegister};
 use bitvec_order::index::{BitEnd, BitIdx, BitIdxError, BitMask, BitPos, BitSel};
 use bitvec_order::order::{Direction, Lsb0, Msb0};
+use bitvec_order::positions::{ByNumbers, ByPosition};
 use bitvec_verify::verify::{OrderFault, VerifyFault};
 use std::alloc::AllocError;
 use std::cmp::Ordering;
@@ -296,6 +297,44 @@ fn compared_msb0(here: Msb0, there: Msb0) -> (bool, Ordering)
 }
 
 fn hash_of_msb0<H: Hasher>(order: Msb0, state: &mut H)
+    ensures { state.new ≡ state.old }
+{
+    order.hash(state);
+}
+
+// So has an order of one's own, and each is copied as it is.
+
+fn copied_lsb0(order: &Lsb0) -> Result<Lsb0, AllocError>
+    ensures { result ≡ Ok order.now }
+{
+    order.clone()
+}
+
+fn copied_msb0(order: &Msb0) -> Result<Msb0, AllocError>
+    ensures { result ≡ Ok order.now }
+{
+    order.clone()
+}
+
+fn copied_by_position<P: Clone>(order: &ByPosition<P>) -> Result<ByPosition<P>, AllocError>
+    ensures { result ≡ Ok order.now }
+{
+    order.clone()
+}
+
+fn hash_of_by_position<P: Hash, H: Hasher>(order: ByPosition<P>, state: &mut H)
+    ensures { state.new ≡ state.old }
+{
+    order.hash(state);
+}
+
+fn copied_by_numbers<C: Clone>(order: &ByNumbers<C>) -> Result<ByNumbers<C>, AllocError>
+    ensures { result ≡ Ok order.now }
+{
+    order.clone()
+}
+
+fn hash_of_by_numbers<C: Hash, H: Hasher>(order: ByNumbers<C>, state: &mut H)
     ensures { state.new ≡ state.old }
 {
     order.hash(state);

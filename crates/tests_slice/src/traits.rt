@@ -10,7 +10,9 @@ ghost use Rattle.bitvec_slice.specs.BitSlice.{bits_of};
 
 use bitvec::mem::BitRegister;
 use bitvec::order::BitOrder;
-use bitvec_slice::slice::{BitSlice, Iter, IterOnes, IterZeros};
+use bitvec_slice::slice::{
+    BitSlice, Chunks, ChunksExact, Iter, IterOnes, IterRuns, IterZeros, RChunks, TextError, Windows,
+};
 use std::alloc::AllocError;
 use std::hash::{Hash, Hasher};
 
@@ -97,4 +99,58 @@ fn copied_zeros<'a, R: BitRegister, O: BitOrder<R>>(
     ensures { result ≡ Ok zeros.now }
 {
     zeros.clone()
+}
+
+fn copied_runs<'a, R: BitRegister, O: BitOrder<R>>(
+    runs: &IterRuns<'a, R, O>,
+) -> Result<IterRuns<'a, R, O>, AllocError>
+    ensures { result ≡ Ok runs.now }
+{
+    runs.clone()
+}
+
+fn copied_windows<'a, R: BitRegister, O: BitOrder<R>>(
+    windows: &Windows<'a, R, O>,
+) -> Result<Windows<'a, R, O>, AllocError>
+    ensures { result ≡ Ok windows.now }
+{
+    windows.clone()
+}
+
+fn copied_chunks<'a, R: BitRegister, O: BitOrder<R>>(
+    chunks: &Chunks<'a, R, O>,
+) -> Result<Chunks<'a, R, O>, AllocError>
+    ensures { result ≡ Ok chunks.now }
+{
+    chunks.clone()
+}
+
+fn copied_chunks_exact<'a, R: BitRegister, O: BitOrder<R>>(
+    chunks_exact: &ChunksExact<'a, R, O>,
+) -> Result<ChunksExact<'a, R, O>, AllocError>
+    ensures { result ≡ Ok chunks_exact.now }
+{
+    chunks_exact.clone()
+}
+
+fn copied_rchunks<'a, R: BitRegister, O: BitOrder<R>>(
+    rchunks: &RChunks<'a, R, O>,
+) -> Result<RChunks<'a, R, O>, AllocError>
+    ensures { result ≡ Ok rchunks.now }
+{
+    rchunks.clone()
+}
+
+// Why a text is refused is its case and its number.
+
+fn equal_reasons(here: TextError, there: TextError) -> bool
+    ensures { IsTrue result ↔ (here ≡ there) }
+{
+    here == there
+}
+
+fn copied_reason(reason: &TextError) -> Result<TextError, AllocError>
+    ensures { result ≡ Ok reason.now }
+{
+    reason.clone()
 }

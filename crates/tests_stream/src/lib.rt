@@ -7,6 +7,7 @@ mod codes;
 #[cfg(test)]
 mod examples;
 mod header;
+mod traits;
 mod ways;
 #[cfg(test)]
 mod words;

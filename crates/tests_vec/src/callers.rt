@@ -6,10 +6,12 @@ ghost use Rattle.std.specs.Prelude.{IfOk, OnErr, Some, is_ok, not, length, map, 
 ghost use Rattle.std.specs.Prelude.{true, false, replicate, reverse, slice_set};
 ghost use Rattle.std.specs.List.{insert, filter};
 ghost use Rattle.bitvec.specs.Memory.{zip_with};
+ghost use Rattle.bitvec_slice.specs.Field.{field_number};
 ghost use Rattle.bitvec_vec.specs.BitVec.{vec_bits};
 
 use bitvec::mem::BitRegister;
 use bitvec::order::BitOrder;
+use bitvec_slice::field::Sequential;
 use bitvec_vec::vec::BitVec;
 use std::alloc::{AllocError, Allocator};
 
@@ -115,4 +117,12 @@ pub fn one_number<R: BitRegister, O: BitOrder<R>, A: Allocator>(
     let mut set = BitVec::repeat(alloc, false, count)?;
     set.set(number, true);
     Ok(set)
+}
+
+/// The number that a vector's bits are, big-endian: they begin with the first bit of a word.
+pub fn number_of<R: BitRegister, O: Sequential<R>, A: Allocator>(bits: &BitVec<R, O, A>) -> u128
+    requires { length (vec_bits bits.now) ≤ 128 }
+    ensures { result ≡ field_number true R.BITS O.RISES 0 (vec_bits bits.now) }
+{
+    bits.as_bitslice().load_be()
 }

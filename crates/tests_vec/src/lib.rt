@@ -12,3 +12,4 @@ mod memory;
 mod refusing;
 #[cfg(test)]
 mod sets;
+mod traits;

@@ -196,10 +196,12 @@ fn fill<R: BitRegister, O: BitOrder<R>>(
 /// Gives one span of a memory a command, and returns what [`run`](crate::run::run) replies to it.
 ///
 /// Requires a span that [`fits`](BitSpan::fits). It replies [`Reply::PastEnd`] where the command
-/// names a word or a bit past the span's end, and the memory stays then; it never replies
-/// [`Reply::NoSpan`]. Otherwise the span has the list that the command leaves, and every other bit
-/// of the memory is as before, and so is the list of every span that is disjoint from this one. A
-/// `Copy` or a `Fill` costs by words, and each other command constant time. Not in the Rust crate.
+/// names a word or a bit past the span's end, or is a `Fill` that ends before it begins, and the
+/// memory stays then; it never replies [`Reply::NoSpan`]. Otherwise the span has the list that the
+/// command leaves, and every other bit of the memory is as before, and so is the list of every span
+/// that is disjoint from this one. A `Copy` costs as the span's
+/// [`copy_within`](BitSpan::copy_within), a `Fill` by words, and each other command constant time.
+/// Not in the Rust crate.
 ///
 /// # Examples
 ///

@@ -68,12 +68,12 @@ impl<O: BitOrder<usize>, const N: usize> Clone for BitArray<O, N> {
 impl<O: BitOrder<usize>, const N: usize> Copy for BitArray<O, N> {}
 
 impl<O: BitOrder<usize>, const N: usize> BitArray<O, N> {
-    ghost use Rattle.bitvec_slice.specs.BitSlice.{bits_of};
+    ghost use Rattle.bitvec_slice.specs.BitSlice.{slice_span, bits_of};
     ghost use Rattle.bitvec_slice.specs.BitSliceMut.{lent_span, lent_bits};
     ghost use Rattle.bitvec_array.specs.BitArray.{array_bits};
     ghost use Rattle.bitvec_array.specs.Lends.{lends_bits};
 
-    /// Every bit zero: [`ZERO`](crate::array::ZeroArray::ZERO), as a call.
+    /// Every bit zero: [`ZERO`](crate::array::ZeroArray::ZERO), as a call. Costs by words.
     pub fn zeros() -> Self
         ensures { array_bits result ≡ replicate (array_len N) false }
     {
@@ -83,8 +83,8 @@ impl<O: BitOrder<usize>, const N: usize> BitArray<O, N> {
         }
     }
 
-    /// The bits of some words, in order. [`from_words`](BitArray::from_words) is the same, by the
-    /// name that vectors have for it.
+    /// The bits of some words, in order, by a copy of the words. [`from_words`](BitArray::from_words)
+    /// is the same, by the name that vectors have for it.
     pub fn new(words: [usize; N]) -> Self
         ensures { array_bits result ≡ bits_in O.at_of N words.entry }
     {
@@ -94,7 +94,7 @@ impl<O: BitOrder<usize>, const N: usize> BitArray<O, N> {
         }
     }
 
-    /// The bits of some words, in order.
+    /// The bits of some words, in order, by a copy of the words.
     ///
     /// # Examples
     ///
@@ -109,7 +109,7 @@ impl<O: BitOrder<usize>, const N: usize> BitArray<O, N> {
         Self::new(words)
     }
 
-    /// The words that the bits lie in. The Rust crate's `into_inner`.
+    /// The words that the bits lie in, by a copy. The Rust crate's `into_inner`.
     pub fn into_words(self) -> [usize; N]
         ensures words { length result ≡ N }
         ensures bits { bits_in O.at_of N result ≡ array_bits self }
@@ -132,9 +132,11 @@ impl<O: BitOrder<usize>, const N: usize> BitArray<O, N> {
         N == 0
     }
 
-    /// Its bits, for reading. Constant time.
+    /// Its bits, for reading: a slice that begins with the first bit of its first word. Constant
+    /// time.
     pub fn as_bitslice(&self) -> BitSlice<'_, usize, O>
-        ensures { bits_of result ≡ array_bits self.now }
+        ensures span { slice_span result ≡ array_span N }
+        ensures bits { bits_of result ≡ array_bits self.now }
     {
         BitSlice::new(span_of_all::<O, N>(), &self.words).unwrap()
     }

@@ -7,6 +7,7 @@ ghost use Rattle.bitvec.specs.Truths.{ones_in, AllAre, IsFirst};
 ghost use Rattle.bitvec_slice.specs.Bits.{zeros_in, IsLast, ones_between, zeros_between};
 ghost use Rattle.bitvec_slice.specs.BitSlice.{bits_of};
 ghost use Rattle.bitvec_slice.specs.SameBits.{AreSameBits};
+ghost use Rattle.bitvec_array.specs.Array.{array_span};
 
 use crate::array::BitArray;
 use bitvec::mem::BitRegister;
@@ -14,7 +15,8 @@ use bitvec::order::BitOrder;
 use bitvec_slice::slice::{BitSlice, Iter, IterOnes, IterZeros};
 
 impl<O: BitOrder<usize>, const N: usize> BitArray<O, N> {
-    ghost use Rattle.bitvec_slice.specs.Iter.{rest_of, GivesBitsInOrder, GivesBitsInReverse};
+    ghost use Rattle.bitvec_slice.specs.Iter.{rest_span, rest_of};
+    ghost use Rattle.bitvec_slice.specs.Iter.{GivesBitsInOrder, GivesBitsInReverse};
     ghost use Rattle.bitvec_slice.specs.Ones.{ones_left, zeros_left};
     ghost use Rattle.bitvec_array.specs.BitArray.{array_bits};
 
@@ -117,6 +119,7 @@ impl<O: BitOrder<usize>, const N: usize> BitArray<O, N> {
     pub fn iter(&self) -> Iter<'_, usize, O>
         ensures rest { rest_of result ≡ array_bits self.now }
         ensures bound { length (rest_of result) < 2 ^ 64 }
+        ensures span { rest_span result ≡ array_span N }
 
         // Facts of the type, as of the iterator of a slice for reading.
         ensures runs { GivesBitsInOrder result }

@@ -138,7 +138,8 @@ impl<R: BitRegister, O: BitOrder<R>> BitSpan<R, O> {
 
     /// The bits of the span in a memory, by the words in which they lie.
     ///
-    /// The bits of its parts, one behind the other, are the span's. Constant time.
+    /// The bits of its parts, one behind the other, are the span's. Requires a span that
+    /// [`fits`](BitSpan::fits). Constant time.
     pub fn bit_domain<'a>(self, memory: &'a [R]) -> BitDomain<'a, R, O>
         requires { Fits R.BITS (span_of self) (length memory.now) }
         ensures parts { bit_parts R.number result

@@ -105,7 +105,7 @@ pub(super) fn word_pointer<R: BitRegister, O>(head: u8, i: usize) -> BitPtr<R, O
 impl<'a, R: BitRegister, O: BitOrder<R>> BitWords<'a, R, O> {
     ghost use Rattle.bitvec_domain.specs.BitDomain.{word_bits};
 
-    /// Bit `i`. Constant time.
+    /// Bit `i`. Requires that `i` is below the number of bits. Constant time.
     pub fn read(&self, i: usize) -> bool
         requires { i < (word_bits R.number self.now).len }
         ensures { slice_get (bits_list R.BITS O.at_of (word_bits R.number self.now)) i

@@ -137,7 +137,7 @@ impl<'a, R: BitRegister, O: BitOrder<R>> BitWordsMut<'a, R, O> {
     ghost use Rattle.bitvec_domain.specs.BitWordsMut.{words_memory, memory_numbers, stretch_in};
     ghost use Rattle.bitvec_domain.specs.BitWordsMut.{bit_number};
 
-    /// Bit `i`. Constant time.
+    /// Bit `i`. Requires that `i` is below the number of bits. Constant time.
     pub fn read(&self, i: usize) -> bool
         requires { i < (stretch_in self.now).len }
         ensures { slice_get (bits_list R.BITS O.at_of
@@ -147,8 +147,8 @@ impl<'a, R: BitRegister, O: BitOrder<R>> BitWordsMut<'a, R, O> {
         word_pointer::<R, O>(self.head, i).read(self.words())
     }
 
-    /// Writes bit `i`, and returns the bit before; no other bit of the memory changes. Constant
-    /// time.
+    /// Writes bit `i`, and returns the bit before; no other bit of the memory changes. Requires
+    /// that `i` is below the number of bits. Constant time.
     pub fn replace(&mut self, i: usize, bit: bool) -> bool
         requires { i < (stretch_in self.old).len }
         ensures reference { (words_memory self.new).ghost_name

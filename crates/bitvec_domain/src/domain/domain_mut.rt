@@ -249,8 +249,9 @@ impl<R: BitRegister, O> BitSpan<R, O> {
     /// They are those of [`domain`](BitSpan::domain), and none is copied. The head's loan has all
     /// words up to its own, which is its last, and the tail's all words from its own on. When the
     /// loans end, the memory is what they leave, one behind the other; words that no loan has are
-    /// as before. Requires a span that [`fits`](BitSpan::fits), and the body is no longer than one
-    /// span's can be. Constant time. In place of the Rust crate's domains over a mutable memory.
+    /// as before. The body is no longer than one span's can be. Requires a span that
+    /// [`fits`](BitSpan::fits). Constant time. In place of the Rust crate's domains over a mutable
+    /// memory.
     pub fn domain_mut<'a>(self, memory: &'a mut [R]) -> DomainMut<'a, R, O>
         requires { Fits R.BITS (span_of self) (length memory.old) }
         ensures* ends { sem 𝓛 (LendsDomain R.row R.BITS (span_of self) memory.entry result) }

@@ -257,7 +257,8 @@ impl<R: BitRegister, O> BitSpan<R, O> {
 
     /// The part of the `k`-th word that the span meets, counted from 0, for writing.
     ///
-    /// Its bounds are those of [`part`](BitSpan::part). Constant time. Not in the Rust crate.
+    /// Its bounds are those of [`part`](BitSpan::part), and so is what it requires. Constant time.
+    /// Not in the Rust crate.
     pub fn part_mut<'a>(self, memory: &'a mut [R], k: usize) -> PartialElementMut<'a, R, O>
         requires fits { Fits R.BITS (span_of self) (length memory.old) }
         requires met { k < words_met R.BITS (span_of self).head (span_of self).len }

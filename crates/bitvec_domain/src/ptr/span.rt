@@ -116,8 +116,9 @@ impl<R: BitRegister, O> BitSpan<R, O> {
     /// The span of `bits` bits from the bit `head` of a word on.
     ///
     /// It refuses, in this order: `TooLong(bits)` where there are more than 2305843009213693951,
-    /// and `TooHigh(word)` where the word in which the span ends passes the greatest `isize`. The
-    /// bounds are the Rust crate's; there the second is an address that wraps. Constant time.
+    /// and `TooHigh(word)` where the word of the place behind its last bit passes the greatest
+    /// `isize`. The bounds are the Rust crate's; there the second is an address that wraps.
+    /// Constant time.
     ///
     /// # Examples
     ///
@@ -154,8 +155,8 @@ impl<R: BitRegister, O> BitSpan<R, O> {
     /// The span of `bits` bits from the bit `head` of a word on.
     ///
     /// Requires what [`new`](BitSpan::new) tests: at most 2305843009213693951 bits, and that the
-    /// word in which the span ends does not pass the greatest `isize`. Constant time. In place of
-    /// the Rust crate's private `BitSpan::new_unchecked`.
+    /// word of the place behind the last does not pass the greatest `isize`. Constant time. In
+    /// place of the Rust crate's private `BitSpan::new_unchecked`.
     #[inline(always)]
     pub fn new_unchecked(word: isize, head: BitIdx<R>, bits: usize) -> Self
         requires short { bits ≤ region_max_bits }

@@ -3,7 +3,9 @@
 //! Each gives its items in rising order. Taken from both ends in any mixture it gives each item
 //! once, and then `None` for good. The Rust crate has them as unnamed types.
 
-ghost use Rattle.std.specs.Prelude.{◌≡◌, ◌+◌, ◌≤◌, length};
+ghost use Rattle.std.specs.Prelude.{◌≡◌, ◌+◌, ◌≤◌, Some, IfSome, length};
+ghost use Rattle.std.specs.Iterator.{at_most, UpTo};
+ghost use Rattle.std.specs.Iterator.SizeHint.{IsWithinCount};
 ghost use Rattle.bitvec_order.specs.Index.{numbers_between, powers_between};
 
 use crate::index::{BitEnd, BitIdx, BitPos, BitSel, Limits};
@@ -81,6 +83,15 @@ impl<R: BitRegister> Iterator for IdxRange<R> {
         let first = BitIdx::new_unchecked(self.from);
         self.from += 1;
         Some(first)
+    }
+
+    fn size_hint(&self) -> (usize, Option<usize>)
+        ensures lower { IsWithinCount result.0 (at_most (length self.now)) }
+        ensures upper { IfSome result.1 (UpTo (at_most (length self.now))) }
+        ensures exact { (result.0 ≡ length self.now) × (result.1 ≡ Some result.0) }
+    {
+        let left = self.len();
+        (left, Some(left))
     }
 }
 
@@ -167,6 +178,15 @@ impl<R: BitRegister> Iterator for EndRange<R> {
         self.from += 1;
         Some(first)
     }
+
+    fn size_hint(&self) -> (usize, Option<usize>)
+        ensures lower { IsWithinCount result.0 (at_most (length self.now)) }
+        ensures upper { IfSome result.1 (UpTo (at_most (length self.now))) }
+        ensures exact { (result.0 ≡ length self.now) × (result.1 ≡ Some result.0) }
+    {
+        let left = self.len();
+        (left, Some(left))
+    }
 }
 
 impl<R: BitRegister> DoubleEndedIterator for EndRange<R> {
@@ -243,6 +263,15 @@ impl<R: BitRegister> Iterator for PosRange<R> {
         let first = self.indices.next()?;
         Some(BitPos::new_unchecked(first.into_inner()))
     }
+
+    fn size_hint(&self) -> (usize, Option<usize>)
+        ensures lower { IsWithinCount result.0 (at_most (length self.now)) }
+        ensures upper { IfSome result.1 (UpTo (at_most (length self.now))) }
+        ensures exact { (result.0 ≡ length self.now) × (result.1 ≡ Some result.0) }
+    {
+        let left = self.len();
+        (left, Some(left))
+    }
 }
 
 impl<R: BitRegister> DoubleEndedIterator for PosRange<R> {
@@ -312,6 +341,15 @@ impl<R: BitRegister> Iterator for SelRange<R> {
     fn next(&mut self) -> Option<BitSel<R>> {
         let first = self.positions.next()?;
         Some(first.select())
+    }
+
+    fn size_hint(&self) -> (usize, Option<usize>)
+        ensures lower { IsWithinCount result.0 (at_most (length self.now)) }
+        ensures upper { IfSome result.1 (UpTo (at_most (length self.now))) }
+        ensures exact { (result.0 ≡ length self.now) × (result.1 ≡ Some result.0) }
+    {
+        let left = self.len();
+        (left, Some(left))
     }
 }
 

@@ -1,6 +1,9 @@
 //! Copies and other combinations of ranges of bits, between two memories and inside one.
 //!
 //! A copy is the combination that takes the source's bit, so all of them are one engine.
+//!
+//! Where a cost hangs on the orders, two of them are one order where their words have one width
+//! and each index has one position under both.
 
 ghost use Rattle.std.specs.Prelude.{◌≡◌, ℕ, ℤ, pos, nat_abs, ◌+◌, ◌*◌, ◌<◌, ◌≤◌, ◌+ℤ◌, ◌≤ℤ◌, true};
 ghost use Rattle.std.specs.Prelude.{false, length, map};
@@ -74,10 +77,8 @@ impl<R: BitRegister, O: BitOrder<R>> BitPtr<R, O> {
     /// Bit j of the target's range becomes what `C` makes of it and of bit j of this range,
     /// whatever their registers and orders are. What is required, and how the mark and the count of
     /// writes move, is as for [`copy_through`](BitPtr::copy_through), which is this call with
-    /// [`Source`]. It takes some operations for each word of the target, and some for each bit
-    /// where the orders differ and neither both rise nor both fall. Costs by words where both
-    /// orders rise, both fall, or are one order with both ranges at the same bit of a word; else by
-    /// bits. Not in the Rust crate.
+    /// [`Source`]. Costs by words where both orders rise, both fall, or are one order with both
+    /// ranges at the same bit of a word; else by bits. Not in the Rust crate.
     ///
     /// # Examples
     ///

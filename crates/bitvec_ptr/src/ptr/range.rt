@@ -1,8 +1,10 @@
 //! Ranges of bit pointers: the places from a start to before an end.
 
 ghost use Rattle.std.specs.Prelude.{◌≡◌, ⊤, ℕ, ℤ, pos, ◌+◌, ◌-◌, ◌<◌, ◌≤◌, ◌+ℤ◌, ◌≤ℤ◌, ◌<ℤ◌, ◌↔◌};
-ghost use Rattle.std.specs.Prelude.{IsTrue, MatchOption, []};
+ghost use Rattle.std.specs.Prelude.{IsTrue, MatchOption, [], Some, IfSome, length};
 ghost use Rattle.std.specs.Iterator.{YieldsFirstBy, YieldsLastBy, MakesProgress, item_count};
+ghost use Rattle.std.specs.Iterator.{at_most, UpTo};
+ghost use Rattle.std.specs.Iterator.SizeHint.{IsWithinCount};
 ghost use Rattle.std.specs.Range.Bound.{bound_map};
 ghost use Rattle.std.specs.declared.ops.Bound.TheVariants.{Included, Excluded};
 ghost use Rattle.bitvec_ptr.specs.Place.{place_of, greatest_isize};
@@ -269,6 +271,18 @@ impl<R: BitRegister, O> Iterator for BitPtrRange<R, O> {
             ≡ (range_of self.old).end }
     {
         self.nth(0)
+    }
+
+    fn size_hint(&self) -> (usize, Option<usize>)
+        ensures lower { IsWithinCount result.0
+            (at_most (length (places_of R.BITS (range_of self.now)))) }
+        ensures upper { IfSome result.1
+            (UpTo (at_most (length (places_of R.BITS (range_of self.now))))) }
+        ensures exact { (result.0 ≡ count_of R.BITS (range_of self.now))
+            × (result.1 ≡ Some result.0) }
+    {
+        let left = self.left();
+        (left, Some(left))
     }
 }
 

@@ -75,8 +75,8 @@ impl<R: BitRegister, O> Dangling for BitPtr<R, O> {
 impl<R: BitRegister, O> BitPtr<R, O> {
     ghost use Rattle.bitvec_ptr.specs.BitPtr.{ptr_of};
 
-    /// The pointer to the bit `bit` of the word `word`, which may be any word. Constant time. Not
-    /// in the Rust crate.
+    /// The pointer to the bit `bit` of the word `word`, which may be any word. Constant time. In
+    /// place of the Rust crate's `new`, which takes an address and refuses one that is not aligned.
     pub fn new(word: isize, bit: BitIdx<R>) -> Self
         ensures { ptr_of result ≡ record { word = word; bit = bit } }
     {

@@ -22,9 +22,13 @@ pub trait SignedNumber: Copy {
     // The number that a value is.
     ghost number: { Self → ℤ };
 
+    // The number is all of a value.
+    ghost number_injective: { (a b : Self) → number a ≡ number b → a ≡ b };
+
     /// The number of the value.
     fn to_i128(self) -> i128
-        ensures { result ≡ number self };
+        ensures number { result ≡ number self }
+        ensures digits { HasDigits BITS (number self) };
 
     /// The value of the number; `None` where it has more than `BITS` digits.
     fn from_i128(n: i128) -> Option<Self>
@@ -40,6 +44,8 @@ impl SignedNumber for i8 {
     ghost BITS = { 8 };
 
     ghost number = { λ z. z };
+
+    ghost number_injective = { λ a b same. same };
 
     fn to_i128(self) -> i128 {
         i128::from(self)
@@ -59,6 +65,8 @@ impl SignedNumber for i16 {
 
     ghost number = { λ z. z };
 
+    ghost number_injective = { λ a b same. same };
+
     fn to_i128(self) -> i128 {
         i128::from(self)
     }
@@ -76,6 +84,8 @@ impl SignedNumber for i32 {
     ghost BITS = { 32 };
 
     ghost number = { λ z. z };
+
+    ghost number_injective = { λ a b same. same };
 
     fn to_i128(self) -> i128 {
         i128::from(self)
@@ -95,6 +105,8 @@ impl SignedNumber for i64 {
 
     ghost number = { λ z. z };
 
+    ghost number_injective = { λ a b same. same };
+
     fn to_i128(self) -> i128 {
         i128::from(self)
     }
@@ -113,6 +125,8 @@ impl SignedNumber for isize {
 
     ghost number = { λ z. z };
 
+    ghost number_injective = { λ a b same. same };
+
     fn to_i128(self) -> i128 {
         self as i128
     }
@@ -130,6 +144,8 @@ impl SignedNumber for i128 {
     ghost BITS = { 128 };
 
     ghost number = { λ z. z };
+
+    ghost number_injective = { λ a b same. same };
 
     fn to_i128(self) -> i128 {
         self

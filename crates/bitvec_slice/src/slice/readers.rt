@@ -251,7 +251,8 @@ impl<'a, R: BitRegister, O: BitOrder<R>> BitSliceMut<'a, R, O> {
         self.as_bitslice().iter()
     }
 
-    /// The indices of the bits that are one, in rising order or from the back.
+    /// The indices of the bits that are one, in rising order or from the back. Costs as
+    /// [`BitSlice::iter_ones`].
     pub fn iter_ones(&self) -> IterOnes<'_, R, O>
         ensures { ones_left result
             ≡ ones_between (lent_bits self.now) 0 (length (lent_bits self.now)) }
@@ -259,7 +260,8 @@ impl<'a, R: BitRegister, O: BitOrder<R>> BitSliceMut<'a, R, O> {
         self.as_bitslice().iter_ones()
     }
 
-    /// The indices of the bits that are zero, in rising order or from the back.
+    /// The indices of the bits that are zero, in rising order or from the back. Costs as
+    /// [`BitSlice::iter_zeros`].
     pub fn iter_zeros(&self) -> IterZeros<'_, R, O>
         ensures { zeros_left result
             ≡ zeros_between (lent_bits self.now) 0 (length (lent_bits self.now)) }

@@ -12,12 +12,14 @@ ghost use Rattle.bitvec_slice.specs.BitSlice.{bits_of};
 ghost use Rattle.bitvec_slice.specs.Iter.{rest_of};
 ghost use Rattle.bitvec_slice.specs.SliceText.{digit_text, digits_text, truths_text, text_bits};
 ghost use Rattle.bitvec_slice.specs.SliceText.{digit_value, IsDigit, AreDigits};
+ghost use Rattle.bitvec_slice.specs.SliceText.{not_a_digit_text, other_length_text};
 ghost use Rattle.bitvec.specs.ItemText.{rest_text};
 
 use crate::slice::{BitSlice, BitSliceMut, Iter};
 use bitvec::mem::BitRegister;
 use bitvec::order::BitOrder;
 use bitvec::ptr::span::BitSpan;
+use bitvec_mem::numeral::write_numeral;
 use std::error::Error;
 use std::fmt;
 
@@ -30,19 +32,35 @@ pub enum TextError {
     OtherLength(usize),
 }
 
-/// Which character is no digit, or how many digits there are.
+// The text of `NotADigit`.
+fn write_not_a_digit<W: fmt::Write>(f: &mut fmt::Formatter<W>, at: usize) -> fmt::Result
+    ensures { WritesStyledOnOk W.write_str_gives f.old result (not_a_digit_text at) f.new }
+{
+    f.write_str("character ")?;
+    write_numeral(f, at as u128, 10, false, 1)?;
+    f.write_str(" is neither 0 nor 1")
+}
+
+// The text of `OtherLength`.
+fn write_other_length<W: fmt::Write>(f: &mut fmt::Formatter<W>, digits: usize) -> fmt::Result
+    ensures { WritesStyledOnOk W.write_str_gives f.old result (other_length_text digits) f.new }
+{
+    write_numeral(f, digits as u128, 10, false, 1)?;
+    f.write_str(" digits for another number of bits")
+}
+
+/// Which character is no digit, or how many digits there are, whatever the caller's flags.
 impl fmt::Display for TextError {
     ghost use Rattle.bitvec_slice.specs.TextError.{reason_text};
 
     ghost output = { λ error. Some (reason_text error) };
 
+    ghost styled_output = { λ error _. Some (reason_text error) };
+
     fn fmt<W: fmt::Write>(&self, f: &mut fmt::Formatter<W>) -> fmt::Result {
         match *self {
-            TextError::NotADigit(at) => write!(f, "character {at} is neither 0 nor 1"),
-            TextError::OtherLength(digits) => write!(
-                f,
-                "{digits} digits for another number of bits"
-            ),
+            TextError::NotADigit(at) => write_not_a_digit(f, at),
+            TextError::OtherLength(digits) => write_other_length(f, digits),
         }
     }
 }

@@ -138,7 +138,7 @@ impl<'a, R: BitRegister, O: BitOrder<R>> BitReader<'a, R, O> {
     ///
     /// It refuses with `Unended` exactly where the bits that are left begin with no number's code,
     /// as they end before it does, and with `TooLarge` exactly where they begin with that of a
-    /// number that passes the type. Costs by words. Not in the Rust crate.
+    /// number that passes the type. Costs as [`read_be`](BitReader::read_be). Not in the Rust crate.
     ///
     /// # Examples
     ///
@@ -188,8 +188,8 @@ impl<'a, R: BitRegister, O: BitOrder<R>> BitReader<'a, R, O> {
 
     /// The signed number whose Exp-Golomb code the bits that are left begin with, as `se(v)` of
     /// ITU-T H.264 and H.265: the codes of 0, 1, 2, 3, 4 and so on are those of 0, 1, -1, 2, -2 and
-    /// so on. It refuses as [`read_exp_golomb`](BitReader::read_exp_golomb) does. Costs by words.
-    /// Not in the Rust crate.
+    /// so on. It refuses as [`read_exp_golomb`](BitReader::read_exp_golomb) does, and costs as
+    /// much. Not in the Rust crate.
     pub fn read_signed_exp_golomb<N: SignedNumber>(&mut self) -> Result<N, ReadError>
         ensures value { MatchResult result
             (λ value. StartsWith (rest self.old) (golomb (signed_place (N.number value))))

@@ -84,7 +84,7 @@ impl<'a, R: BitRegister, O: BitOrder<R>> BitReader<'a, R, O> {
     /// with `TooFew` exactly where fewer are left.
     ///
     /// Requires that `count` is at most the width of the number's type: `count <= N::BITS`. Costs
-    /// by words. Not in the Rust crate.
+    /// by words where the order's positions fall, else by bits. Not in the Rust crate.
     #[inline(always)]
     pub fn read_be<N: BitRegister>(&mut self, count: usize) -> Result<N, ReadError>
         requires { count ≤ N.BITS }
@@ -106,7 +106,7 @@ impl<'a, R: BitRegister, O: BitOrder<R>> BitReader<'a, R, O> {
     /// with `TooFew` exactly where fewer are left.
     ///
     /// Requires that `count` is at most the width of the number's type: `count <= N::BITS`. Costs
-    /// by words. Not in the Rust crate.
+    /// by words where the order's positions rise, else by bits. Not in the Rust crate.
     ///
     /// # Examples
     ///

@@ -18,7 +18,7 @@ impl<'a, R: BitRegister, O: BitOrder<R>> BitReader<'a, R, O> {
     /// digit. No bits are 0. It refuses with `TooFew` exactly where fewer are left.
     ///
     /// Requires that `count` is at most the width of the number's type: `count <= N::BITS`. Costs
-    /// by words. Not in the Rust crate.
+    /// by words where the order's positions fall, else by bits. Not in the Rust crate.
     ///
     /// # Examples
     ///
@@ -45,7 +45,7 @@ impl<'a, R: BitRegister, O: BitOrder<R>> BitReader<'a, R, O> {
     /// digit. No bits are 0. It refuses with `TooFew` exactly where fewer are left.
     ///
     /// Requires that `count` is at most the width of the number's type: `count <= N::BITS`. Costs
-    /// by words. Not in the Rust crate.
+    /// by words where the order's positions rise, else by bits. Not in the Rust crate.
     pub fn read_signed_le<N: SignedNumber>(&mut self, count: usize) -> Result<N, ReadError>
         requires { count ≤ N.BITS }
         ensures accepted { IsOk result ↔ (count ≤ length (rest self.old)) }

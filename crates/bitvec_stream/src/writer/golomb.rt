@@ -55,8 +55,8 @@ impl<'a, R: BitRegister, O: BitOrder<R>> BitWriter<'a, R, O> {
 
     /// Writes a number's Exp-Golomb code, as `ue(v)` of ITU-T H.264 and H.265:
     /// [`read_exp_golomb`](crate::reader::BitReader::read_exp_golomb) says which it is. It refuses
-    /// with `NoRoom` exactly where there is room for fewer bits. Costs by words. Not in the Rust
-    /// crate.
+    /// with `NoRoom` exactly where there is room for fewer bits. Costs as
+    /// [`write_be`](BitWriter::write_be). Not in the Rust crate.
     ///
     /// # Examples
     ///
@@ -86,8 +86,8 @@ impl<'a, R: BitRegister, O: BitOrder<R>> BitWriter<'a, R, O> {
 
     /// Writes a signed number's Exp-Golomb code, as `se(v)` of ITU-T H.264 and H.265:
     /// [`read_signed_exp_golomb`](crate::reader::BitReader::read_signed_exp_golomb) says which it
-    /// is. It refuses with `NoRoom` exactly where there is room for fewer bits. Costs by words. Not
-    /// in the Rust crate.
+    /// is. It refuses with `NoRoom` exactly where there is room for fewer bits. Costs as
+    /// [`write_be`](BitWriter::write_be). Not in the Rust crate.
     pub fn write_signed_exp_golomb<N: SignedNumber>(&mut self, value: N) -> Result<(), WriteError>
         ensures accepted { let code = golomb (signed_place (N.number value))
             in IsOk result ↔ (length code ≤ length (room self.old)) }

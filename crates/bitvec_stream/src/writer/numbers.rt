@@ -71,7 +71,7 @@ impl<'a, R: BitRegister, O: BitOrder<R>> BitWriter<'a, R, O> {
     /// number is not below two to the `count`.
     ///
     /// Requires that `count` is at most the width of the number's type: `count <= N::BITS`. Costs
-    /// by words. Not in the Rust crate.
+    /// by words where the order's positions fall, else by bits. Not in the Rust crate.
     #[inline(always)]
     pub fn write_be<N: BitRegister>(&mut self, count: usize, value: N) -> Result<(), WriteError>
         requires { count ≤ N.BITS }
@@ -102,7 +102,7 @@ impl<'a, R: BitRegister, O: BitOrder<R>> BitWriter<'a, R, O> {
     /// number is not below two to the `count`.
     ///
     /// Requires that `count` is at most the width of the number's type: `count <= N::BITS`. Costs
-    /// by words. Not in the Rust crate.
+    /// by words where the order's positions rise, else by bits. Not in the Rust crate.
     ///
     /// # Examples
     ///

@@ -47,7 +47,7 @@ impl<'a, R: BitRegister, O: BitOrder<R>> BitWriter<'a, R, O> {
     /// minus two to the `count`, or not below two to the `count`.
     ///
     /// Requires that `count` is at most the width of the number's type: `count <= N::BITS`. Costs
-    /// by words. Not in the Rust crate.
+    /// by words where the order's positions fall, else by bits. Not in the Rust crate.
     ///
     /// # Examples
     ///
@@ -88,7 +88,7 @@ impl<'a, R: BitRegister, O: BitOrder<R>> BitWriter<'a, R, O> {
     /// It refuses as [`write_signed_be`](BitWriter::write_signed_be) does.
     ///
     /// Requires that `count` is at most the width of the number's type: `count <= N::BITS`. Costs
-    /// by words. Not in the Rust crate.
+    /// by words where the order's positions rise, else by bits. Not in the Rust crate.
     pub fn write_signed_le<N: SignedNumber>(
         &mut self,
         count: usize,

@@ -47,7 +47,7 @@ pub struct BitVec<R: BitRegister = usize, O: BitOrder<R> = Lsb0, A: Allocator = 
 }
 
 impl<R: BitRegister, O: BitOrder<R>, A: Allocator> BitVec<R, O, A> {
-    ghost use Rattle.bitvec_slice.specs.BitSlice.{bits_of};
+    ghost use Rattle.bitvec_slice.specs.BitSlice.{slice_span, bits_of};
     ghost use Rattle.bitvec_slice.specs.BitSliceMut.{lent_span, lent_bits};
     ghost use Rattle.bitvec_vec.specs.BitVec.{vec_bits, bit_capacity};
     ghost use Rattle.bitvec_vec.specs.Lends.{lends_bits};
@@ -74,9 +74,11 @@ impl<R: BitRegister, O: BitOrder<R>, A: Allocator> BitVec<R, O, A> {
         bits.min(MOST)
     }
 
-    /// Its bits, for reading. Constant time.
+    /// Its bits, for reading: a slice that begins with the first bit of its first word. Constant
+    /// time.
     pub fn as_bitslice(&self) -> BitSlice<'_, R, O>
-        ensures { bits_of result ≡ vec_bits self.now }
+        ensures span { slice_span result ≡ front_span (length (vec_bits self.now)) }
+        ensures bits { bits_of result ≡ vec_bits self.now }
     {
         BitSlice::new(span_of_front(self.len), self.words.as_slice()).unwrap()
     }

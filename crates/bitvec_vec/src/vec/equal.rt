@@ -11,7 +11,8 @@ use std::alloc::{AllocError, Allocator};
 use std::cmp::Ordering;
 use std::hash::{Hash, Hasher};
 
-/// A copy of the bits in memory of its own. It refuses where memory is refused.
+/// A copy of the bits in memory of its own. It refuses where memory is refused, or where the copy
+/// of the allocator is. Costs by words where the order's positions rise or fall, else by bits.
 impl<R: BitRegister, O: BitOrder<R>, A: Allocator + Clone> Clone for BitVec<R, O, A> {
     ghost use Rattle.bitvec_vec.specs.BitVec.{vec_bits};
 

@@ -18,7 +18,8 @@ impl<R: BitRegister, O: BitOrder<R>, A: Allocator> BitVec<R, O, A> {
     /// memory is asked for.
     ///
     /// It refuses where memory is refused, or where there would be more than 2305843009213693951
-    /// bits. The list stays, whatever the answer.
+    /// bits, and then the room stays too. The list stays, whatever the answer. Costs at most one
+    /// request to the allocator, and a copy of the words where it gives another place.
     pub fn reserve(&mut self, additional: usize) -> Result<(), AllocError>
         ensures bits { vec_bits self.new ≡ vec_bits self.old }
         ensures ok { OnOk result
@@ -26,6 +27,7 @@ impl<R: BitRegister, O: BitOrder<R>, A: Allocator> BitVec<R, O, A> {
         ensures capacity { bit_capacity self.old ≤ bit_capacity self.new }
         ensures full { OnErr result
             (bit_capacity self.old < length (vec_bits self.old) + additional) }
+        ensures refused { OnErr result (bit_capacity self.new ≡ bit_capacity self.old) }
     {
         if MOST - self.len < additional {
             return Err(AllocError);

@@ -16,7 +16,8 @@ impl<R: BitRegister, O: BitOrder<R>, A: Allocator> BitVec<R, O, A> {
     /// Puts a bit before bit `i`, or behind all bits where `i` is the length. Requires that `i` is
     /// at most the length: [`len`](BitVec::len) is the test.
     ///
-    /// Where memory is refused, the list is as it was. Costs by the words of the bits behind.
+    /// Where memory is refused, the list is as it was. Costs by the words of the bits behind where
+    /// the order's positions rise or fall, else by these bits.
     ///
     /// # Examples
     ///
@@ -43,7 +44,8 @@ impl<R: BitRegister, O: BitOrder<R>, A: Allocator> BitVec<R, O, A> {
     }
 
     /// Takes bit `i` away and returns it; those behind it move up by one. Requires that there is
-    /// one: [`len`](BitVec::len) is the test. Costs by the words of the bits behind.
+    /// one: [`len`](BitVec::len) is the test. Costs by the words of the bits behind where the
+    /// order's positions rise or fall, else by these bits.
     ///
     /// # Examples
     ///
@@ -133,7 +135,8 @@ impl<R: BitRegister, O: BitOrder<R>, A: Allocator + Clone> BitVec<R, O, A> {
     /// Takes the bits from number `at` on away, and returns them as a vector of their own. Requires
     /// that `at` is at most the length: [`len`](BitVec::len) is the test.
     ///
-    /// Where memory is refused, the list is as it was. Costs by words.
+    /// Where memory is refused, and so where the copy of the allocator is, the list is as it was.
+    /// Costs by words where the order's positions rise or fall, else by bits.
     ///
     /// # Examples
     ///

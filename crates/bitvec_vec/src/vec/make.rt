@@ -1,7 +1,7 @@
 //! How vectors are made, and their words.
 
-ghost use Rattle.std.specs.Prelude.{◌≡◌, ◌≤◌, ◌<◌, ◌*◌, [], IfOk, OnErr, length, map, replicate};
-ghost use Rattle.std.specs.Prelude.{vec_len};
+ghost use Rattle.std.specs.Prelude.{◌≡◌, ◌≤◌, ◌<◌, ◌*◌, [], IfOk, OnErr, length, map, min, replicate};
+ghost use Rattle.std.specs.Prelude.{vec_len, vec_capacity};
 ghost use Rattle.bitvec.specs.Memory.{memory_bits};
 ghost use Rattle.bitvec.specs.Place.{region_max_bits};
 ghost use Rattle.bitvec_slice.specs.BitSlice.{bits_of};
@@ -19,7 +19,8 @@ impl<R: BitRegister, O: BitOrder<R>, A: Allocator> BitVec<R, O, A> {
 
     /// No bits. Takes no memory. Constant time.
     pub fn new(alloc: A) -> Self
-        ensures { vec_bits result ≡ [] }
+        ensures bits { vec_bits result ≡ [] }
+        ensures capacity { bit_capacity result ≡ 0 }
     {
         BitVec {
             words: Vec::new(alloc),
@@ -29,7 +30,8 @@ impl<R: BitRegister, O: BitOrder<R>, A: Allocator> BitVec<R, O, A> {
     }
 
     /// No bits, and memory for so many. It refuses where memory is refused, or where there would be
-    /// more than 2305843009213693951 bits; for none it asks for no memory, and never refuses.
+    /// more than 2305843009213693951 bits; for none it asks for no memory, and never refuses. Costs
+    /// one request to the allocator.
     pub fn with_capacity(alloc: A, capacity: usize) -> Result<Self, AllocError>
         ensures bits { IfOk result (λ vec. vec_bits vec ≡ []) }
         ensures capacity { IfOk result (λ vec. capacity ≤ bit_capacity vec) }
@@ -88,8 +90,8 @@ impl<R: BitRegister, O: BitOrder<R>, A: Allocator> BitVec<R, O, A> {
         Ok(vec)
     }
 
-    /// Every bit of some words, in order. Requires that there are at most 2305843009213693951.
-    /// Constant time. The Rust crate's `from_vec`.
+    /// Every bit of some words, in order, with the room that the words have. Requires that there
+    /// are at most 2305843009213693951 bits. Constant time. The Rust crate's `from_vec`.
     ///
     /// # Examples
     ///
@@ -103,7 +105,9 @@ impl<R: BitRegister, O: BitOrder<R>, A: Allocator> BitVec<R, O, A> {
     /// ```
     pub fn from_words(words: Vec<R, A>) -> Self
         requires { vec_len words * R.BITS ≤ region_max_bits }
-        ensures { vec_bits result ≡ memory_bits R.BITS O.at_of (map R.number words.items) }
+        ensures bits { vec_bits result ≡ memory_bits R.BITS O.at_of (map R.number words.items) }
+        ensures capacity { bit_capacity result
+            ≡ min (vec_capacity words * R.BITS) region_max_bits }
     {
         let len = words.len() * usize::from(R::BITS);
         BitVec {
@@ -113,9 +117,11 @@ impl<R: BitRegister, O: BitOrder<R>, A: Allocator> BitVec<R, O, A> {
         }
     }
 
-    /// The words that the bits lie in, as many as they take. What the last word has behind the
-    /// bits is not said. Constant time. The Rust crate's `into_vec`.
+    /// The words that the bits lie in, as many as they take, with all their room. What the last
+    /// word has behind the bits is not said. Constant time. The Rust crate's `into_vec`.
     pub fn into_words(self) -> Vec<R, A>
+        ensures capacity { min (vec_capacity result * R.BITS) region_max_bits
+            ≡ bit_capacity self }
         ensures words { vec_len result ≡ words_for R.BITS (length (vec_bits self)) }
         ensures bits { front_bits R.BITS O.at_of (length (vec_bits self))
             (map R.number result.items) ≡ vec_bits self }

@@ -170,8 +170,9 @@ impl<R: BitRegister, O: BitOrder<R>, A: Allocator> BitVec<R, O, A> {
         self.rotate_left(len - by);
     }
 
-    /// Moves each bit `by` places towards the first, word by word: the first `by` bits are lost,
-    /// and the last `by` become zero. Requires that `by` is at most the length.
+    /// Moves each bit `by` places towards the first: the first `by` bits are lost, and the last
+    /// `by` become zero. Requires that `by` is at most the length. Costs by words where the order's
+    /// positions rise or fall, else by bits.
     pub fn shift_left(&mut self, by: usize)
         requires { by ≤ length (vec_bits self.old) }
         ensures bits { vec_bits self.new ≡ drop by (vec_bits self.old) ++ replicate by false }
@@ -180,8 +181,9 @@ impl<R: BitRegister, O: BitOrder<R>, A: Allocator> BitVec<R, O, A> {
         shift_front_left::<R, O>(self.words.as_mut_slice(), self.len, by);
     }
 
-    /// Moves each bit `by` places towards the last, word by word: the last `by` bits are lost, and
-    /// the first `by` become zero. Requires that `by` is at most the length.
+    /// Moves each bit `by` places towards the last: the last `by` bits are lost, and the first `by`
+    /// become zero. Requires that `by` is at most the length. Costs by words where the order's
+    /// positions rise or fall, else by bits.
     pub fn shift_right(&mut self, by: usize)
         requires { by ≤ length (vec_bits self.old) }
         ensures bits { let xs = vec_bits self.old in vec_bits self.new

@@ -8,6 +8,7 @@ ghost use Rattle.bitvec_slice.specs.Bits.{zeros_in, IsLast, ones_between, zeros_
 ghost use Rattle.bitvec_slice.specs.BitSlice.{bits_of};
 ghost use Rattle.bitvec_slice.specs.Numbers.{number_le, number_be};
 ghost use Rattle.bitvec_slice.specs.SameBits.{AreSameBits};
+ghost use Rattle.bitvec_vec.specs.Front.{front_span};
 
 use crate::vec::BitVec;
 use bitvec::mem::BitRegister;
@@ -16,7 +17,8 @@ use bitvec_slice::slice::{BitSlice, Iter, IterOnes, IterZeros};
 use std::alloc::Allocator;
 
 impl<R: BitRegister, O: BitOrder<R>, A: Allocator> BitVec<R, O, A> {
-    ghost use Rattle.bitvec_slice.specs.Iter.{rest_of, GivesBitsInOrder, GivesBitsInReverse};
+    ghost use Rattle.bitvec_slice.specs.Iter.{rest_span, rest_of};
+    ghost use Rattle.bitvec_slice.specs.Iter.{GivesBitsInOrder, GivesBitsInReverse};
     ghost use Rattle.bitvec_slice.specs.Ones.{ones_left, zeros_left};
     ghost use Rattle.bitvec_vec.specs.BitVec.{vec_bits};
 
@@ -135,6 +137,7 @@ impl<R: BitRegister, O: BitOrder<R>, A: Allocator> BitVec<R, O, A> {
     pub fn iter(&self) -> Iter<'_, R, O>
         ensures rest { rest_of result ≡ vec_bits self.now }
         ensures bound { length (rest_of result) < 2 ^ 64 }
+        ensures span { rest_span result ≡ front_span (length (vec_bits self.now)) }
 
         // Facts of the type, as of the iterator of a slice for reading.
         ensures runs { GivesBitsInOrder result }

@@ -27,16 +27,18 @@ pub enum FromTextError {
     NoMemory,
 }
 
-/// Which character is no digit, or that there is no memory.
+/// Which character is no digit, or that there is no memory, whatever the caller's flags.
 impl fmt::Display for FromTextError {
     ghost use Rattle.bitvec_vec.specs.FromText.{unread_text};
 
     ghost output = { λ error. Some (unread_text error) };
 
+    ghost styled_output = { λ error _. Some (unread_text error) };
+
     fn fmt<W: fmt::Write>(&self, f: &mut fmt::Formatter<W>) -> fmt::Result {
         match *self {
-            FromTextError::NotADigit(at) => write!(f, "character {at} is neither 0 nor 1"),
-            FromTextError::NoMemory => write!(f, "there is no memory"),
+            FromTextError::NotADigit(at) => fmt::Display::fmt(&TextError::NotADigit(at), f),
+            FromTextError::NoMemory => f.write_str("there is no memory"),
         }
     }
 }

@@ -110,7 +110,8 @@ impl<R: BitRegister, O: BitOrder<R>> BitSpan<R, O> {
     /// was there before the call.
     ///
     /// Requires a span that [`fits`](BitSpan::fits), and that both ranges end within it. Costs by
-    /// words. In place of the Rust crate's `BitSlice::copy_within_unchecked`.
+    /// words where the order rises or falls, or both ranges begin at the same bit of a word; else
+    /// by bits. In place of the Rust crate's `BitSlice::copy_within_unchecked`.
     pub fn copy_within(self, memory: &mut [R], from: usize, to: usize, count: usize)
         requires fits { Fits R.BITS (span_of self) (length memory.old) }
         requires source_inside { from + count ≤ (span_of self).len }
@@ -138,7 +139,9 @@ impl<R: BitRegister, O: BitOrder<R>> BitSpan<R, O> {
     /// span's, and leaves every other bit as it is.
     ///
     /// Requires that each span [`fits`](BitSpan::fits) its memory, and that they have as many bits.
-    /// Costs by words. In place of the Rust crate's `BitSlice::copy_from_bitslice`.
+    /// Costs by words where both orders rise, both fall, or are one order with both spans at the
+    /// same bit of a word; else by bits. In place of the Rust crate's
+    /// `BitSlice::copy_from_bitslice`.
     ///
     /// # Examples
     ///

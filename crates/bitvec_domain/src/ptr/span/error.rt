@@ -28,8 +28,8 @@ use std::marker::PhantomData;
 pub enum BitSpanError<R> {
     /// The number of bits, which passes the greatest length of a span.
     TooLong(usize),
-    /// The index of the first word; the word in which the span would end passes the greatest
-    /// `isize`.
+    /// The index of the first word; the word of the place behind the last bit would pass the
+    /// greatest `isize`.
     TooHigh(isize, PhantomData<R>),
 }
 

@@ -59,7 +59,8 @@ impl<R: BitRegister, O: BitOrder<R>> BitPtr<R, O> {
     /// Bit j of this range stands for the target's bit and bit j of the other for the source's, so
     /// with [`Xor`](crate::ptr::combine::Xor) it is the first at which the two differ, and with
     /// [`AndNot`](crate::ptr::combine::AndNot) there is none where this is a subset of the other.
-    /// It reads at most 63 words behind the one that decides, and nothing is copied or written.
+    /// It reads at most 63 words of this range behind the one that decides, and of the other as
+    /// many as hold the bits beside these. Nothing is copied or written.
     /// Costs by words where both orders rise, both fall, or are one order with both ranges
     /// at the same bit of a word; else by bits. Not in the Rust crate.
     ///

@@ -14,5 +14,5 @@ returns-clause-written g c =
     let count = c.args.count in
     let most = g.met.N.SignedNumber.width_at_most_128 in
     let fits : FitsSigned w128 c.to_i128-number.result = search rules in
-    let low = low_digits count c.cast_unsigned.result c.to_i128-number.result z (omega (arith, c.requires, most)) fits c.cast_unsigned.ensures c.to_i128-number.ensures in
+    let low = low_digits count c.cast_unsigned.result c.to_i128-number.result z (omega (arith, c.requires, most)) fits c.cast_unsigned.ensures c.to_i128-number.ensures.number in
     writes-as c.args.self.now c.put_le.new.self (digits_le count c.cast_unsigned.result) (digits_le count (complement_of count z)) (digits_le-low count c.cast_unsigned.result (complement_of count z) low) c.put_le.ensures

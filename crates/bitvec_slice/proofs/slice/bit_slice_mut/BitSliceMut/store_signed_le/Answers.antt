@@ -14,7 +14,7 @@ returns-clause-stored g c =
     let most = g.met.N.SignedNumber.width_at_most_128 in
     let count = length-list_of g.R.BitRegister.BITS g.O.BitAt.at_of (lent_span slice) (lent_words slice) in
     let fits : FitsSigned w128 c.to_i128.result = search rules in
-    let low = low_digits (length (lent_bits slice)) c.cast_unsigned.result c.to_i128.result (g.N.SignedNumber.number c.args.value) (omega (arith, count, c.requires, most)) fits c.cast_unsigned.ensures c.to_i128.ensures in
+    let low = low_digits (length (lent_bits slice)) c.cast_unsigned.result c.to_i128.result (g.N.SignedNumber.number c.args.value) (omega (arith, count, c.requires, most)) fits c.cast_unsigned.ensures c.to_i128.ensures.number in
     rw (field_list_low false g.O.Sequential.RISES g.R.BitRegister.BITS (lent_span slice).head (length (lent_bits slice)) c.cast_unsigned.result _ (omega (arith, eight)) (omega (arith, slice.in_word, eight)) low) at c.store_le.ensures.stored
 
 pub returns-clause-loaded : goal.returns-clause-loaded
@@ -23,5 +23,5 @@ returns-clause-loaded g c = λ has.
     let most = g.met.N.SignedNumber.width_at_most_128 in
     let count = length-list_of g.R.BitRegister.BITS g.O.BitAt.at_of (lent_span slice) (lent_words slice) in
     let fits : FitsSigned w128 c.to_i128.result = search rules in
-    let low = low_digits (length (lent_bits slice)) c.cast_unsigned.result c.to_i128.result (g.N.SignedNumber.number c.args.value) (omega (arith, count, c.requires, most)) fits c.cast_unsigned.ensures c.to_i128.ensures in
+    let low = low_digits (length (lent_bits slice)) c.cast_unsigned.result c.to_i128.result (g.N.SignedNumber.number c.args.value) (omega (arith, count, c.requires, most)) fits c.cast_unsigned.ensures c.to_i128.ensures.number in
     loaded_back (length (lent_bits slice)) c.cast_unsigned.result _ (g.N.SignedNumber.number c.args.value) c.store_le.ensures.loaded low has

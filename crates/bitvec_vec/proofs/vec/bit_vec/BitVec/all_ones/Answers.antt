@@ -4,4 +4,4 @@ use Rattle.bitvec.specs.Truths.{AllAre}
 use Rattle.bitvec_vec.proofs.vec.bit_vec.BitVec.all_ones.Goals as goal
 
 pub returns : goal.returns
-returns g c = subst (λ (xs : List Bool). IsTrue c.all_ones.result ↔ AllAre true xs) c.as_bitslice.ensures c.all_ones.ensures
+returns g c = subst (λ (xs : List Bool). IsTrue c.all_ones.result ↔ AllAre true xs) c.as_bitslice.ensures.bits c.all_ones.ensures

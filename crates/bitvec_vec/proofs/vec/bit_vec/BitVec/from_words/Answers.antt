@@ -25,8 +25,8 @@ invariant_of-result g c =
       enough = sym (words_are width (c.len.result * c.from.result) (vec_len words) some (omega (arith, many)) (omega (arith, many, some)));
     }
 
-pub returns : goal.returns
-returns g c =
+pub returns-clause-bits : goal.returns-clause-bits
+returns-clause-bits g c =
     let width = g.R.BitRegister.BITS in
     let at = g.O.BitAt.at_of in
     let words = c.args.words in

@@ -8,7 +8,7 @@ pub load_digits_le-requires-clause-inside : goal.load_digits_le-requires-clause-
 load_digits_le-requires-clause-inside g c =
     let slice = c.as_bitslice.result in
     let many = slice.many (map g.R.BitRegister.number (slice_memory slice)) in
-    omega (arith, c.requires.inside, many, ap (λ (xs : List Bool). length xs) c.as_bitslice.ensures)
+    omega (arith, c.requires.inside, many, ap (λ (xs : List Bool). length xs) c.as_bitslice.ensures.bits)
 
 pub returns : goal.returns
-returns g c = c.load_digits_le.ensures ∙ ap (λ (xs : List Bool). number_le (slice_range xs c.args.from c.args.to)) c.as_bitslice.ensures
+returns g c = c.load_digits_le.ensures ∙ ap (λ (xs : List Bool). number_le (slice_range xs c.args.from c.args.to)) c.as_bitslice.ensures.bits

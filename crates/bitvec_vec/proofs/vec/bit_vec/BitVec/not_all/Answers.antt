@@ -3,4 +3,4 @@ use Rattle.bitvec.specs.Truths.{AllAre}
 use Rattle.bitvec_vec.proofs.vec.bit_vec.BitVec.not_all.Goals as goal
 
 pub returns : goal.returns
-returns g c = subst (λ (xs : List Bool). (c.not_all.result ≡ false) ↔ AllAre true xs) c.as_bitslice.ensures c.not_all.ensures
+returns g c = subst (λ (xs : List Bool). (c.not_all.result ≡ false) ↔ AllAre true xs) c.as_bitslice.ensures.bits c.not_all.ensures

@@ -4,4 +4,4 @@ use Rattle.bitvec.specs.Truths.{AllAre}
 use Rattle.bitvec_vec.proofs.vec.bit_vec.BitVec.not_any.Goals as goal
 
 pub returns : goal.returns
-returns g c = subst (λ (xs : List Bool). IsTrue c.not_any.result ↔ AllAre false xs) c.as_bitslice.ensures c.not_any.ensures
+returns g c = subst (λ (xs : List Bool). IsTrue c.not_any.result ↔ AllAre false xs) c.as_bitslice.ensures.bits c.not_any.ensures

@@ -8,4 +8,4 @@ pub returns-in_err-resize-clause-full : goal.returns-in_err-resize-clause-full
 returns-in_err-resize-clause-full g c = on_err c.from_residual.result (omega (arith, c.in_err-resize.ensures.full))
 
 pub returns-clause-bits : goal.returns-clause-bits
-returns-clause-bits g c = c.in_ok-resize.ensures.bits ∙ repeated (vec_bits c.new-vec.result) c.args.len c.args.bit c.new-vec.ensures
+returns-clause-bits g c = c.in_ok-resize.ensures.bits ∙ repeated (vec_bits c.new-vec.result) c.args.len c.args.bit c.new-vec.ensures.bits

@@ -1,5 +1,5 @@
-use Rattle.std.proofs.Common.{◌<◌, ◌≤◌, ◌+◌, ◌-◌, List, map, ap, arith}
-use Rattle.std.specs.Prelude.{vec_len, vec_capacity}
+use Rattle.std.proofs.Common.{◌≡◌, ◌<◌, ◌≤◌, ◌+◌, ◌-◌, ◌*◌, List, map, ap, arith}
+use Rattle.std.specs.Prelude.{min, vec_len, vec_capacity}
 use Rattle.bitvec.specs.Place.{region_max_bits}
 use Rattle.bitvec_vec.specs.Front.{front_bits}
 use Rattle.bitvec_vec.proofs.FrontLemmas.{length-front, words_fewer}
@@ -62,3 +62,8 @@ returns-clause-full g c =
     on_err_then c.reserve.result (λ (full : vec_capacity vec.words < vec_len vec.words + (c.words_of_bits-words.result - c.len.result)).
     let past = words-past width to (vec_capacity vec.words) (omega (arith, full, c.words_of_bits-words.ensures, c.len.ensures, vec.enough, fewer)) in
     omega (arith, past, long)) c.reserve.ensures.full
+
+pub returns-clause-refused : goal.returns-clause-refused
+returns-clause-refused g c =
+    let width = g.R.BitRegister.BITS in
+    on_err_then c.reserve.result (λ (same : vec_capacity c.reserve.new.self ≡ vec_capacity c.args.self.now.words). ap (λ n. min (n * width) region_max_bits) same) c.reserve.ensures.err
