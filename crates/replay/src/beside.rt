@@ -1,9 +1,13 @@
-//! Questions of a span or a slice beside another one, in a memory of its own: bytes under `lsb0`,
-//! words of 16 bits under `msb0`, or words of 64 bits under either.
+//! Questions of a span or a slice beside another one, in a memory of its own.
+//!
+//! There is a copy of the code for each two registers and two orders, so they are few: the first is
+//! of bytes or of words of 64 bits under any order, the second of bytes under `lsb0`, of words of 16
+//! bits under `msb0`, or of words of 64 bits under either.
 
 use crate::answer::{Answer, Text};
 use crate::spans::span_at;
 use crate::values::{Value, named, place_value};
+use bits_text::hilo::HiLo;
 use bits_text::names::Call;
 use bitvec::mem::BitRegister;
 use bitvec::order::{BitOrder, Lsb0, Msb0};
@@ -13,42 +17,82 @@ use std::alloc::Global;
 use std::cmp::Ordering;
 use std::marker::PhantomData;
 
+/// How many words a question has.
+pub const WORDS: usize = 11;
+
 /// Writes the answer to a question of two spans or slices; `None` where the words ask none.
 ///
 /// The calls are `equals`, `equals_each`, `copy_from` and `copy_from_bitslice`, the questions
 /// `is_subset`, `intersects`, `count_and`, `first_and`, `first_and_not`, `first_difference`,
-/// `compare`, `find` and `contains`, and `asked` for the first seven of these. The words are those
-/// after the order and the register of the first.
-pub fn write_answer<R: BitRegister, O: BitOrder<R>>(
-    out: &mut Answer,
-    words: &[&str],
-) -> Option<()> {
-    let [
-        memory,
-        start,
-        len,
-        name,
-        order,
-        register,
-        other,
-        other_start,
-        other_len,
-    ] = words
-    else {
+/// `compare`, `find` and `contains`, and `asked` for the first seven of these.
+pub fn write_answer(out: &mut Answer, words: &[&str]) -> Option<()> {
+    let [order, register, memory, start, len, name, there @ ..] = words else {
         return None;
     };
-    let two = Two::<R, O> {
+    let first = First {
         alloc: out.alloc,
         name,
         here: Place { memory, start, len },
-        there: Place {
-            memory: other,
-            start: other_start,
-            len: other_len,
-        },
-        of: PhantomData,
+        there,
     };
-    out.take(answer_at(order, register, &two)?)
+    out.take(first_answer_at(order, register, &first)?)
+}
+
+// The answer of a call for the order and the register of the first, or `None` where there is none
+// of these names.
+fn first_answer_at<C: Call>(order: &str, register: &str, call: &C) -> Option<C::Answer> {
+    match register {
+        "u8" => under::<u8, C>(order, call),
+        "u64" => under::<u64, C>(order, call),
+        _ => None,
+    }
+}
+
+// The same for an order.
+fn under<R: BitRegister, C: Call>(order: &str, call: &C) -> Option<C::Answer> {
+    match order {
+        "lsb0" => Some(call.at::<R, Lsb0>()),
+        "msb0" => Some(call.at::<R, Msb0>()),
+        "hilo" => Some(call.at::<R, HiLo>()),
+        _ => None,
+    }
+}
+
+// A question of two: the first, and the words of the second.
+#[derive(Drop)]
+struct First<'a, 't> {
+    alloc: &'a Global,
+    name: &'t str,
+    here: Place<'t>,
+    there: &'t [&'t str],
+}
+
+impl<'a> Call for First<'a, '_> {
+    type Answer = Text<'a>;
+
+    // The answer for a register and an order of the first.
+    fn at<R: BitRegister, O: BitOrder<R>>(&self) -> Self::Answer {
+        let mut out = Answer::new(self.alloc);
+        let is_question = self.write::<R, O>(&mut out);
+        out.finish(is_question)
+    }
+}
+
+impl First<'_, '_> {
+    // Writes the answer.
+    fn write<R: BitRegister, O: BitOrder<R>>(&self, out: &mut Answer) -> Option<()> {
+        let [order, register, memory, start, len] = self.there else {
+            return None;
+        };
+        let two = Two::<R, O> {
+            alloc: out.alloc,
+            name: self.name,
+            here: self.here,
+            there: Place { memory, start, len },
+            of: PhantomData,
+        };
+        out.take(answer_at(order, register, &two)?)
+    }
 }
 
 // The answer of a call for the order and the register of the second, or `None` where there is none

@@ -3,8 +3,8 @@
 use crate::answer::{Answer, Text};
 use crate::line::Topic;
 use crate::{
-    candidates, combinations, copies, domains, index, memories, numbers, numerals, orders, pairs,
-    pointers, program, registers, slices, spans, types,
+    beside, candidates, combinations, copies, domains, index, memories, numbers, numerals, orders,
+    pairs, pointers, program, registers, slices, spans, types,
 };
 use bits_text::names::{self, Call};
 use bitvec::mem::BitRegister;
@@ -17,9 +17,10 @@ use std::alloc::Global;
 pub fn answer<'a>(alloc: &'a Global, topic: Topic, kind: &str, words: &[&str]) -> Text<'a> {
     match topic {
         Topic::Numerals | Topic::Program | Topic::Copies | Topic::Combinations | Topic::Numbers => {
-            let mut out = Answer::new(alloc);
-            let is_question = write_plain(&mut out, topic, words);
-            out.finish(is_question)
+            plain_answer(alloc, topic, words)
+        }
+        Topic::Spans | Topic::Slices if words.len() == beside::WORDS => {
+            plain_answer(alloc, topic, words)
         }
         Topic::Registers | Topic::Index | Topic::Types | Topic::Candidates | Topic::Pointers => {
             let [register, words @ ..] = words else {
@@ -36,7 +37,14 @@ pub fn answer<'a>(alloc: &'a Global, topic: Topic, kind: &str, words: &[&str]) -
     }
 }
 
-// Writes the answer to a question that names no register, or that finds its registers itself.
+// The answer to a question that names no register, or that finds its registers itself.
+fn plain_answer<'a>(alloc: &'a Global, topic: Topic, words: &[&str]) -> Text<'a> {
+    let mut out = Answer::new(alloc);
+    let is_question = write_plain(&mut out, topic, words);
+    out.finish(is_question)
+}
+
+// Writes the answer to such a question.
 fn write_plain(out: &mut Answer, topic: Topic, words: &[&str]) -> Option<()> {
     match topic {
         Topic::Numerals => numerals::write_answer(out, words),
@@ -44,6 +52,7 @@ fn write_plain(out: &mut Answer, topic: Topic, words: &[&str]) -> Option<()> {
         Topic::Numbers => numbers::write_answer(out, words),
         Topic::Copies => copies::write_answer(out, words),
         Topic::Combinations => combinations::write_answer(out, words),
+        Topic::Spans | Topic::Slices => beside::write_answer(out, words),
         _ => None,
     }
 }

@@ -3,7 +3,6 @@
 //! A slice that does not lie in its memory is `none`.
 
 use crate::answer::Answer;
-use crate::beside;
 use crate::spans::span_at;
 use crate::values::{named, numbers};
 use bitvec::mem::BitRegister;
@@ -25,7 +24,6 @@ pub fn write_answer<R: BitRegister, O: BitOrder<R>>(
         return None;
     };
     match details {
-        [_, _, _, _, _] => beside::write_answer::<R, O>(out, words),
         [each] if *each == "each" => {
             let span = span_at::<R, O>(start, len)?;
             write_moves(out, memory, span, named(&edits::MOVES, name)?)

@@ -3,7 +3,6 @@
 //! A span begins at a place of the memory, or at a bit of a word, as `-1:9`.
 
 use crate::answer::Answer;
-use crate::beside;
 use crate::index::index_at;
 use crate::values::{count_of, named, signed};
 use bits_text::places::pointer_at;
@@ -26,7 +25,6 @@ pub fn write_answer<R: BitRegister, O: BitOrder<R>>(
     match words {
         [name] => values::write_value::<R>(out, name),
         [case, number, form] => values::write_error::<R>(out, case, number, form),
-        [_, _, _, _, _, _, _, _, _] => beside::write_answer::<R, O>(out, words),
         [memory, start, len, name, details @ ..] => match named(&facts::FACTS, name) {
             Some(fact) => facts::write_answer::<R>(out, start, len, fact, details),
             None => {
