@@ -1,11 +1,7 @@
 //! Bit addressing from the command line.
 #![tactic(auto)]
 
-mod answer;
-#[cfg(test)]
-mod tests;
-pub mod view;
-
+use bits_lib::answer;
 use std::env::{self, Env};
 use std::io;
 use std::process::ExitCode;

@@ -18,12 +18,15 @@
  * What a caller sees to, since nothing tests it:
  *
  * - A pointer is aligned for its type, and as many items as the number after it says can be read
- *   there, or written where the call writes; each has a value, also where the call writes it.
- * - A pointer whose number is 0 may be NULL, and is never followed. A pointer to an answer, or to a
- *   place that is moved, which has no such number after it, is never NULL.
- * - What a call writes shares nothing with its other arguments. Where the source and the target of
- *   bitvec_c_copy_W, bitvec_c_copy_V_to_W, bitvec_c_and_W and its like lie in one array, the status
- *   is BITVEC_OK all the same and the bits are wrong: bitvec_c_copy_within_W is the call for a copy
+ *   there, or written where the call writes. Each item has a value before the call, also where the
+ *   call writes it.
+ * - A pointer whose number is 0 is never followed, and may be NULL: tests show this, no proof does.
+ *   A pointer to an answer, or to a place that is moved, has no such number after it, and is never
+ *   NULL. An answer needs no value before the call, which writes it and does not read it; a place
+ *   that is moved needs one.
+ * - What a call writes shares nothing with its other arguments; where it does, the behaviour is
+ *   undefined. So the source and the target of bitvec_c_copy_W, bitvec_c_copy_V_to_W,
+ *   bitvec_c_and_W and its like do not overlap: bitvec_c_copy_within_W is the call for a copy
  *   inside one array. What a call only reads may overlap.
  * - Two calls may run at the same time, in two threads, where neither writes what the other reads
  *   or writes. A word belongs to one thread at a time, also where the ranges in it are disjoint.

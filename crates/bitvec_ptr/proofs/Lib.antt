@@ -1,6 +1,7 @@
 pub mod BitLemmas
 pub mod CombineLemmas
 pub mod CopyLemmas
+mod FallingRows
 pub mod GatherLemmas
 pub mod ListJoins
 pub mod MemoryLemmas

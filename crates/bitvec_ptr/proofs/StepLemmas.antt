@@ -132,3 +132,12 @@ quotient_small a b h k =
     let parts = div-add-mod' a b in
     let times : (a / b) * 8 ≤ (a / b) * b = mul-le-mul_left (a / b) h in
     omega (arith, parts, times)
+
+-- the difference of two places, as numbers of 128 bits make it up
+pub wide_difference : (a b : ℤ) → neg_ℤ (pos 2361183241434822606848) ≤ℤ a → a ≤ℤ pos 2361183241434822606848 → neg_ℤ (pos 2361183241434822606848) ≤ℤ b → b ≤ℤ pos 2361183241434822606848
+    → to_z w128 (of_z w128 (to_z w128 (of_z w128 a) -ℤ to_z w128 (of_z w128 b))) ≡ a -ℤ b
+wide_difference a b h k l m = omega (arith, ints)
+
+pub wide_difference_fits : (a b : ℤ) → neg_ℤ (pos 2361183241434822606848) ≤ℤ a → a ≤ℤ pos 2361183241434822606848 → neg_ℤ (pos 2361183241434822606848) ≤ℤ b → b ≤ℤ pos 2361183241434822606848
+    → FitsSigned w128 (to_z w128 (of_z w128 a) -ℤ to_z w128 (of_z w128 b))
+wide_difference_fits a b h k l m = omega (arith, ints)

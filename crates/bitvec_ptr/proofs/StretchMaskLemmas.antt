@@ -1,5 +1,5 @@
 -- The mask of bits side by side: ones shifted down until `count` are left, and up to a position.
-use Rattle.std.proofs.Common.{◌≡◌, ℕ, ◌+◌, ◌-◌, ◌^◌, ◌<◌, ◌≤◌, true, false, sym, subst, ◌∙◌, ap, arith, inl, inr}
+use Rattle.std.proofs.Common.{◌≡◌, ℕ, ◌+◌, ◌-◌, ◌^◌, ◌<◌, ◌≤◌, true, false, subst, ◌∙◌, ap, arith, inl, inr}
 use Rattle.std.proofs.lemmas.Bool.{cases_lt}
 use Rattle.bitvec_mem.specs.Digit.{digit}
 use Rattle.bitvec_mem.proofs.DigitLemmas.{digit_all}

@@ -1,5 +1,5 @@
 -- Numbers that stand one behind the other in a list of bits.
-use Rattle.std.specs.Prelude.{◌≡◌, ℕ, ◌^◌, ◌<◌, ◌≤◌, ℤ, pos, negsuc, unsigned_abs, Bool, List, [], ◌∷◌, ◌++◌, length, map, take, drop}
+use Rattle.std.specs.Prelude.{◌≡◌, ◌↔◌, ℕ, ◌^◌, ◌<◌, ◌≤◌, ℤ, pos, negsuc, unsigned_abs, Bool, List, [], ◌∷◌, ◌++◌, length, map, take, drop}
 use Rattle.std.specs.List.{All, flat_map}
 use Rattle.bitvec_slice.specs.Signed.{signed_of, complement_of, HasDigits}
 use Rattle.bitvec_stream.specs.Golomb.{golomb, signed_place, StartsWith}
@@ -70,9 +70,9 @@ AreRead (way ∷ ways) xs (z ∷ zs) left = (mid : List Bool) × IsReadAs way xs
 abbrev pub items_bits : List (Way × ℤ) → List Bool
 items_bits items = flat_map (λ it. written_as it.0 it.1) items
 
--- What is read of what was written is that: from a list that begins with numbers, each written in its way, the same ways
--- read these numbers, and leave what stands behind them.
+-- What was written is read, and nothing else: from a list that begins with numbers, each written in its way, the same ways
+-- read numbers and leave other bits exactly where these are the numbers that were written, and what stands behind them.
 abbrev pub WrittenIsRead : Type 0
 WrittenIsRead =
     (items : List (Way × ℤ)) (after : List Bool) (zs : List ℤ) (left : List Bool) → All (λ it. CanBeWritten it.0 it.1) items
-    → AreRead (map (λ it. it.0) items) (items_bits items ++ after) zs left → (zs ≡ map (λ it. it.1) items) × (left ≡ after)
+    → (AreRead (map (λ it. it.0) items) (items_bits items ++ after) zs left ↔ ((zs ≡ map (λ it. it.1) items) × (left ≡ after)))

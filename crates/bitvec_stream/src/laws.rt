@@ -2,13 +2,13 @@
 
 ghost use Rattle.bitvec_stream.specs.Items.{WrittenIsRead};
 
-/// What is read of what was written is that.
+/// What was written is read, and nothing else.
 ///
 /// From a list that begins with numbers, each written in a way (in so many bits, the highest digit
 /// first or the lowest, as an unsigned number or as a two's complement, or as an Exp-Golomb code),
-/// the same ways read these numbers one behind the other, and leave what stands behind them. A
-/// writer's contract says that a number is written so, and a reader's that one is read so. It does
-/// nothing when it runs. Not in the Rust crate.
+/// the same ways read these numbers one behind the other, and leave what stands behind them: that
+/// reading exists, and there is no other. A writer's contract says that a number is written so, and
+/// a reader's that one is read so. It does nothing when it runs. Not in the Rust crate.
 pub fn written_is_read()
     ensures { WrittenIsRead }
 {}

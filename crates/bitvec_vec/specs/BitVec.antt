@@ -1,5 +1,6 @@
 -- What a `BitVec` shows.
 use Rattle.std.specs.Prelude.{ℕ, ◌*◌, min, Bool, List, map, vec_capacity}
+use Rattle.std.specs.Vec.{vec_allocator}
 use Rattle.bitvec.specs.Place.{region_max_bits}
 use Rattle.bitvec_vec.specs.Front.{front_bits}
 use Rattle.bitvec_vec.specs.declared.vec.bit_vec.BitVec.{BitVec}
@@ -11,3 +12,7 @@ vec_bits {a = own} {i = order} vec = front_bits own.BITS order.at_of vec.len (ma
 -- for how many bits there is room in its memory, at most as many as a span can have
 abbrev pub bit_capacity : {R O A : Type 0} {a b c d e f g h i : _} → BitVec R O A a b c d e f g h i → ℕ
 bit_capacity {a = own} vec = min (vec_capacity vec.words * own.BITS) region_max_bits
+
+-- the allocator that it asks for memory
+abbrev pub bit_allocator : {R O A : Type 0} {a b c d e f g h i : _} → BitVec R O A a b c d e f g h i → A
+bit_allocator vec = vec_allocator vec.words

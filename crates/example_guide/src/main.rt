@@ -1,8 +1,6 @@
-//! The recipes of the guide: its first program, and functions on spans and slices.
+//! Recipes of the guide: its first program, and functions on spans and slices.
 #![tactic(auto)]
 
-mod numbers;
-mod seats;
 mod spans;
 
 use bitvec::order::Lsb0;

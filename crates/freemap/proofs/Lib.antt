@@ -1,6 +1,7 @@
 mod FreeRunLemmas
 pub mod HistoryLemmas
 mod LevelLemmas
+mod LoanLemmas
 mod MapLemmas
 mod RunLemmas
 mod SearchLemmas

@@ -3,6 +3,7 @@ use Rattle.std.specs.Prelude.{◌≡◌, ◌+◌, ℕ, Bool, true, List, Option,
 use Rattle.std.specs.Borrow.{MutBor}
 use Rattle.bitvec.specs.Span.{BecomesList, with_filled}
 use Rattle.freemap.specs.Blocks.{map_span, stored_blocks}
+use Rattle.freemap.specs.Loans.{LevelLoan, loan_of}
 use Rattle.freemap.specs.declared.map.FreeMap.{FreeMap}
 
 -- the words that it is kept in, which it borrows
@@ -24,3 +25,7 @@ pub record BecomesBlocks {O : Type 0} {a b : _} (old new : FreeMap O a b) (block
 -- `count` blocks from an answer on are in use afterwards, and all else is as before; after `None` the map is as before
 abbrev pub Takes : {O : Type 0} {a b : _} → (old new : FreeMap O a b) → ℕ → Option ℕ → Type 0
 Takes old new count answer = MatchOption answer (new ≡ old) (λ at. BecomesBlocks old new (with_filled (in_use old) at (at + count) true))
+
+-- the loan of its words, with the bits behind those of the blocks
+abbrev pub map_loan : {O : Type 0} {a b : _} → FreeMap O a b → LevelLoan
+map_loan {b = order} map = loan_of order.at_of (length (in_use map)) (map_words map)

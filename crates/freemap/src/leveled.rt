@@ -14,7 +14,7 @@ ghost use Rattle.freemap.specs.Map.{in_use, BecomesBlocks, Takes};
 ghost use Rattle.freemap.specs.Summary.{summary_words, IsFull, SaysOf, Summarises};
 ghost use Rattle.freemap.specs.Summary.{SummarisesBeside};
 
-use crate::level::Level;
+use crate::level::{Level, PlainLevel};
 use crate::map::{FreeMap, words_for};
 use crate::runs::FreeRuns;
 use bitvec::order::{BitOrder, Lsb0};
@@ -24,7 +24,7 @@ const STRETCH: usize = 16384;
 
 /// A map under two levels, as [`two_levels`](crate::two_levels) makes it. The levels are under the order that finds a
 /// mark the fastest, whatever the order of the map is.
-pub type TwoLevels<'a, O> = LeveledMap<'a, O, StackedLevel<'a, FreeMap<'a, Lsb0>>>;
+pub type TwoLevels<'a, O> = LeveledMap<'a, O, StackedLevel<'a, PlainLevel<'a>>>;
 
 /// How many words the two levels over a map of `blocks` blocks take. Constant time.
 pub fn summary_words_for(blocks: usize) -> usize
@@ -74,6 +74,7 @@ fn say_word<O: BitOrder<u64>, S: Level>(map: &FreeMap<'_, O>, full: &mut S, w: u
     ensures said { SaysOf (in_use map.now) (S.marks full.new) w }
     ensures beside { KeepsBeside w (w + 1) (S.marks full.old) (S.marks full.new) }
     ensures many { length (S.marks full.new) ≡ length (S.marks full.old) }
+    ensures lent { S.loans full.new ≡ S.loans full.old }
 {
     full.set_mark(w, map.is_word_full(w));
 }
@@ -81,7 +82,8 @@ fn say_word<O: BitOrder<u64>, S: Level>(map: &FreeMap<'_, O>, full: &mut S, w: u
 // Makes a level say of every word of a map whether it is full.
 fn say_words<O: BitOrder<u64>, S: Level>(map: &FreeMap<'_, O>, full: &mut S, words: usize)
     requires { SummarisesBeside (in_use map.now) (S.marks full.old) 0 words }
-    ensures { Summarises (in_use map.now) (S.marks full.new) }
+    ensures summary { Summarises (in_use map.now) (S.marks full.new) }
+    ensures lent { S.loans full.new ≡ S.loans full.old }
 {
     for w in 0..words {
         say_word(map, full, w);
@@ -99,7 +101,8 @@ fn refresh<O: BitOrder<u64>, S: Level>(
 )
     requires rest { SummarisesBeside (in_use map.now) (S.marks full.old) from to }
     requires inner { (w : ℕ) → from < w → w + 1 < to → (used ≡ true) ↔ IsFull (in_use map.now) w }
-    ensures { Summarises (in_use map.now) (S.marks full.new) }
+    ensures summary { Summarises (in_use map.now) (S.marks full.new) }
+    ensures lent { S.loans full.new ≡ S.loans full.old }
 {
     if to <= from {
         return;
@@ -121,7 +124,8 @@ fn refresh_rest<O: BitOrder<u64>, S: Level>(
     requires some { from < to }
     requires rest { SummarisesBeside (in_use map.now) (S.marks full.old) from to }
     requires inner { (w : ℕ) → from ≤ w → w + 1 < to → (used ≡ true) ↔ IsFull (in_use map.now) w }
-    ensures { Summarises (in_use map.now) (S.marks full.new) }
+    ensures summary { Summarises (in_use map.now) (S.marks full.new) }
+    ensures lent { S.loans full.new ≡ S.loans full.old }
 {
     let last = to - 1;
     say_word(map, full, last);
@@ -131,7 +135,7 @@ fn refresh_rest<O: BitOrder<u64>, S: Level>(
 }
 
 impl<'a, O: BitOrder<u64>, S: Level> LeveledMap<'a, O, S> {
-    ghost use Rattle.freemap.specs.Leveled.{map_of};
+    ghost use Rattle.freemap.specs.Leveled.{map_of, level_loans};
     ghost use Rattle.freemap.specs.FreeRuns.{free_runs};
     ghost use Rattle.freemap.specs.RunsLeft.{free_runs_left};
 
@@ -142,7 +146,8 @@ impl<'a, O: BitOrder<u64>, S: Level> LeveledMap<'a, O, S> {
     /// usual two from words.
     pub fn over(blocks: FreeMap<'a, O>, level: S) -> Self
         requires { length (S.marks level) ≡ word_count (length (in_use blocks)) }
-        ensures { map_of result ≡ blocks.entry }
+        ensures map { map_of result ≡ blocks.entry }
+        ensures lent { level_loans result ≡ S.loans level }
     {
         let mut full = level;
         let words = words_for(blocks.blocks());
@@ -188,8 +193,9 @@ impl<'a, O: BitOrder<u64>, S: Level> LeveledMap<'a, O, S> {
     #[inline(always)]
     fn mark(&mut self, at: usize, count: usize, used: bool)
         requires { at + count ≤ length (in_use (map_of self.old)) }
-        ensures { let old = map_of self.old in BecomesBlocks old (map_of self.new)
+        ensures becomes { let old = map_of self.old in BecomesBlocks old (map_of self.new)
             (with_filled (in_use old) at (at + count) used) }
+        ensures lent { level_loans self.new ≡ level_loans self.old }
     {
         if count == 1 {
             self.mark_one(at, used);
@@ -201,8 +207,9 @@ impl<'a, O: BitOrder<u64>, S: Level> LeveledMap<'a, O, S> {
     // The same of any number, by words.
     fn mark_many(&mut self, at: usize, count: usize, used: bool)
         requires { at + count ≤ length (in_use (map_of self.old)) }
-        ensures { let old = map_of self.old in BecomesBlocks old (map_of self.new)
+        ensures becomes { let old = map_of self.old in BecomesBlocks old (map_of self.new)
             (with_filled (in_use old) at (at + count) used) }
+        ensures lent { level_loans self.new ≡ level_loans self.old }
     {
         self.blocks.mark(at, count, used);
         let from = at / 64;
@@ -214,8 +221,9 @@ impl<'a, O: BitOrder<u64>, S: Level> LeveledMap<'a, O, S> {
     #[inline(always)]
     fn mark_one(&mut self, at: usize, used: bool)
         requires { at < length (in_use (map_of self.old)) }
-        ensures { let old = map_of self.old in BecomesBlocks old (map_of self.new)
+        ensures becomes { let old = map_of self.old in BecomesBlocks old (map_of self.new)
             (with_filled (in_use old) at (at + 1) used) }
+        ensures lent { level_loans self.new ≡ level_loans self.old }
     {
         if used {
             self.put_in_use(at / 64, at);
@@ -229,8 +237,9 @@ impl<'a, O: BitOrder<u64>, S: Level> LeveledMap<'a, O, S> {
     fn put_in_use(&mut self, word: usize, at: usize)
         requires inside { at < length (in_use (map_of self.old)) }
         requires word { word ≡ at / 64 }
-        ensures { let old = map_of self.old in BecomesBlocks old (map_of self.new)
+        ensures becomes { let old = map_of self.old in BecomesBlocks old (map_of self.new)
             (with_filled (in_use old) at (at + 1) true) }
+        ensures lent { level_loans self.new ≡ level_loans self.old }
     {
         if self.blocks.put_in_use(at) {
             self.full.set_mark(word, true);
@@ -241,8 +250,9 @@ impl<'a, O: BitOrder<u64>, S: Level> LeveledMap<'a, O, S> {
     #[inline(always)]
     fn put_free(&mut self, at: usize)
         requires { at < length (in_use (map_of self.old)) }
-        ensures { let old = map_of self.old in BecomesBlocks old (map_of self.new)
+        ensures becomes { let old = map_of self.old in BecomesBlocks old (map_of self.new)
             (with_filled (in_use old) at (at + 1) false) }
+        ensures lent { level_loans self.new ≡ level_loans self.old }
     {
         let was_full = self.blocks.is_word_full(at / 64);
         self.blocks.set(at, false);
@@ -260,6 +270,7 @@ impl<'a, O: BitOrder<u64>, S: Level> LeveledMap<'a, O, S> {
         ensures handed { AreInUse (in_use (map_of self.new)) at count }
         ensures owned { (live : List (ℕ × ℕ)) → Owns (in_use (map_of self.old)) live
             → Owns (in_use (map_of self.new)) ((at, count) ∷ live) }
+        ensures lent { level_loans self.new ≡ level_loans self.old }
     {
         self.mark(at, count, true);
     }
@@ -275,6 +286,7 @@ impl<'a, O: BitOrder<u64>, S: Level> LeveledMap<'a, O, S> {
         ensures handed { AreInUse (in_use (map_of self.new)) at 1 }
         ensures owned { (live : List (ℕ × ℕ)) → Owns (in_use (map_of self.old)) live
             → Owns (in_use (map_of self.new)) ((at, 1) ∷ live) }
+        ensures lent { level_loans self.new ≡ level_loans self.old }
     {
         self.put_in_use(word, at);
     }
@@ -307,6 +319,7 @@ impl<'a, O: BitOrder<u64>, S: Level> LeveledMap<'a, O, S> {
         ensures taken { Takes (map_of self.old) (map_of self.new) 1 result }
         ensures handed { IfSome result (λ at. AreInUse (in_use (map_of self.new)) at 1) }
         ensures owned { OwnsMore (in_use (map_of self.old)) (in_use (map_of self.new)) 1 result }
+        ensures lent { level_loans self.new ≡ level_loans self.old }
     {
         let word = self.full.lowest_unmarked()?;
         let at = self.blocks.free_in_word(word)?;
@@ -323,6 +336,7 @@ impl<'a, O: BitOrder<u64>, S: Level> LeveledMap<'a, O, S> {
         ensures taken { Takes (map_of self.old) (map_of self.new) 1 result }
         ensures handed { IfSome result (λ at. AreInUse (in_use (map_of self.new)) at 1) }
         ensures owned { OwnsMore (in_use (map_of self.old)) (in_use (map_of self.new)) 1 result }
+        ensures lent { level_loans self.new ≡ level_loans self.old }
     {
         let at = self.free_from(block)?;
         self.take(at, 1);
@@ -342,6 +356,7 @@ impl<'a, O: BitOrder<u64>, S: Level> LeveledMap<'a, O, S> {
         ensures handed { IfSome result (λ at. AreInUse (in_use (map_of self.new)) at count) }
         ensures owned { OwnsMore (in_use (map_of self.old)) (in_use (map_of self.new)) count
             result }
+        ensures lent { level_loans self.new ≡ level_loans self.old }
     {
         let at = self.first_run(count)?;
         self.take(at, count);
@@ -362,6 +377,7 @@ impl<'a, O: BitOrder<u64>, S: Level> LeveledMap<'a, O, S> {
         ensures handed { IfSome result (λ at. AreInUse (in_use (map_of self.new)) at count) }
         ensures owned { OwnsMore (in_use (map_of self.old)) (in_use (map_of self.new)) count
             result }
+        ensures lent { level_loans self.new ≡ level_loans self.old }
     {
         let at = self.lowest_run(count, alignment)?;
         self.take(at, count);
@@ -380,6 +396,7 @@ impl<'a, O: BitOrder<u64>, S: Level> LeveledMap<'a, O, S> {
             → Owns (in_use (map_of self.old)) live
             → Owns (in_use (map_of self.new)) ((at, count) ∷ live) }
         ensures refused { IsFalse result → self.new ≡ self.old }
+        ensures lent { level_loans self.new ≡ level_loans self.old }
     {
         if !self.blocks.is_free(at, count) {
             return false;
@@ -403,6 +420,7 @@ impl<'a, O: BitOrder<u64>, S: Level> LeveledMap<'a, O, S> {
         ensures owned { (before later : List (ℕ × ℕ))
             → Owns (in_use (map_of self.old)) (before ++ (at, count) ∷ later)
             → Owns (in_use (map_of self.new)) (before ++ later) }
+        ensures lent { level_loans self.new ≡ level_loans self.old }
     {
         self.mark(at, count, false);
     }
@@ -458,25 +476,29 @@ impl<'a, O: BitOrder<u64>, S: Level> LeveledMap<'a, O, S> {
 }
 
 impl<'a, S: Level> StackedLevel<'a, S> {
-    ghost use Rattle.freemap.specs.Leveled.{marks_of};
+    ghost use Rattle.freemap.specs.Leveled.{plain_marks, plain_loan, marks_of, stacked_loans};
 
-    /// The level whose marks a map has, a block in use for each, under another level, whose marks
-    /// are set as these are. Requires that it has a mark for each word of the map, as
-    /// [`LeveledMap::over`] does.
-    pub fn over(marks: FreeMap<'a, Lsb0>, level: S) -> Self
-        requires { length (S.marks level) ≡ word_count (length (in_use marks)) }
-        ensures { marks_of result ≡ in_use marks.entry }
+    /// A level under another level, whose marks are set as its own are, whatever they were.
+    /// Requires that it has a mark for each word of these, as [`LeveledMap::over`] does.
+    ///
+    /// Both lend the words that they lent, and no bit of them changes that is no mark of the upper.
+    pub fn over(marks: PlainLevel<'a>, level: S) -> Self
+        requires { length (S.marks level) ≡ word_count (length (plain_marks marks)) }
+        ensures marks { marks_of result ≡ plain_marks marks.entry }
+        ensures lent { stacked_loans result ≡ plain_loan marks.entry ∷ S.loans level }
     {
         StackedLevel {
-            map: LeveledMap::over(marks, level),
+            map: LeveledMap::over(marks.map, level),
         }
     }
 }
 
 impl<'a, S: Level> Level for StackedLevel<'a, S> {
-    ghost use Rattle.freemap.specs.Leveled.{marks_of};
+    ghost use Rattle.freemap.specs.Leveled.{marks_of, stacked_loans};
 
     ghost marks = { λ level. marks_of level };
+
+    ghost loans = { λ level. stacked_loans level };
 
     #[inline(always)]
     fn set_mark(&mut self, word: usize, marked: bool) {

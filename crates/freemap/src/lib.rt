@@ -14,10 +14,8 @@ pub mod leveled;
 pub mod map;
 mod runs;
 mod stack;
-#[cfg(test)]
-mod tests;
 
-pub use crate::level::Level;
+pub use crate::level::{Level, PlainLevel};
 pub use crate::leveled::{LeveledMap, StackedLevel, TwoLevels};
 pub use crate::map::FreeMap;
 pub use crate::runs::FreeRuns;

@@ -1,33 +1,35 @@
-//! The lines of the program `bits`.
+//! What the program `bits` prints, and the status that it ends with.
 
 use crate::answer::Answer;
-use bits_text::lines;
-use bits_text::lines::fault::Fault;
+use bits_lib::answer;
 use std::alloc::{AllocError, Global};
 
-/// Writes the answer of the program `bits` to its arguments.
+/// Writes the answer of the program `bits` to its arguments, and its status.
 ///
-/// The lines of an answer have `;` between them. A question of one empty word is a call with no
-/// arguments; elsewhere an empty word is an empty argument.
+/// The lines of an answer have `;` between them, and `usage` stands for the line that names the
+/// calls. A question of one empty word is a call with no arguments; elsewhere an empty word is an
+/// empty argument.
 pub fn write_answer(out: &mut Answer, words: &[&str]) -> Option<()> {
-    let Ok(args) = arguments(out.alloc, words) else {
+    let Ok(args) = arguments(*out.alloc, words) else {
         out.note(Err(AllocError));
         return None;
     };
-    match lines::text(out.alloc, &args) {
-        Ok(answer) => write_lines(out, answer.as_str()),
-        Err(Fault::Usage) => out.push("usage"),
-        Err(Fault::Line(line)) => write_lines(out, line.as_str()),
-        Err(Fault::OutOfMemory) => out.note(Err(AllocError)),
+    let mut written = Vec::new(*out.alloc);
+    let status = answer::answer(out.alloc, &args, &mut written);
+    let text = str::from_utf8(&written).ok()?;
+    if text == answer::USAGE {
+        out.push("usage");
+    } else {
+        write_lines(out, text);
     }
+    out.begin_item();
+    out.push("status ");
+    out.display(&status);
     Some(())
 }
 
 // The words as the arguments of a call.
-fn arguments<'a>(
-    alloc: &'a Global,
-    words: &[&str],
-) -> Result<Vec<String<&'a Global>, &'a Global>, AllocError> {
+fn arguments(alloc: Global, words: &[&str]) -> Result<Vec<String>, AllocError> {
     let mut args = Vec::new(alloc);
     if let [""] = words {
         return Ok(args);

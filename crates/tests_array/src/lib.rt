@@ -1,9 +1,15 @@
 //! Arrays of bits, by the names that a user writes.
 #![tactic(auto)]
 
-pub mod callers;
+#[cfg(test)]
+mod callers;
 #[cfg(test)]
 mod examples;
+#[cfg(test)]
+mod prelude;
+#[cfg(test)]
+mod texts;
+#[cfg(test)]
 mod traits;
 #[cfg(test)]
 mod values;

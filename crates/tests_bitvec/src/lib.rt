@@ -20,4 +20,6 @@ mod prelude;
 #[cfg(test)]
 mod span_laws;
 #[cfg(test)]
+mod texts;
+#[cfg(test)]
 mod traits;

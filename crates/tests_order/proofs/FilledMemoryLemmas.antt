@@ -16,7 +16,7 @@ end_or (Some l) v = l
 end_or None v = v
 
 -- a span inside one word has no whole words
-inside-none : (bits : ℕ) (span : Span) → is_inside bits span ≡ true → body_words bits span ≡ 0
+pub inside-none : (bits : ℕ) (span : Span) → is_inside bits span ≡ true → body_words bits span ≡ 0
 inside-none bits span =
     let met : ℕ = words_met bits span.head span.len in
     rows (span.len == 0) (span.head == 0) (tail_of bits span.head span.len == bits) (met == 1)

@@ -1,1 +1,2 @@
 pub mod FilledDomain
+pub mod LentBits

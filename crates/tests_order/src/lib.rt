@@ -1,5 +1,5 @@
 //! Registers, indices, orders, their verifier and what the traits of each of these types are; and a
-//! caller of a span's domain for writing.
+//! caller of each domain of a span for writing.
 //!
 //! They are named by the crates that they stand in, so that the tests wait for these alone.
 #![tactic(auto)]
@@ -12,6 +12,8 @@ mod examples;
 mod filled_domain;
 #[cfg(test)]
 mod index;
+#[cfg(test)]
+mod lent_bits;
 #[cfg(test)]
 mod order;
 #[cfg(test)]

@@ -15,6 +15,8 @@ mod examples;
 #[cfg(test)]
 mod header;
 #[cfg(test)]
+mod iters;
+#[cfg(test)]
 mod lists;
 #[cfg(test)]
 mod moves;
@@ -23,7 +25,11 @@ mod numbers;
 #[cfg(test)]
 mod pieces;
 #[cfg(test)]
+mod prelude;
+#[cfg(test)]
 mod sets;
+#[cfg(test)]
+mod signed;
 #[cfg(test)]
 mod texts;
 #[cfg(test)]

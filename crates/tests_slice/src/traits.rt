@@ -1,17 +1,22 @@
-//! What equality, order, hash and copy of slices and copies of their iterators are.
+//! What equality, order, hash, copy and the operators of slices and copies of their iterators are.
 //!
 //! Each function does what its name says, and its contract is the promise: so a body of an impl
 //! that breaks it is refused, though no contract of the layer names it.
 
-ghost use Rattle.std.specs.Prelude.{◌≡◌, ◌↔◌, IsTrue, Ok};
+ghost use Rattle.std.specs.Prelude.{◌≡◌, ◌↔◌, ◌-◌, ◌++◌, ◌&&◌, ◌||◌, IsTrue, Ok, false, not};
+ghost use Rattle.std.specs.Prelude.{length, map, drop, replicate};
 ghost use Rattle.std.specs.Cmp.Lexicographic.{slice_cmp};
 ghost use Rattle.std.specs.Ordering.{bool_cmp, is_lt};
+ghost use Rattle.bitvec.specs.Digit.{exclusive_or};
+ghost use Rattle.bitvec.specs.Memory.{zip_with};
 ghost use Rattle.bitvec_slice.specs.BitSlice.{bits_of};
+ghost use Rattle.bitvec_slice.specs.BitSliceMut.{lent_bits, BecomesBits};
 
 use bitvec::mem::BitRegister;
 use bitvec::order::BitOrder;
 use bitvec_slice::slice::{
-    BitSlice, Chunks, ChunksExact, Iter, IterOnes, IterRuns, IterZeros, RChunks, TextError, Windows,
+    BitSlice, BitSliceMut, Chunks, ChunksExact, Iter, IterOnes, IterRuns, IterZeros, RChunks,
+    TextError, Windows,
 };
 use std::alloc::AllocError;
 use std::hash::{Hash, Hasher};
@@ -73,6 +78,47 @@ fn copied_slice<'a, R: BitRegister, O: BitOrder<R>>(
     ensures { result ≡ Ok slice.now }
 {
     slice.clone()
+}
+
+// The operators go bit by bit, and a slice that is shorter goes on with zeros.
+
+fn keep_common<'a, R: BitRegister, O: BitOrder<R>, R2: BitRegister, O2: BitOrder<R2>>(
+    slice: &mut BitSliceMut<'a, R, O>,
+    other: BitSlice<'_, R2, O2>,
+)
+    ensures { let xs = lent_bits slice.old in let ys = bits_of other.entry
+        in BecomesBits slice.old slice.new
+        (zip_with (λ t s. t && s) xs ys ++ replicate (length xs - length ys) false) }
+{
+    *slice &= other;
+}
+
+fn add_ones<'a, R: BitRegister, O: BitOrder<R>, R2: BitRegister, O2: BitOrder<R2>>(
+    slice: &mut BitSliceMut<'a, R, O>,
+    other: BitSlice<'_, R2, O2>,
+)
+    ensures { let xs = lent_bits slice.old in let ys = bits_of other.entry
+        in BecomesBits slice.old slice.new (zip_with (λ t s. t || s) xs ys ++ drop (length ys) xs) }
+{
+    *slice |= other;
+}
+
+fn turn_over_ones<'a, R: BitRegister, O: BitOrder<R>, R2: BitRegister, O2: BitOrder<R2>>(
+    slice: &mut BitSliceMut<'a, R, O>,
+    other: BitSlice<'_, R2, O2>,
+)
+    ensures { let xs = lent_bits slice.old in let ys = bits_of other.entry
+        in BecomesBits slice.old slice.new (zip_with exclusive_or xs ys ++ drop (length ys) xs) }
+{
+    *slice ^= other;
+}
+
+fn turned_over<'a, R: BitRegister, O: BitOrder<R>>(
+    slice: BitSliceMut<'a, R, O>,
+) -> BitSliceMut<'a, R, O>
+    ensures { BecomesBits slice.entry result (map not (lent_bits slice.entry)) }
+{
+    !slice
 }
 
 // A copy of an iterator has still to give what the iterator has.

@@ -1,6 +1,8 @@
 -- A header of five numbers, each in a way of its own.
-use Rattle.std.specs.Prelude.{ℤ, pos, List, [], ◌∷◌}
-use Rattle.bitvec_stream.specs.Items.{Way, highest_first, lowest_first, signed_highest_first, exp_golomb, signed_exp_golomb}
+use Rattle.std.specs.Prelude.{◌≡◌, ℕ, ◌^◌, ◌<◌, ◌≤◌, ℤ, pos, List, [], ◌∷◌, length}
+use Rattle.std.specs.List.{All}
+use Rattle.bitvec_slice.specs.Signed.{HasDigits}
+use Rattle.bitvec_stream.specs.Items.{Way, highest_first, lowest_first, signed_highest_first, exp_golomb, signed_exp_golomb, CanBeWritten, items_bits}
 use Rattle.tests_stream.specs.declared.header.Header.{Header}
 
 -- each number with its way, in order
@@ -16,3 +18,11 @@ header_ways = highest_first 4 ∷ lowest_first 12 ∷ signed_highest_first 6 ∷
 -- the numbers
 abbrev pub header_values : Header → List ℤ
 header_values header = pos header.version ∷ pos header.kind ∷ header.offset ∷ pos header.length ∷ header.drift ∷ []
+
+-- the numbers that are written as codes are those of their types
+abbrev pub HasItsTypes : Header → Type 0
+HasItsTypes header = (header.length < 2 ^ 32) × HasDigits 16 header.drift
+
+-- numbers can be written, and there is room for them
+abbrev pub CanBePut : ℕ → List (Way × ℤ) → Type 0
+CanBePut room items = All (λ it. CanBeWritten it.0 it.1) items × (length (items_bits items) ≤ room)

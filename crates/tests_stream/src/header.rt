@@ -1,11 +1,15 @@
 //! A header of five numbers, each in a way of its own, that is written and read.
 
-ghost use Rattle.std.specs.Prelude.{◌≡◌, ◌++◌, IfOk, IfSome};
-ghost use Rattle.std.specs.List.{All};
-ghost use Rattle.bitvec_stream.specs.Items.{CanBeWritten, AreRead, items_bits};
+ghost use Rattle.std.specs.Prelude.{◌≡◌, ◌↔◌, ◌++◌, IsOk, IsSome, IfOk, IfSome, MatchResult};
+ghost use Rattle.std.specs.Prelude.{Bool, List, length};
+ghost use Rattle.bitvec.specs.BitSpan.{span_of};
+ghost use Rattle.bitvec.specs.Span.{Fits};
+ghost use Rattle.bitvec_stream.specs.Items.{AreRead, items_bits};
 ghost use Rattle.bitvec_stream.specs.Reader.{rest};
-ghost use Rattle.bitvec_stream.specs.Writer.{written};
+ghost use Rattle.bitvec_stream.specs.Writer.{written, room};
 ghost use Rattle.tests_stream.specs.Header.{header_ways, header_values, header_items};
+ghost use Rattle.tests_stream.specs.Header.{HasItsTypes, CanBePut};
+ghost use Rattle.tests_stream.specs.declared.header.Header.{Header};
 
 use bitvec::mem::BitRegister;
 use bitvec::order::BitOrder;
@@ -29,14 +33,16 @@ pub struct Header {
     drift: i16,
 }
 
-/// Writes a header.
+/// Writes a header. It refuses exactly where there is too little room, or a number has too many
+/// digits; the numbers before it are written then.
 fn write_header<R: BitRegister, O: BitOrder<R>>(
     header: Header,
     writer: &mut BitWriter<'_, R, O>,
 ) -> Result<(), WriteError>
+    ensures accepted { IsOk result
+        ↔ CanBePut (length (room writer.old)) (header_items header) }
     ensures written { IfOk result (λ _. written writer.new
         ≡ written writer.old ++ items_bits (header_items header)) }
-    ensures can { IfOk result (λ _. All (λ it. CanBeWritten it.0 it.1) (header_items header)) }
 {
     writer.write_be(4, header.version)?;
     writer.write_le(12, header.kind)?;
@@ -46,12 +52,14 @@ fn write_header<R: BitRegister, O: BitOrder<R>>(
     Ok(())
 }
 
-/// Reads one.
+/// Reads one. It refuses exactly where none stands there.
 fn read_header<R: BitRegister, O: BitOrder<R>>(
     reader: &mut BitReader<'_, R, O>,
 ) -> Result<Header, ReadError>
-    ensures { IfOk result (λ header. AreRead header_ways (rest reader.old)
-        (header_values header) (rest reader.new)) }
+    ensures { MatchResult result
+        (λ it. AreRead header_ways (rest reader.old) (header_values it) (rest reader.new))
+        (λ _. (it : Header) (left : List Bool) → HasItsTypes it
+        → ¬ AreRead header_ways (rest reader.old) (header_values it) left) }
 {
     let version = reader.read_be(4)?;
     let kind = reader.read_le(12)?;
@@ -67,14 +75,16 @@ fn read_header<R: BitRegister, O: BitOrder<R>>(
     })
 }
 
-/// What is read of a header that was written into a span of a memory; `None` where the span does
-/// not lie in it or is too short, or a number has too many digits.
+/// What is read of a header that was written into a span of a memory: that header. `None` exactly
+/// where the span does not lie in it or is too short, or a number has too many digits.
 fn passed<R: BitRegister, O: BitOrder<R>>(
     header: Header,
     span: BitSpan<R, O>,
     memory: &mut [R],
 ) -> Option<Header>
-    ensures { IfSome result (λ back. back ≡ header) }
+    ensures accepted { IsSome result ↔ (Fits R.BITS (span_of span) (length memory.old)
+        × CanBePut (span_of span).len (header_items header)) }
+    ensures value { IfSome result (λ back. back ≡ header) }
 {
     if !span.fits(memory.len()) {
         return None;

@@ -2,6 +2,7 @@
 //! refuses.
 
 ghost use Rattle.std.specs.Prelude.{◌≡◌, ◌%◌, ◌<◌, ◌≤◌, ◌++◌, ◌∷◌, [], IfOk, MatchResult};
+ghost use Rattle.std.specs.Prelude.{◌↔◌, IsOk};
 ghost use Rattle.std.specs.Prelude.{true, false, take, drop, length, replicate};
 ghost use Rattle.bitvec_slice.specs.BitSlice.{bits_of};
 ghost use Rattle.bitvec_slice.specs.Signed.{signed_of, complement_of};
@@ -37,7 +38,8 @@ fn both_ways<R: BitRegister, O: BitOrder<R>>(
 fn two_signed<R: BitRegister, O: BitOrder<R>>(
     reader: &mut BitReader<'_, R, O>,
 ) -> Result<(i8, i8), ReadError>
-    ensures { let bits = rest reader.old
+    ensures accepted { IsOk result ↔ (16 ≤ length (rest reader.old)) }
+    ensures numbers { let bits = rest reader.old
         in IfOk result (λ it. (it.0 ≡ signed_of 8 (number_be (take 8 bits)))
         × (it.1 ≡ signed_of 8 (number_le (take 8 (drop 8 bits))))) }
 {
@@ -69,7 +71,8 @@ fn write_both_ways<R: BitRegister, O: BitOrder<R>>(
     writer: &mut BitWriter<'_, R, O>,
     value: u8,
 ) -> Result<(), WriteError>
-    ensures { IfOk result (λ _. written writer.new
+    ensures accepted { IsOk result ↔ (16 ≤ length (room writer.old)) }
+    ensures bits { IfOk result (λ _. written writer.new
         ≡ written writer.old ++ digits_be 8 value ++ digits_le 8 value) }
 {
     writer.write_be(8, value)?;

@@ -61,6 +61,12 @@ fn places_at_multiples(rt: HostRuntime) -> Result<(), Fail> {
 fn texts_of_refusals(rt: HostRuntime) -> Result<(), Fail> {
     let few = format!(in rt.alloc(); "{}", ReadError::TooFew)?;
     assert_eq!(rt; few.as_str(), "fewer bits are left");
+    let unended = format!(in rt.alloc(); "{}", ReadError::Unended)?;
+    assert_eq!(rt; unended.as_str(), "the bits end before the code");
+    let large = format!(in rt.alloc(); "{}", ReadError::TooLarge)?;
+    assert_eq!(rt; large.as_str(), "the number is too large for its type");
+    let room = format!(in rt.alloc(); "{}", WriteError::NoRoom)?;
+    assert_eq!(rt; room.as_str(), "there is room for fewer bits");
     let digits = format!(in rt.alloc(); "{}", WriteError::TooManyDigits)?;
     assert_eq!(rt; digits.as_str(), "the number has more digits");
     let debug = format!(in rt.alloc(); "{:?}", ReadError::Unended)?;

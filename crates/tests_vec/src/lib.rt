@@ -1,7 +1,8 @@
 //! Vectors, by the names that a user writes.
 #![tactic(auto)]
 
-pub mod callers;
+#[cfg(test)]
+mod callers;
 #[cfg(test)]
 mod examples;
 #[cfg(test)]
@@ -9,7 +10,12 @@ mod histories;
 #[cfg(test)]
 mod memory;
 #[cfg(test)]
+mod prelude;
+#[cfg(test)]
 mod refusing;
 #[cfg(test)]
 mod sets;
+#[cfg(test)]
+mod texts;
+#[cfg(test)]
 mod traits;

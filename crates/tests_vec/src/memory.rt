@@ -145,6 +145,39 @@ fn a_text_where_there_is_no_memory(rt: HostRuntime) -> Result<(), Fail> {
     Ok(())
 }
 
+// Where memory is given no call refuses, whatever the length: with one bit more, each that takes
+// memory is asked.
+#[test]
+fn no_length_is_refused(rt: HostRuntime) -> Result<(), Fail> {
+    let mut text = String::new(rt.alloc());
+    let mut bits = BitVec::<u8, Msb0>::new(rt.alloc());
+    for len in 0..260usize {
+        let read = BitVec::<u16, Lsb0>::from_text(rt.alloc(), text.as_str())?;
+        assert_eq!(rt; read.len(), len);
+        let same = BitVec::<u64, Msb0>::repeat(rt.alloc(), true, len)?;
+        assert_eq!(rt; same.count_ones(), len);
+        assert!(rt; BitVec::<u8, Lsb0>::with_capacity(rt.alloc(), len)?.is_empty());
+        let mut copy = BitVec::<u32, Lsb0>::from_bitslice(rt.alloc(), bits.as_bitslice())?;
+        assert!(rt; copy.equals(&read.as_bitslice()));
+        copy.insert(0, true)?;
+        copy.append(&mut read.clone()?)?;
+        copy.extend_from_bitslice(bits.as_bitslice())?;
+        assert_eq!(rt; copy.len(), len.wrapping_mul(3).wrapping_add(1));
+        if len <= copy.len() {
+            assert_eq!(rt;
+                copy.split_off(len)?.len(),
+                len.wrapping_mul(2).wrapping_add(1)
+            );
+        }
+        copy.resize(len.wrapping_mul(5), true)?;
+        copy.reserve(len)?;
+        assert!(rt; len.wrapping_mul(6) <= copy.capacity());
+        bits.push(len % 3 == 0)?;
+        text.push_str(if len % 3 == 0 { "1" } else { "0" })?;
+    }
+    Ok(())
+}
+
 // No bits take no memory.
 #[test]
 fn none_is_never_refused(rt: HostRuntime) -> Result<(), Fail> {
@@ -155,6 +188,12 @@ fn none_is_never_refused(rt: HostRuntime) -> Result<(), Fail> {
     assert!(rt; none.is_empty());
     let copy: BitVec<u64, Lsb0, _> = BitVec::from_bitslice(&memory, none.as_bitslice())?;
     assert!(rt; copy.is_empty());
+    let mut copy = copy.clone()?;
+    assert!(rt; copy.split_off(0)?.is_empty());
+    let mut few = BitVec::<u8, Lsb0>::from_text(rt.alloc(), "011")?;
+    if few.len() == 3 {
+        assert!(rt; few.split_off(3)?.is_empty());
+    }
     assert!(rt; BitVec::<u8, Msb0, _>::repeat(&memory, true, 1).is_err());
     Ok(())
 }

@@ -25,6 +25,10 @@ use std::marker::PhantomData;
 /// `AllocError`, as where memory is refused, and leaves the list as it was; in the Rust crate both
 /// panic.
 ///
+/// A call that has the room it needs ([`capacity`](BitVec::capacity)) refuses nothing. Whether
+/// memory that is asked for is refused is the allocator's to say: std's contract of one tells
+/// nothing of it, so no contract here does, as none of std's `Vec` does.
+///
 /// # Examples
 ///
 /// ```

@@ -14,8 +14,9 @@ impl<R: BitRegister, O: BitOrder<R>, A: Allocator> BitVec<R, O, A> {
 
     /// Puts a bit behind the others.
     ///
-    /// Where memory is refused, the list is as it was. Constant time, but for memory that is asked
-    /// for: it grows as that of a `Vec` does.
+    /// Where memory is refused, the list is as it was. Constant time where there is room
+    /// ([`capacity`](BitVec::capacity)); else one request to the allocator, and a copy of the words
+    /// where it gives another place.
     ///
     /// # Examples
     ///

@@ -1,6 +1,6 @@
 //! Copies of vectors, whether two have the same bits, their order, and what they are hashed as.
 
-ghost use Rattle.std.specs.Prelude.{◌≡◌, ◌↔◌, IsTrue};
+ghost use Rattle.std.specs.Prelude.{◌≡◌, ◌↔◌, [], IsTrue};
 ghost use Rattle.std.specs.Cmp.Lexicographic.{slice_cmp};
 ghost use Rattle.std.specs.Ordering.{bool_cmp};
 
@@ -12,11 +12,14 @@ use std::cmp::Ordering;
 use std::hash::{Hash, Hasher};
 
 /// A copy of the bits in memory of its own. It refuses where memory is refused, or where the copy
-/// of the allocator is. Costs by words where the order's positions rise or fall, else by bits.
+/// of the allocator is; of no bits it takes no memory, and never refuses if the copy of the
+/// allocator cannot fail. Costs by words where the order's positions rise or fall, else by bits.
 impl<R: BitRegister, O: BitOrder<R>, A: Allocator + Clone> Clone for BitVec<R, O, A> {
-    ghost use Rattle.bitvec_vec.specs.BitVec.{vec_bits};
+    ghost use Rattle.bitvec_vec.specs.BitVec.{vec_bits, bit_allocator};
 
     ghost is_clone = { λ vec copy. vec_bits copy ≡ vec_bits vec };
+
+    ghost is_infallible = { λ vec. (vec_bits vec ≡ []) × A.is_infallible (bit_allocator vec) };
 
     fn clone(&self) -> Result<Self, AllocError> {
         let alloc = self.words.allocator().clone()?;

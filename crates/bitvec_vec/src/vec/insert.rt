@@ -1,7 +1,7 @@
 //! Bits put in and taken out in the midst of a vector, and vectors joined and cut.
 
 ghost use Rattle.std.specs.Prelude.{◌≡◌, ◌≤◌, ◌<◌, ◌+◌, ◌++◌, [], is_ok, if◌then◌else◌, false};
-ghost use Rattle.std.specs.Prelude.{length, take, drop, OnErr, IfOk};
+ghost use Rattle.std.specs.Prelude.{length, take, drop, OnErr, IfOk, IsOk};
 ghost use Rattle.std.specs.List.{insert, remove, swap_remove};
 ghost use Rattle.bitvec.specs.Span.{element};
 
@@ -130,13 +130,15 @@ impl<R: BitRegister, O: BitOrder<R>, A: Allocator> BitVec<R, O, A> {
 }
 
 impl<R: BitRegister, O: BitOrder<R>, A: Allocator + Clone> BitVec<R, O, A> {
-    ghost use Rattle.bitvec_vec.specs.BitVec.{vec_bits, bit_capacity};
+    ghost use Rattle.bitvec_vec.specs.BitVec.{vec_bits, bit_capacity, bit_allocator};
 
     /// Takes the bits from number `at` on away, and returns them as a vector of their own. Requires
     /// that `at` is at most the length: [`len`](BitVec::len) is the test.
     ///
     /// Where memory is refused, and so where the copy of the allocator is, the list is as it was.
-    /// Costs by words where the order's positions rise or fall, else by bits.
+    /// Where `at` is the length there are no bits to copy, and it never refuses if the copy of the
+    /// allocator cannot fail. Costs by words where the order's positions rise or fall, else by
+    /// bits.
     ///
     /// # Examples
     ///
@@ -154,6 +156,8 @@ impl<R: BitRegister, O: BitOrder<R>, A: Allocator + Clone> BitVec<R, O, A> {
         ensures bits { vec_bits self.new
             ≡ (if is_ok result then take at (vec_bits self.old) else vec_bits self.old) }
         ensures capacity { bit_capacity self.new ≡ bit_capacity self.old }
+        ensures succeeds { at ≡ length (vec_bits self.old)
+            → A.is_infallible (bit_allocator self.old) → IsOk result }
     {
         let alloc = self.words.allocator().clone()?;
         let (_, back) = self.as_bitslice().split_at(at);

@@ -5,8 +5,8 @@ use Rattle.freemap.proofs.LevelLemmas.{filled_long}
 use Rattle.freemap.proofs.SummaryLemmas.{said_last, said_inner, set_within, kept_beside}
 use Rattle.freemap.proofs.leveled.refresh_rest.Goals as goal
 
-pub returns-then-from-last : goal.returns-then-from-last
-returns-then-from-last g c =
+pub returns-then-from-last-clause-summary : goal.returns-then-from-last-clause-summary
+returns-then-from-last-clause-summary g c =
     let marks = g.S.Level.marks in
     let from = c.args.from in
     let last : ℕ = c.args.to - 1 in
@@ -16,7 +16,7 @@ returns-then-from-last g c =
     let new = marks c.set_marks.new.self in
     let order : from < last = omega (arith, c.if-from-last.true) in
     let rest = said_last used (marks c.args.full.now) full last said.many said.said said.beside from c.args.to (omega (arith, c.requires.some)) c.requires.rest in
-    let is = subst (λ n. new ≡ with_filled full from n c.args.used) (let whole : from + (last - from) ≡ last = omega (arith, order) in whole) c.set_marks.ensures in
+    let is = subst (λ n. new ≡ with_filled full from n c.args.used) (let whole : from + (last - from) ≡ last = omega (arith, order) in whole) c.set_marks.ensures.marked in
     let inside = rest.inside in
     let many = filled_long full new from last c.args.used is (omega (arith, order)) inside in
     let set = set_within full new from last c.args.used is (omega (arith, order)) inside in

@@ -20,8 +20,8 @@ invariant_of-self g c =
     let w = c.args.at / 64 in
     let set = one_set old new c.args.at _ c.set.ensures.used c.requires in
     let there : w < length marks = omega (arith, c.requires, map.words.words) in
-    let said = one_set marks full w _ c.set_mark.ensures there in
-    let long = filled_long marks full w _ _ c.set_mark.ensures (omega arith) (omega (arith, there)) in
+    let said = one_set marks full w _ c.set_mark.ensures.marked there in
+    let long = filled_long marks full w _ _ c.set_mark.ensures.marked (omega arith) (omega (arith, there)) in
     let says = says_not_full new full w (λ on. true≢false (sym on ∙ said.0)) (not_full_off new c.args.at set.0 (omega (arith, c.requires, c.set.ensures.many))) in
     record {
       words = one_changed old new marks full c.args.at map.words c.set.ensures.many set.1 c.requires long says said.1;

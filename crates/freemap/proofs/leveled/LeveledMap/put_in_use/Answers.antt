@@ -18,7 +18,7 @@ invariant_of-self g c =
     let w = c.args.at / 64 in
     let set = one_set old new c.args.at _ c.put_in_use.ensures.becomes.used c.requires.inside in
     let there : w < length marks = omega (arith, c.requires.inside, map.words.words) in
-    let marked = subst (λ n. full ≡ with_filled marks n (n + 1) true) c.requires.word c.set_mark.ensures in
+    let marked = subst (λ n. full ≡ with_filled marks n (n + 1) true) c.requires.word c.set_mark.ensures.marked in
     let said = one_set marks full w _ marked there in
     let long = filled_long marks full w _ _ marked (omega arith) (omega (arith, there)) in
     record {

@@ -1,8 +1,69 @@
-use Rattle.std.proofs.Common.{◌≡◌, ◌+◌, ◌-◌, ◌*◌, ◌<◌, ◌≤◌, length, map, min, sym, ◌∙◌, ap, arith}
+use Rattle.std.proofs.Common.{◌≡◌, ℕ, ◌+◌, ◌-◌, ◌*◌, ◌<◌, ◌≤◌, length, map, min, sym, ◌∙◌, ap, arith}
 use Rattle.std.proofs.lemmas.List.{get_or-map}
 use Rattle.bitvec_ptr.proofs.CopyLemmas.{word_within}
 use Rattle.bitvec_ptr.proofs.GatherLemmas.{IsShared, share_end, gathered_inside, gathered_outside}
 use Rattle.bitvec_ptr.proofs.ptr.copy.gather.gathered_across_widths.Goals as goal
+
+-- what the smaller of the bits left in a word and of those wanted is
+share_of : {width bits index count done share : ℕ} → width ≡ bits → index ≤ bits - 1 → 8 ≤ bits → done < count → share ≡ min (width - index) (count - done)
+    → (0 < share) × (index + share ≤ bits) × (done + share ≤ count)
+share_of same index wide more is = (omega arith, omega arith, omega arith)
+
+pub overflow_sub-BITS : goal.overflow_sub-BITS
+overflow_sub-BITS g c = omega (arith, c.loop-done.read.in_word, c.BITS.ensures)
+
+pub bounds-source-read : goal.bounds-source-read
+bounds-source-read g c =
+    let read = c.loop-done.read in
+    word_within read.word read.bit g.R.BitRegister.BITS (length c.args.source.now)
+    (omega (arith, c.loop-done.invariant.reads c.loop-done-test.true, c.loop-done-test.true, c.requires.from_in))
+
+pub offset_bounds-source-read : goal.offset_bounds-source-read
+offset_bounds-source-read g c =
+    let there : c.loop-done.read.word < length c.args.source.now = bounds-source-read g c in
+    omega (arith, there)
+
+pub overflow_add-bit : goal.overflow_add-bit
+overflow_add-bit g c = omega (arith, c.requires.bit_in, c.loop-done-test.true, g.met.R2.BitRegister.width_at_most_128)
+
+pub gathered_from_word-gathered-requires-clause-some : goal.gathered_from_word-gathered-requires-clause-some
+gathered_from_word-gathered-requires-clause-some g c =
+    let share = share_of c.BITS.ensures c.loop-done.read.in_word g.met.R.BitRegister.width_at_least_8 c.loop-done-test.true c.min-share.ensures in
+    share.0
+
+pub gathered_from_word-gathered-requires-clause-from_in : goal.gathered_from_word-gathered-requires-clause-from_in
+gathered_from_word-gathered-requires-clause-from_in g c =
+    let share = share_of c.BITS.ensures c.loop-done.read.in_word g.met.R.BitRegister.width_at_least_8 c.loop-done-test.true c.min-share.ensures in
+    share.1
+
+pub gathered_from_word-gathered-requires-clause-bit_in : goal.gathered_from_word-gathered-requires-clause-bit_in
+gathered_from_word-gathered-requires-clause-bit_in g c =
+    let share = share_of c.BITS.ensures c.loop-done.read.in_word g.met.R.BitRegister.width_at_least_8 c.loop-done-test.true c.min-share.ensures in
+    omega (arith, share.2, c.requires.bit_in)
+
+pub gathered_from_word-gathered-requires-clause-rising : goal.gathered_from_word-gathered-requires-clause-rising
+gathered_from_word-gathered-requires-clause-rising g c = c.requires.way.rising
+
+pub gathered_from_word-gathered-requires-clause-falling : goal.gathered_from_word-gathered-requires-clause-falling
+gathered_from_word-gathered-requires-clause-falling g c = c.requires.way.falling
+
+pub overflow_add-read : goal.overflow_add-read
+overflow_add-read g c =
+    let read = c.loop-done.read in
+    let there : read.word < length c.args.source.now =
+    word_within read.word read.bit g.R.BitRegister.BITS (length c.args.source.now)
+    (omega (arith, c.loop-done.invariant.reads c.loop-done-test.true, c.loop-done-test.true, c.requires.from_in)) in
+    omega (arith, there)
+
+pub overflow_add-done : goal.overflow_add-done
+overflow_add-done g c =
+    let share = share_of c.BITS.ensures c.loop-done.read.in_word g.met.R.BitRegister.width_at_least_8 c.loop-done-test.true c.min-share.ensures in
+    omega (arith, share.2)
+
+pub loop-done-smaller : goal.loop-done-smaller
+loop-done-smaller g c =
+    let share = share_of c.BITS.ensures c.loop-done.read.in_word g.met.R.BitRegister.width_at_least_8 c.loop-done-test.true c.min-share.ensures in
+    omega (arith, share.0, share.2)
 
 pub loop-done-preserved : goal.loop-done-preserved
 loop-done-preserved g c =
@@ -43,3 +104,13 @@ loop-done-preserved g c =
       inside = gathered_inside next (map R.number c.args.source.now) read.word s place here c.loop-done.invariant.inside;
       outside = gathered_outside next (R2.number c.args.word) c.loop-done.invariant.outside;
     }
+
+pub returns-clause-inside : goal.returns-clause-inside
+returns-clause-inside g c =
+    let end : c.args.count ≡ c.loop-done.done = omega (arith, c.loop-done.invariant.most, c.loop-done-test.false) in
+    rw end c.loop-done.invariant.inside
+
+pub returns-clause-outside : goal.returns-clause-outside
+returns-clause-outside g c =
+    let end : c.args.count ≡ c.loop-done.done = omega (arith, c.loop-done.invariant.most, c.loop-done-test.false) in
+    rw end c.loop-done.invariant.outside

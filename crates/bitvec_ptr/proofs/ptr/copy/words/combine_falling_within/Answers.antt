@@ -1,8 +1,27 @@
-use Rattle.std.proofs.Common.{◌≡◌, ◌+◌, ◌*◌, ◌<◌, length, refl, sym, arith}
+use Rattle.std.proofs.Common.{◌≡◌, ◌+◌, ◌*◌, ◌<◌, length, refl, sym, ap, ◌∙◌, arith}
+use Rattle.std.proofs.lemmas.Bool.{false≢true}
 use Rattle.bitvec_ptr.proofs.CopyLemmas.{place_below, met_covers}
 use Rattle.bitvec_ptr.proofs.GatherLemmas.{allows_elsewhere}
 use Rattle.bitvec_ptr.proofs.WriterJoins.{has_combined_as, joined_falling_within}
 use Rattle.bitvec_ptr.proofs.ptr.copy.words.combine_falling_within.Goals as goal
+
+pub overflow_cast-count : goal.overflow_cast-count
+overflow_cast-count g c =
+    omega (arith, c.is_in_one_word.ensures.fits c.if-is_in_one_word.true, g.met.R.BitRegister.width_at_most_128)
+
+pub combine_word_within-requires-clause-bit_in : goal.combine_word_within-requires-clause-bit_in
+combine_word_within-requires-clause-bit_in g c = c.is_in_one_word.ensures.fits c.if-is_in_one_word.true
+
+pub combine_word_within-requires-clause-to_in : goal.combine_word_within-requires-clause-to_in
+combine_word_within-requires-clause-to_in g c =
+    omega (arith, c.is_in_one_word.ensures.met c.if-is_in_one_word.true, c.requires.to_in)
+
+pub combine_word_within-requires-clause-rising : goal.combine_word_within-requires-clause-rising
+combine_word_within-requires-clause-rising g c = λ up. absurd (false≢true (sym c.requires.direction ∙ up))
+
+pub combine_word_within-requires-clause-falling : goal.combine_word_within-requires-clause-falling
+combine_word_within-requires-clause-falling g c =
+    λ _. omega (arith, c.is_in_one_word.ensures.met c.if-is_in_one_word.true, c.requires.stands)
 
 pub returns-then-is_in_one_word : goal.returns-then-is_in_one_word
 returns-then-is_in_one_word g c =
@@ -14,17 +33,93 @@ sections_of-sections-requires-clause-inside g c =
     place_below R.BITS (c.args.from.word * R.BITS + c.args.from.bit + c.args.count) (length c.args.writer.now.words.now)
     (omega (arith, g.met.R.BitRegister.width_at_least_8)) c.requires.from_in (omega arith)
 
-pub combine_row_falling_within-requires-clause-way : goal.combine_row_falling_within-requires-clause-way
-combine_row_falling_within-requires-clause-way g c =
-    let sections = c.sections_of-sections in
-    allows_elsewhere c.args.way g.R.BitRegister.BITS g.O.BitAt.at_of g.R.BitRegister.BITS g.O.BitAt.at_of c.args.from.bit c.args.to.bit
-    sections.result.middle.bit 0 c.requires.way (sections.ensures.middle_starts)
+pub overflow_add-next : goal.overflow_add-next
+overflow_add-next g c = omega (arith, c.sections_of-sections.ensures.met, c.requires.to_in)
+
+pub overflow_add-last : goal.overflow_add-last
+overflow_add-last g c = omega (arith, c.sections_of-sections.ensures.met, c.requires.to_in)
+
+pub combine_word_within-requires-2-clause-bit_in : goal.combine_word_within-requires-2-clause-bit_in
+combine_word_within-requires-2-clause-bit_in g c = omega (arith, c.sections_of-sections.ensures.most)
 
 pub combine_word_within-requires-2-clause-way : goal.combine_word_within-requires-2-clause-way
 combine_word_within-requires-2-clause-way g c =
     let sections = c.sections_of-sections in
     allows_elsewhere c.args.way g.R.BitRegister.BITS g.O.BitAt.at_of g.R.BitRegister.BITS g.O.BitAt.at_of c.args.from.bit c.args.to.bit
     sections.result.end.bit 0 c.requires.way (sections.ensures.end_starts)
+
+pub combine_word_within-requires-2-clause-from_in : goal.combine_word_within-requires-2-clause-from_in
+combine_word_within-requires-2-clause-from_in g c =
+    let cut = c.sections_of-sections.ensures in
+    omega (arith, cut.end, cut.all, c.requires.from_in)
+
+pub combine_word_within-requires-2-clause-to_in : goal.combine_word_within-requires-2-clause-to_in
+combine_word_within-requires-2-clause-to_in g c =
+    omega (arith, c.sections_of-sections.ensures.met, c.requires.to_in)
+
+pub combine_word_within-requires-2-clause-rising : goal.combine_word_within-requires-2-clause-rising
+combine_word_within-requires-2-clause-rising g c = λ up. absurd (false≢true (sym c.requires.direction ∙ up))
+
+pub combine_word_within-requires-2-clause-falling : goal.combine_word_within-requires-2-clause-falling
+combine_word_within-requires-2-clause-falling g c = λ _. omega (arith, c.sections_of-sections.ensures.met, c.requires.stands)
+
+pub combine_row_falling_within-requires-clause-way : goal.combine_row_falling_within-requires-clause-way
+combine_row_falling_within-requires-clause-way g c =
+    let sections = c.sections_of-sections in
+    allows_elsewhere c.args.way g.R.BitRegister.BITS g.O.BitAt.at_of g.R.BitRegister.BITS g.O.BitAt.at_of c.args.from.bit c.args.to.bit
+    sections.result.middle.bit 0 c.requires.way (sections.ensures.middle_starts)
+
+pub combine_row_falling_within-requires-clause-short : goal.combine_row_falling_within-requires-clause-short
+combine_row_falling_within-requires-clause-short g c =
+    omega (arith, c.sections_of-sections.ensures.all)
+
+pub combine_row_falling_within-requires-clause-from_in : goal.combine_row_falling_within-requires-clause-from_in
+combine_row_falling_within-requires-clause-from_in g c =
+    let cut = c.sections_of-sections.ensures in
+    let same = ap (λ n. n * g.R.BitRegister.BITS) c.combine_word_within-2.ensures.len in
+    omega (arith, cut.middle, cut.all, same, c.requires.from_in)
+
+pub combine_row_falling_within-requires-clause-to_in : goal.combine_row_falling_within-requires-clause-to_in
+combine_row_falling_within-requires-clause-to_in g c =
+    omega (arith, c.sections_of-sections.ensures.met, c.requires.to_in, c.combine_word_within-2.ensures.len)
+
+pub combine_row_falling_within-requires-clause-behind : goal.combine_row_falling_within-requires-clause-behind
+combine_row_falling_within-requires-clause-behind g c =
+    omega (arith, c.sections_of-sections.ensures.middle, c.requires.behind, c.args.to.in_word, g.met.R.BitRegister.width_at_least_8)
+
+pub combine_row_falling_within-requires-clause-direction : goal.combine_row_falling_within-requires-clause-direction
+combine_row_falling_within-requires-clause-direction g c = c.combine_word_within-2.ensures.direction ∙ c.requires.direction
+
+pub combine_row_falling_within-requires-clause-stands : goal.combine_row_falling_within-requires-clause-stands
+combine_row_falling_within-requires-clause-stands g c = c.combine_word_within-2.ensures.falling_mark c.requires.direction
+
+pub combine_word_within-requires-3-clause-some : goal.combine_word_within-requires-3-clause-some
+combine_word_within-requires-3-clause-some g c =
+    omega (arith, c.sections_of-sections.ensures.first, c.args.to.in_word, g.met.R.BitRegister.width_at_least_8)
+
+pub combine_word_within-requires-3-clause-bit_in : goal.combine_word_within-requires-3-clause-bit_in
+combine_word_within-requires-3-clause-bit_in g c = omega (arith, c.sections_of-sections.ensures.first, c.args.to.in_word)
+
+pub combine_word_within-requires-3-clause-from_in : goal.combine_word_within-requires-3-clause-from_in
+combine_word_within-requires-3-clause-from_in g c =
+    let cut = c.sections_of-sections.ensures in
+    let same = ap (λ n. n * g.R.BitRegister.BITS) (c.combine_row_falling_within.ensures.len ∙ c.combine_word_within-2.ensures.len) in
+    omega (arith, cut.first, cut.all, same, c.requires.from_in)
+
+pub combine_word_within-requires-3-clause-to_in : goal.combine_word_within-requires-3-clause-to_in
+combine_word_within-requires-3-clause-to_in g c =
+    let same = c.combine_row_falling_within.ensures.len ∙ c.combine_word_within-2.ensures.len in
+    omega (arith, c.sections_of-sections.ensures.met, c.requires.to_in, same)
+
+pub combine_word_within-requires-3-clause-rising : goal.combine_word_within-requires-3-clause-rising
+combine_word_within-requires-3-clause-rising g c =
+    let down = c.combine_row_falling_within.ensures.direction ∙ c.combine_word_within-2.ensures.direction ∙ c.requires.direction in
+    λ up. absurd (false≢true (sym down ∙ up))
+
+pub combine_word_within-requires-3-clause-falling : goal.combine_word_within-requires-3-clause-falling
+combine_word_within-requires-3-clause-falling g c =
+    let mark = c.combine_row_falling_within.ensures.falling_mark (c.combine_word_within-2.ensures.direction ∙ c.requires.direction) in
+    λ _. omega (arith, mark)
 
 pub returns : goal.returns
 returns g c =

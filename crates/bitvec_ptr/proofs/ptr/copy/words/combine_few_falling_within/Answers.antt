@@ -1,9 +1,9 @@
-use Rattle.std.proofs.Common.{◌≡◌, ◌+◌, ◌-◌, ◌*◌, ◌≤◌, length, refl, ap, ◌∙◌, arith}
-use Rattle.std.proofs.Math.Nat.{mul-le-mul_right}
+use Rattle.std.proofs.Common.{◌≡◌, ◌+◌, ◌-◌, ◌*◌, length, refl, ap, ◌∙◌, arith}
 use Rattle.bitvec_ptr.proofs.CopyLemmas.{place_below}
+use Rattle.bitvec_ptr.proofs.FallingRows.{row_falls_within}
 use Rattle.bitvec_ptr.proofs.GatherLemmas.{allows_elsewhere}
 use Rattle.bitvec_ptr.proofs.ListJoins.{row_less}
-use Rattle.bitvec_ptr.proofs.WriterJoins.{nothing_combined, has_combined_as, joined_falling_within}
+use Rattle.bitvec_ptr.proofs.WriterJoins.{nothing_combined, has_combined_as}
 use Rattle.bitvec_ptr.proofs.ptr.copy.words.combine_few_falling_within.Goals as goal
 
 pub loop-done-init : goal.loop-done-init
@@ -37,20 +37,9 @@ combine_word_within-requires-clause-from_in g c =
 
 pub loop-done-preserved : goal.loop-done-preserved
 loop-done-preserved g c =
-    let R = g.R.BitRegister in
-    let done = c.loop-done.done in
-    let k = c.args.count - 1 - done in
-    let rest : c.args.count - (done + 1) ≡ k = omega arith in
-    let one : c.args.count - done ≡ k + 1 = omega arith in
-    let here : (c.args.count - (done + 1)) * R.BITS ≡ k * R.BITS = ap (λ v. v * R.BITS) rest in
-    let there : (c.args.count - done) * R.BITS ≡ k * R.BITS + R.BITS = ap (λ v. v * R.BITS) one ∙ omega arith in
-    let all : k * R.BITS + (done + 1) * R.BITS ≡ c.args.count * R.BITS =
-    (let v : k + (done + 1) ≡ c.args.count = omega arith in omega (arith, ap (λ n. n * R.BITS) v)) in
-    let room : (c.args.to + c.args.count) * R.BITS ≤ length c.args.writer.now.words.now * R.BITS = mul-le-mul_right R.BITS c.requires.to_in in
-    let width = c.BITS.ensures in
-    joined_falling_within c.requires.direction (omega (arith, here, c.requires.behind)) (omega (arith, here, all, room))
-    (omega (arith, here, there, width)) (omega (arith, here, there, width)) (omega (arith, here, c.words_on-read.ensures.place)) (omega (arith, here))
-    (omega (arith, rest)) (omega (arith, width)) refl c.loop-done.invariant c.combine_word_within.ensures
+    let k = c.args.count - 1 - c.loop-done.done in
+    let here : k + (c.loop-done.done + 1) ≡ c.args.count = omega arith in
+    row_falls_within _ _ k c.requires.direction here c.BITS.ensures c.words_on-read.ensures.place c.requires.to_in c.requires.behind c.loop-done.invariant c.combine_word_within.ensures
 
 pub returns : goal.returns
 returns g c =

@@ -1,7 +1,8 @@
-use Rattle.std.proofs.Common.{◌≡◌, ◌+◌, ◌-◌, ◌*◌, ◌/◌, ◌%◌, ◌≤◌, length, refl, ap, ◌∙◌, arith}
+use Rattle.std.proofs.Common.{◌≡◌, ◌+◌, ◌-◌, ◌*◌, ◌%◌, ◌≤◌, length, refl, ap, ◌∙◌, arith}
 use Rattle.std.proofs.Math.Nat.{mul-le-mul_right}
 use Rattle.std.proofs.lemmas.Nat.{div-add-mod'}
 use Rattle.bitvec_ptr.proofs.CopyLemmas.{place_below}
+use Rattle.bitvec_ptr.proofs.GatherLemmas.{allows_elsewhere}
 use Rattle.bitvec_ptr.proofs.WriterJoins.{nothing_combined, joined_falling_within}
 use Rattle.bitvec_ptr.proofs.ptr.copy.words.combine_row_falling_within.Goals as goal
 
@@ -22,6 +23,12 @@ words_on-read-requires-clause-inside g c =
     place_below R.BITS (c.args.from.word * R.BITS + c.args.from.bit + k * R.BITS) (length c.args.writer.now.words.now)
     (omega (arith, g.met.R.BitRegister.width_at_least_8)) (omega (arith, less, c.requires.from_in)) (omega arith)
 
+pub combine_block_falling_within-requires-clause-way : goal.combine_block_falling_within-requires-clause-way
+combine_block_falling_within-requires-clause-way g c =
+    let R = g.R.BitRegister in
+    allows_elsewhere c.args.way R.BITS g.O.BitAt.at_of R.BITS g.O.BitAt.at_of c.args.from.bit 0 c.words_on-read.result.bit 0 c.requires.way
+    (λ w e. c.words_on-read.ensures.bit refl ∙ e)
+
 pub combine_block_falling_within-requires-clause-from_in : goal.combine_block_falling_within-requires-clause-from_in
 combine_block_falling_within-requires-clause-from_in g c =
     let R = g.R.BitRegister in
@@ -32,6 +39,26 @@ combine_block_falling_within-requires-clause-from_in g c =
     ap (λ n. n * R.BITS) c.loop-block.invariant.len in
     omega (arith, less, c.words_on-read.ensures.place, same, c.requires.from_in)
 
+pub combine_block_falling_within-requires-clause-to_in : goal.combine_block_falling_within-requires-clause-to_in
+combine_block_falling_within-requires-clause-to_in g c =
+    let parts = div-add-mod' c.args.count 4 in
+    omega (arith, parts, c.requires.to_in, c.loop-block.invariant.len)
+
+pub combine_block_falling_within-requires-clause-direction : goal.combine_block_falling_within-requires-clause-direction
+combine_block_falling_within-requires-clause-direction g c = c.loop-block.invariant.direction ∙ c.requires.direction
+
+pub combine_block_falling_within-requires-clause-stands : goal.combine_block_falling_within-requires-clause-stands
+combine_block_falling_within-requires-clause-stands g c =
+    let parts = div-add-mod' c.args.count 4 in
+    let mark = c.loop-block.invariant.falling_mark c.requires.direction in
+    omega (arith, parts, mark)
+
+pub combine_few_falling_within-requires-2-clause-short : goal.combine_few_falling_within-requires-2-clause-short
+combine_few_falling_within-requires-2-clause-short g c =
+    let parts = div-add-mod' c.args.count 4 in
+    let less : c.args.count % 4 * g.R.BitRegister.BITS ≤ c.args.count * g.R.BitRegister.BITS = mul-le-mul_right g.R.BitRegister.BITS (omega (arith, parts)) in
+    omega (arith, less, c.requires.short)
+
 pub combine_few_falling_within-requires-2-clause-from_in : goal.combine_few_falling_within-requires-2-clause-from_in
 combine_few_falling_within-requires-2-clause-from_in g c =
     let R = g.R.BitRegister in
@@ -40,6 +67,20 @@ combine_few_falling_within-requires-2-clause-from_in g c =
     let same : length c.loop-block.writer.words.now * R.BITS ≡ length c.args.writer.now.words.now * R.BITS =
     ap (λ n. n * R.BITS) c.loop-block.invariant.len in
     omega (arith, less, same, c.requires.from_in)
+
+pub combine_few_falling_within-requires-2-clause-to_in : goal.combine_few_falling_within-requires-2-clause-to_in
+combine_few_falling_within-requires-2-clause-to_in g c =
+    let parts = div-add-mod' c.args.count 4 in
+    omega (arith, parts, c.requires.to_in, c.loop-block.invariant.len)
+
+pub combine_few_falling_within-requires-2-clause-direction : goal.combine_few_falling_within-requires-2-clause-direction
+combine_few_falling_within-requires-2-clause-direction g c = c.loop-block.invariant.direction ∙ c.requires.direction
+
+pub combine_few_falling_within-requires-2-clause-stands : goal.combine_few_falling_within-requires-2-clause-stands
+combine_few_falling_within-requires-2-clause-stands g c =
+    let parts = div-add-mod' c.args.count 4 in
+    let mark = c.loop-block.invariant.falling_mark c.requires.direction in
+    omega (arith, parts, mark)
 
 pub loop-block-preserved : goal.loop-block-preserved
 loop-block-preserved g c =

@@ -1,0 +1,13 @@
+//! The examples: packet headers, parameters of H.264 streams, and recipes of the README and the guide.
+#![tactic(auto)]
+
+#[cfg(test)]
+mod numbers;
+#[cfg(test)]
+mod packet;
+#[cfg(test)]
+mod seats;
+#[cfg(test)]
+mod sps;
+#[cfg(test)]
+mod two_spans;
