@@ -71,10 +71,10 @@ pub struct Parts<'a, R: BitRegister, O: BitOrder<R>, const N: usize> {
 }
 
 impl<R: BitRegister, O: BitOrder<R>, const N: usize> Drop for Parts<'_, R, O, N> {
-    ghost use Rattle.bits_lib.specs.View.{lent_memory};
+    ghost use Rattle.bits_lib.specs.View.{view_memory};
 
     fn drop(self)
-        ensures { self.exit.0.now ≡ (lent_memory self.entry).now }
+        ensures { self.exit.0.now ≡ (view_memory self.entry).now }
     {
         let Parts {
             memory: _,
@@ -95,7 +95,7 @@ fn accepts<R: BitRegister, O, const N: usize>(spans: [BitSpan<R, O>; N], words: 
 
 impl<'a, R: BitRegister, O: BitOrder<R>, const N: usize> Parts<'a, R, O, N> {
     ghost use Rattle.std.specs.Borrow.{sem, Array, RestsIfNone};
-    ghost use Rattle.bits_lib.specs.View.{lent_memory, part_spans, part_span, part_list};
+    ghost use Rattle.bits_lib.specs.View.{view_memory, part_spans, part_span, part_list};
     ghost use Rattle.bits_lib.specs.View.{KeepsOutside, KeepsApart};
 
     // Where a part lies.
@@ -113,8 +113,8 @@ impl<'a, R: BitRegister, O: BitOrder<R>, const N: usize> Parts<'a, R, O, N> {
     /// test.
     pub fn new_unchecked(memory: &'a mut [R], spans: [BitSpan<R, O>; N]) -> Self
         requires { CanRun R.BITS span_of spans (length memory.old) }
-        ensures reference { (lent_memory result).ghost_name ≡ memory.entry.ghost_name }
-        ensures memory { (lent_memory result).now ≡ memory.old }
+        ensures reference { (view_memory result).ghost_name ≡ memory.entry.ghost_name }
+        ensures memory { (view_memory result).now ≡ memory.old }
         ensures spans { part_spans result ≡ map span_of spans }
     {
         let intervals = intervals_of(&spans);
@@ -130,11 +130,11 @@ impl<'a, R: BitRegister, O: BitOrder<R>, const N: usize> Parts<'a, R, O, N> {
     /// of a memory that is refused stay as they are.
     pub fn new(memory: &'a mut [R], spans: [BitSpan<R, O>; N]) -> Option<Self>
         ensures* kept { sem 𝓛 (RestsIfNone (Array R.row 0) memory.entry
-            (λ parts. (lent_memory parts).ghost_name) result (λ words. words ≡ memory.old)) }
+            (λ parts. (view_memory parts).ghost_name) result (λ words. words ≡ memory.old)) }
         ensures accepted { IsSome result ↔ CanRun R.BITS span_of spans (length memory.old) }
-        ensures reference { IfSome result (λ parts. (lent_memory parts).ghost_name
+        ensures reference { IfSome result (λ parts. (view_memory parts).ghost_name
             ≡ memory.entry.ghost_name) }
-        ensures memory { IfSome result (λ parts. (lent_memory parts).now ≡ memory.old) }
+        ensures memory { IfSome result (λ parts. (view_memory parts).now ≡ memory.old) }
         ensures spans { IfSome result (λ parts. part_spans parts ≡ map span_of spans) }
     {
         if accepts(spans, memory.len()) {
@@ -166,14 +166,14 @@ impl<'a, R: BitRegister, O: BitOrder<R>, const N: usize> Parts<'a, R, O, N> {
     pub fn set(&mut self, part: usize, i: usize, bit: bool)
         requires part { part < N }
         requires inside { i < (part_span self.old part).len }
-        ensures reference { (lent_memory self.new).ghost_name
-            ≡ (lent_memory self.old).ghost_name }
+        ensures reference { (view_memory self.new).ghost_name
+            ≡ (view_memory self.old).ghost_name }
         ensures spans { part_spans self.new ≡ part_spans self.old }
         ensures edited { part_list self.new part ≡ slice_set (part_list self.old part) i bit }
         ensures kept { (s : ℕ) → s ≢ part → part_list self.new s ≡ part_list self.old s }
         ensures others { KeepsOutside self.old self.new }
         ensures apart { KeepsApart self.old self.new }
-        ensures words { length (lent_memory self.new).now ≡ length (lent_memory self.old).now }
+        ensures words { length (view_memory self.new).now ≡ length (view_memory self.old).now }
     {
         let own = self.span(part);
         let memory = &mut *self.memory;
@@ -187,15 +187,15 @@ impl<'a, R: BitRegister, O: BitOrder<R>, const N: usize> Parts<'a, R, O, N> {
         requires part { part < N }
         requires ordered { from ≤ to }
         requires inside { to ≤ (part_span self.old part).len }
-        ensures reference { (lent_memory self.new).ghost_name
-            ≡ (lent_memory self.old).ghost_name }
+        ensures reference { (view_memory self.new).ghost_name
+            ≡ (view_memory self.old).ghost_name }
         ensures spans { part_spans self.new ≡ part_spans self.old }
         ensures edited { part_list self.new part
             ≡ with_filled (part_list self.old part) from to bit }
         ensures kept { (s : ℕ) → s ≢ part → part_list self.new s ≡ part_list self.old s }
         ensures others { KeepsOutside self.old self.new }
         ensures apart { KeepsApart self.old self.new }
-        ensures words { length (lent_memory self.new).now ≡ length (lent_memory self.old).now }
+        ensures words { length (view_memory self.new).now ≡ length (view_memory self.old).now }
     {
         let range = self.span(part).range(from, to);
         let memory = &mut *self.memory;

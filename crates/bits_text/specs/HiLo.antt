@@ -4,7 +4,7 @@ use Rattle.std.proofs.lemmas.Nat.{xor_lt, pow_below}
 use Rattle.std.specs.Int.Bits.{xor_assoc, xor_self, xor_zero_r}
 use Rattle.bitvec.specs.Order.{IsOneToOne}
 
--- the position of index i
+-- the position of index i: the index with its third lowest digit turned
 abbrev pub swapped_index : ℕ → ℕ
 swapped_index i = bit_xor i 4
 

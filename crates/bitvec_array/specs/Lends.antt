@@ -7,5 +7,5 @@ use Rattle.bitvec_array.specs.contracts.array.bit_array.BitArray.{the_row}
 
 module _ (O N : RattleType) {a b : _} (array : MutBor (the_row O N a b).Denot) {c d e f g h i j k : _} where
   -- its words are those that the slice has last
-  abbrev pub lends_bits : BitSliceMut ℕ O.Denot c d e f g h i j k → Fml
-  lends_bits slice = follows (the_row O N a b) (Array usize 0) array.ghost_name (lent_memory slice).ghost_name (λ ws. record { words = ws; of = array.now.of; positions = array.now.positions })
+  abbrev pub array_follows : BitSliceMut ℕ O.Denot c d e f g h i j k → Fml
+  array_follows slice = follows (the_row O N a b) (Array usize 0) array.ghost_name (lent_memory slice).ghost_name (λ ws. record { words = ws; of = array.now.of; positions = array.now.positions })

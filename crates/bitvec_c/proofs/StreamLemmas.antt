@@ -3,7 +3,7 @@ use Rattle.std.proofs.Common.{◌≡◌, ◌≢◌, ℕ, ◌+◌, ◌^◌, ◌<�
 use Rattle.std.specs.Prelude.{not}
 use Rattle.bitvec.specs.Truths.{AllAre}
 use Rattle.bitvec_slice.specs.Bits.{BeginsWith}
-use Rattle.bitvec_slice.specs.Signed.{HasDigits}
+use Rattle.bitvec_slice.specs.Signed.{FitsSignedDigits}
 use Rattle.bitvec_stream.specs.Golomb.{golomb, StartsWith, IsSignedLacking}
 use Rattle.bitvec_stream.specs.Refusals.{IsCodeRefusal}
 use Rattle.bitvec_stream.specs.declared.error.ReadError.{ReadError}
@@ -61,7 +61,7 @@ pub not_below : (n : ℕ) → 2 ^ 64 ≤ n → ¬ n < 2 ^ 64
 not_below n most less = absurd (omega (arith, most, less))
 
 pub not_signed : (n : ℕ) → IsSignedLacking 64 n → ¬ IsSignedPlace n
-not_signed n lacking place = lacking.2 (subst (HasDigits 64) (one_signed place.0 lacking.0 (sym place.1 ∙ lacking.1)) place.2)
+not_signed n lacking place = lacking.2 (subst (FitsSignedDigits 64) (one_signed place.0 lacking.0 (sym place.1 ∙ lacking.1)) place.2)
 
 -- a run that ends is not all that is left
 pub run_ends : (bit : Bool) (xs : List Bool) (count : ℕ) → count < length xs → BeginsWith bit xs count → ¬ AllAre bit xs

@@ -1,7 +1,7 @@
 -- The statuses of the spans of a run and of a run: the first condition that does not hold.
 use Rattle.std.specs.Prelude.{◌≡◌, ◌≢◌, ◌⊎◌, ℕ, ◌≤◌, List, [], ◌∷◌, ◌++◌, length}
 use Rattle.bitvec.specs.Run.{CanRun, IsRising}
-use Rattle.bitvec_c.specs.Call.{Part, order_of}
+use Rattle.bitvec_c.specs.Call.{Operand, order_of}
 use Rattle.bitvec_c.specs.Plain.{plain_span, AllShort, AllInside, AllApart, AreCommands, IsPlainRun}
 use Rattle.bitvec_c.specs.Status.{ok, no_order, too_many_spans, too_long, outside, overlap, no_room, no_command}
 use Rattle.bitvec_c.specs.declared.plain.PlainSpan.{PlainSpan}
@@ -13,7 +13,8 @@ abbrev pub IsFirstFailed : List (Type 0 × ℕ) → ℕ → Type 0
 IsFirstFailed [] status = status ≡ ok
 IsFirstFailed ((condition, code) ∷ others) status = ((¬ condition) × (status ≡ code)) ⊎ (condition × IsFirstFailed others status)
 
--- the conditions of an order and of spans in a memory of `words` words, each with the code of the status that it ends in
+-- the conditions of an order and of at most 64 spans in a memory of `words` words, each with the code of the status that it
+-- ends in
 abbrev pub spans_conditions : ℕ → ℕ → List PlainSpan → ℕ → List (Type 0 × ℕ)
 spans_conditions bits order spans words =
     (order ≤ 1, no_order)
@@ -51,19 +52,19 @@ pub record IsSpansTest (bits : ℕ) (conditions : List (Type 0 × ℕ)) (spans :
   pub can_run : result ≡ ok → CanRun bits (plain_span bits) spans words
 
 -- A call that runs requests under conditions: else the memory and the replies are as before.
-pub record IsRunCall (conditions : List (Type 0 × ℕ)) (spans : List PlainSpan) (old new : Part) (requests : List PlainRequest) (replies_old replies_new : List PlainReply) (result : ℕ) : Type 0 where
+pub record IsRunCall (conditions : List (Type 0 × ℕ)) (spans : List PlainSpan) (old new : Operand) (requests : List PlainRequest) (replies_old replies_new : List PlainReply) (result : ℕ) : Type 0 where
   pub status : IsFirstFailed conditions result
   pub done : result ≡ ok → IsPlainRun old.bits (order_of old) spans old.memory requests replies_new new.memory
   pub kept : result ≢ ok → new.memory ≡ old.memory
   pub unanswered : result ≢ ok → replies_new ≡ replies_old
 
 -- such a call whose run has at most 64 spans
-abbrev pub IsRunOf : List PlainSpan → Part → Part → List PlainRequest → List PlainReply → List PlainReply → ℕ → Type 0
+abbrev pub IsRunOf : List PlainSpan → Operand → Operand → List PlainRequest → List PlainReply → List PlainReply → ℕ → Type 0
 IsRunOf spans old new requests replies_old replies_new result =
     IsRunCall (spans_conditions old.bits old.order spans old.words ++ requests_conditions requests (length replies_old)) spans old new requests replies_old replies_new result
 
 -- such a call with room for the numbers of the spans
-abbrev pub IsRoomyRun : ℕ → List PlainSpan → Part → Part → List PlainRequest → List PlainReply → List PlainReply → ℕ → Type 0
+abbrev pub IsRoomyRun : ℕ → List PlainSpan → Operand → Operand → List PlainRequest → List PlainReply → List PlainReply → ℕ → Type 0
 IsRoomyRun room spans old new requests replies_old replies_new result =
     IsRunCall (roomy_conditions old.bits old.order spans old.words room ++ requests_conditions requests (length replies_old)) spans old new requests replies_old replies_new result
 

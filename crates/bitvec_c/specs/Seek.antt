@@ -12,7 +12,7 @@ IsFirstOr bit xs end i = IsFirst bit xs i ⊎ (AllAre (not bit) xs × (i ≡ end
 abbrev pub IsLastOr : Bool → List Bool → ℕ → ℕ → Type 0
 IsLastOr bit xs end i = IsLast bit xs i ⊎ (AllAre (not bit) xs × (i ≡ end))
 
--- the first index from which on so many elements of a list are there and false, and `end` where there is none
+-- the first index from which on `zeros` elements of a list are there and false, and `end` where there is none
 abbrev pub IsFreeOr : ℕ → List Bool → ℕ → ℕ → Type 0
 IsFreeOr zeros xs end i = (AreFree xs i zeros × ((k : ℕ) → k < i → ¬ AreFree xs k zeros)) ⊎ (((k : ℕ) → ¬ AreFree xs k zeros) × (i ≡ end))
 
@@ -24,7 +24,7 @@ IsNextOr bit from xs end i = IsFirstBetween bit xs from (length xs) i ⊎ (AllBe
 abbrev pub IsPreviousOr : Bool → ℕ → List Bool → ℕ → ℕ → Type 0
 IsPreviousOr bit before xs end i = IsLastBetween bit xs 0 (min before (length xs)) i ⊎ (AllBetween (not bit) xs 0 (min before (length xs)) × (i ≡ end))
 
--- The first index not before `from`, and a multiple of a number, from which on so many elements of a list are there and
+-- The first index not before `from`, and a multiple of a number, from which on `zeros` elements of a list are there and
 -- false, and `end` where there is none. For the number 0 as for 1, each index serves.
 abbrev pub IsFreeFromOr : ℕ → ℕ → ℕ → List Bool → ℕ → ℕ → Type 0
 IsFreeFromOr from zeros multiple_of xs end i =

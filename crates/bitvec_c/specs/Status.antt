@@ -56,7 +56,7 @@ abbrev pub ranges_status : ℕ → ℕ → ℕ → ℕ → ℕ → ℕ → ℕ �
 ranges_status bits order words start other_words other_start count =
     let first = range_status bits order words start count in if first == ok then range_status bits order other_words other_start count else first
 
--- the same of a range that is a number
+-- the same of a range that is a number, which has at most 64 bits
 abbrev pub number_status : ℕ → ℕ → ℕ → ℕ → ℕ → ℕ
 number_status bits order words start count =
     let first = range_status bits order words start count in if first == ok then (if nat_lt 64 count then too_wide else ok) else first

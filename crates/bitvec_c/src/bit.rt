@@ -2,7 +2,7 @@
 
 ghost use Rattle.std.specs.Prelude.{◌≡◌, ◌*◌, ◌<◌, length, map};
 ghost use Rattle.bitvec.specs.Memory.{bit_of};
-ghost use Rattle.bitvec_c.specs.Call.{part, IsBitRead, IsBitWrite};
+ghost use Rattle.bitvec_c.specs.Call.{operand, IsBitRead, IsBitWrite};
 ghost use Rattle.bitvec_c.specs.Order.{order_at};
 ghost use Rattle.bitvec_c.specs.Range.{WritesBit};
 
@@ -33,7 +33,7 @@ pub(crate) fn read<R: BitRegister>(order: u8, memory: &[R], place: usize) -> boo
 
 // Answers the bit at a place.
 fn get<R: BitRegister>(order: u8, memory: &[R], place: usize, bit: &mut bool) -> u8
-    ensures { IsBitRead (part R.number R.BITS order place memory.now) bit.old bit.new result }
+    ensures { IsBitRead (operand R.number R.BITS order place memory.now) bit.old bit.new result }
 {
     // Tested one by one, with no status between: a bit is read in few instructions.
     if order > MSB0 {
@@ -61,7 +61,7 @@ pub(crate) fn write<R: BitRegister>(order: u8, memory: &mut [R], place: usize, b
 
 // Writes the bit at a place where the call's conditions hold, and returns the status.
 fn set<R: BitRegister>(order: u8, memory: &mut [R], place: usize, bit: bool) -> u8
-    ensures { let at = part R.number R.BITS order place in IsBitWrite (at memory.old) (at
+    ensures { let at = operand R.number R.BITS order place in IsBitWrite (at memory.old) (at
         memory.new) bit result }
 {
     let status = test_range::<R>(order, memory.len(), place, 1);
@@ -76,7 +76,7 @@ fn set<R: BitRegister>(order: u8, memory: &mut [R], place: usize, bit: bool) -> 
 /// It refuses with `NO_ORDER` or `OUTSIDE`.
 #[unsafe(no_mangle)]
 pub extern "C" fn bitvec_c_get_u8(order: u8, memory: &[u8], place: usize, bit: &mut bool) -> u8
-    ensures { IsBitRead (part (λ n. n) 8 order place memory.now) bit.old bit.new result }
+    ensures { IsBitRead (operand (λ n. n) 8 order place memory.now) bit.old bit.new result }
 {
     get(order, memory, place, bit)
 }
@@ -86,7 +86,7 @@ pub extern "C" fn bitvec_c_get_u8(order: u8, memory: &[u8], place: usize, bit: &
 /// It refuses with `NO_ORDER` or `OUTSIDE`.
 #[unsafe(no_mangle)]
 pub extern "C" fn bitvec_c_get_u16(order: u8, memory: &[u16], place: usize, bit: &mut bool) -> u8
-    ensures { IsBitRead (part (λ n. n) 16 order place memory.now) bit.old bit.new result }
+    ensures { IsBitRead (operand (λ n. n) 16 order place memory.now) bit.old bit.new result }
 {
     get(order, memory, place, bit)
 }
@@ -96,7 +96,7 @@ pub extern "C" fn bitvec_c_get_u16(order: u8, memory: &[u16], place: usize, bit:
 /// It refuses with `NO_ORDER` or `OUTSIDE`.
 #[unsafe(no_mangle)]
 pub extern "C" fn bitvec_c_get_u32(order: u8, memory: &[u32], place: usize, bit: &mut bool) -> u8
-    ensures { IsBitRead (part (λ n. n) 32 order place memory.now) bit.old bit.new result }
+    ensures { IsBitRead (operand (λ n. n) 32 order place memory.now) bit.old bit.new result }
 {
     get(order, memory, place, bit)
 }
@@ -106,7 +106,7 @@ pub extern "C" fn bitvec_c_get_u32(order: u8, memory: &[u32], place: usize, bit:
 /// It refuses with `NO_ORDER` or `OUTSIDE`.
 #[unsafe(no_mangle)]
 pub extern "C" fn bitvec_c_get_u64(order: u8, memory: &[u64], place: usize, bit: &mut bool) -> u8
-    ensures { IsBitRead (part (λ n. n) 64 order place memory.now) bit.old bit.new result }
+    ensures { IsBitRead (operand (λ n. n) 64 order place memory.now) bit.old bit.new result }
 {
     get(order, memory, place, bit)
 }
@@ -116,7 +116,7 @@ pub extern "C" fn bitvec_c_get_u64(order: u8, memory: &[u64], place: usize, bit:
 /// It refuses with `NO_ORDER` or `OUTSIDE`.
 #[unsafe(no_mangle)]
 pub extern "C" fn bitvec_c_set_u8(order: u8, memory: &mut [u8], place: usize, bit: bool) -> u8
-    ensures { let at = part (λ n. n) 8 order place in IsBitWrite (at memory.old) (at memory.new)
+    ensures { let at = operand (λ n. n) 8 order place in IsBitWrite (at memory.old) (at memory.new)
         bit result }
 {
     set(order, memory, place, bit)
@@ -127,7 +127,7 @@ pub extern "C" fn bitvec_c_set_u8(order: u8, memory: &mut [u8], place: usize, bi
 /// It refuses with `NO_ORDER` or `OUTSIDE`.
 #[unsafe(no_mangle)]
 pub extern "C" fn bitvec_c_set_u16(order: u8, memory: &mut [u16], place: usize, bit: bool) -> u8
-    ensures { let at = part (λ n. n) 16 order place in IsBitWrite (at memory.old) (at
+    ensures { let at = operand (λ n. n) 16 order place in IsBitWrite (at memory.old) (at
         memory.new) bit result }
 {
     set(order, memory, place, bit)
@@ -138,7 +138,7 @@ pub extern "C" fn bitvec_c_set_u16(order: u8, memory: &mut [u16], place: usize, 
 /// It refuses with `NO_ORDER` or `OUTSIDE`.
 #[unsafe(no_mangle)]
 pub extern "C" fn bitvec_c_set_u32(order: u8, memory: &mut [u32], place: usize, bit: bool) -> u8
-    ensures { let at = part (λ n. n) 32 order place in IsBitWrite (at memory.old) (at
+    ensures { let at = operand (λ n. n) 32 order place in IsBitWrite (at memory.old) (at
         memory.new) bit result }
 {
     set(order, memory, place, bit)
@@ -149,7 +149,7 @@ pub extern "C" fn bitvec_c_set_u32(order: u8, memory: &mut [u32], place: usize, 
 /// It refuses with `NO_ORDER` or `OUTSIDE`.
 #[unsafe(no_mangle)]
 pub extern "C" fn bitvec_c_set_u64(order: u8, memory: &mut [u64], place: usize, bit: bool) -> u8
-    ensures { let at = part (λ n. n) 64 order place in IsBitWrite (at memory.old) (at
+    ensures { let at = operand (λ n. n) 64 order place in IsBitWrite (at memory.old) (at
         memory.new) bit result }
 {
     set(order, memory, place, bit)

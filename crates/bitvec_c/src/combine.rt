@@ -4,7 +4,7 @@ ghost use Rattle.std.specs.Prelude.{◌≡◌, ◌+◌, ◌*◌, ◌≤◌, ◌&
 ghost use Rattle.bitvec.specs.Digit.{exclusive_or};
 ghost use Rattle.bitvec.specs.Memory.{zip_with};
 ghost use Rattle.bitvec.specs.Place.{region_max_bits};
-ghost use Rattle.bitvec_c.specs.Call.{part, IsCombination};
+ghost use Rattle.bitvec_c.specs.Call.{operand, IsCombination};
 ghost use Rattle.bitvec_c.specs.Order.{order_at};
 ghost use Rattle.bitvec_c.specs.Range.{range_bits, RangeBecomes};
 
@@ -95,7 +95,7 @@ fn combine<C: Combine, R2: BitRegister, R: BitRegister>(
     to: usize,
     count: usize,
 ) -> u8
-    ensures { let at = part R.number R.BITS order to in IsCombination C.of (part R2.number
+    ensures { let at = operand R.number R.BITS order to in IsCombination C.of (operand R2.number
         R2.BITS source_order from source.now) (at target.old) (at target.new) count result }
 {
     let words = target.len();
@@ -120,7 +120,7 @@ pub extern "C" fn bitvec_c_and_u8(
     target_start: usize,
     count: usize,
 ) -> u8
-    ensures { let at = part (λ n. n) 8 order target_start in IsCombination (λ t s. t && s) (part
+    ensures { let at = operand (λ n. n) 8 order target_start in IsCombination (λ t s. t && s) (operand
         (λ n. n) 8 source_order source_start source.now) (at target.old) (at target.new) count
         result }
 {
@@ -149,8 +149,8 @@ pub extern "C" fn bitvec_c_and_u16(
     target_start: usize,
     count: usize,
 ) -> u8
-    ensures { let at = part (λ n. n) 16 order target_start in IsCombination (λ t s. t && s)
-        (part (λ n. n) 16 source_order source_start source.now) (at target.old) (at target.new)
+    ensures { let at = operand (λ n. n) 16 order target_start in IsCombination (λ t s. t && s)
+        (operand (λ n. n) 16 source_order source_start source.now) (at target.old) (at target.new)
         count result }
 {
     combine::<And, u16, u16>(
@@ -178,8 +178,8 @@ pub extern "C" fn bitvec_c_and_u32(
     target_start: usize,
     count: usize,
 ) -> u8
-    ensures { let at = part (λ n. n) 32 order target_start in IsCombination (λ t s. t && s)
-        (part (λ n. n) 32 source_order source_start source.now) (at target.old) (at target.new)
+    ensures { let at = operand (λ n. n) 32 order target_start in IsCombination (λ t s. t && s)
+        (operand (λ n. n) 32 source_order source_start source.now) (at target.old) (at target.new)
         count result }
 {
     combine::<And, u32, u32>(
@@ -207,8 +207,8 @@ pub extern "C" fn bitvec_c_and_u64(
     target_start: usize,
     count: usize,
 ) -> u8
-    ensures { let at = part (λ n. n) 64 order target_start in IsCombination (λ t s. t && s)
-        (part (λ n. n) 64 source_order source_start source.now) (at target.old) (at target.new)
+    ensures { let at = operand (λ n. n) 64 order target_start in IsCombination (λ t s. t && s)
+        (operand (λ n. n) 64 source_order source_start source.now) (at target.old) (at target.new)
         count result }
 {
     combine::<And, u64, u64>(
@@ -236,7 +236,7 @@ pub extern "C" fn bitvec_c_or_u8(
     target_start: usize,
     count: usize,
 ) -> u8
-    ensures { let at = part (λ n. n) 8 order target_start in IsCombination (λ t s. t || s) (part
+    ensures { let at = operand (λ n. n) 8 order target_start in IsCombination (λ t s. t || s) (operand
         (λ n. n) 8 source_order source_start source.now) (at target.old) (at target.new) count
         result }
 {
@@ -265,8 +265,8 @@ pub extern "C" fn bitvec_c_or_u16(
     target_start: usize,
     count: usize,
 ) -> u8
-    ensures { let at = part (λ n. n) 16 order target_start in IsCombination (λ t s. t || s)
-        (part (λ n. n) 16 source_order source_start source.now) (at target.old) (at target.new)
+    ensures { let at = operand (λ n. n) 16 order target_start in IsCombination (λ t s. t || s)
+        (operand (λ n. n) 16 source_order source_start source.now) (at target.old) (at target.new)
         count result }
 {
     combine::<Or, u16, u16>(
@@ -294,8 +294,8 @@ pub extern "C" fn bitvec_c_or_u32(
     target_start: usize,
     count: usize,
 ) -> u8
-    ensures { let at = part (λ n. n) 32 order target_start in IsCombination (λ t s. t || s)
-        (part (λ n. n) 32 source_order source_start source.now) (at target.old) (at target.new)
+    ensures { let at = operand (λ n. n) 32 order target_start in IsCombination (λ t s. t || s)
+        (operand (λ n. n) 32 source_order source_start source.now) (at target.old) (at target.new)
         count result }
 {
     combine::<Or, u32, u32>(
@@ -323,8 +323,8 @@ pub extern "C" fn bitvec_c_or_u64(
     target_start: usize,
     count: usize,
 ) -> u8
-    ensures { let at = part (λ n. n) 64 order target_start in IsCombination (λ t s. t || s)
-        (part (λ n. n) 64 source_order source_start source.now) (at target.old) (at target.new)
+    ensures { let at = operand (λ n. n) 64 order target_start in IsCombination (λ t s. t || s)
+        (operand (λ n. n) 64 source_order source_start source.now) (at target.old) (at target.new)
         count result }
 {
     combine::<Or, u64, u64>(
@@ -352,7 +352,7 @@ pub extern "C" fn bitvec_c_xor_u8(
     target_start: usize,
     count: usize,
 ) -> u8
-    ensures { let at = part (λ n. n) 8 order target_start in IsCombination exclusive_or (part (λ
+    ensures { let at = operand (λ n. n) 8 order target_start in IsCombination exclusive_or (operand (λ
         n. n) 8 source_order source_start source.now) (at target.old) (at target.new) count
         result }
 {
@@ -381,7 +381,7 @@ pub extern "C" fn bitvec_c_xor_u16(
     target_start: usize,
     count: usize,
 ) -> u8
-    ensures { let at = part (λ n. n) 16 order target_start in IsCombination exclusive_or (part
+    ensures { let at = operand (λ n. n) 16 order target_start in IsCombination exclusive_or (operand
         (λ n. n) 16 source_order source_start source.now) (at target.old) (at target.new) count
         result }
 {
@@ -410,7 +410,7 @@ pub extern "C" fn bitvec_c_xor_u32(
     target_start: usize,
     count: usize,
 ) -> u8
-    ensures { let at = part (λ n. n) 32 order target_start in IsCombination exclusive_or (part
+    ensures { let at = operand (λ n. n) 32 order target_start in IsCombination exclusive_or (operand
         (λ n. n) 32 source_order source_start source.now) (at target.old) (at target.new) count
         result }
 {
@@ -439,7 +439,7 @@ pub extern "C" fn bitvec_c_xor_u64(
     target_start: usize,
     count: usize,
 ) -> u8
-    ensures { let at = part (λ n. n) 64 order target_start in IsCombination exclusive_or (part
+    ensures { let at = operand (λ n. n) 64 order target_start in IsCombination exclusive_or (operand
         (λ n. n) 64 source_order source_start source.now) (at target.old) (at target.new) count
         result }
 {
@@ -468,8 +468,8 @@ pub extern "C" fn bitvec_c_and_not_u8(
     target_start: usize,
     count: usize,
 ) -> u8
-    ensures { let at = part (λ n. n) 8 order target_start in IsCombination (λ t s. t && not s)
-        (part (λ n. n) 8 source_order source_start source.now) (at target.old) (at target.new)
+    ensures { let at = operand (λ n. n) 8 order target_start in IsCombination (λ t s. t && not s)
+        (operand (λ n. n) 8 source_order source_start source.now) (at target.old) (at target.new)
         count result }
 {
     combine::<AndNot, u8, u8>(
@@ -497,8 +497,8 @@ pub extern "C" fn bitvec_c_and_not_u16(
     target_start: usize,
     count: usize,
 ) -> u8
-    ensures { let at = part (λ n. n) 16 order target_start in IsCombination (λ t s. t && not s)
-        (part (λ n. n) 16 source_order source_start source.now) (at target.old) (at target.new)
+    ensures { let at = operand (λ n. n) 16 order target_start in IsCombination (λ t s. t && not s)
+        (operand (λ n. n) 16 source_order source_start source.now) (at target.old) (at target.new)
         count result }
 {
     combine::<AndNot, u16, u16>(
@@ -526,8 +526,8 @@ pub extern "C" fn bitvec_c_and_not_u32(
     target_start: usize,
     count: usize,
 ) -> u8
-    ensures { let at = part (λ n. n) 32 order target_start in IsCombination (λ t s. t && not s)
-        (part (λ n. n) 32 source_order source_start source.now) (at target.old) (at target.new)
+    ensures { let at = operand (λ n. n) 32 order target_start in IsCombination (λ t s. t && not s)
+        (operand (λ n. n) 32 source_order source_start source.now) (at target.old) (at target.new)
         count result }
 {
     combine::<AndNot, u32, u32>(
@@ -555,8 +555,8 @@ pub extern "C" fn bitvec_c_and_not_u64(
     target_start: usize,
     count: usize,
 ) -> u8
-    ensures { let at = part (λ n. n) 64 order target_start in IsCombination (λ t s. t && not s)
-        (part (λ n. n) 64 source_order source_start source.now) (at target.old) (at target.new)
+    ensures { let at = operand (λ n. n) 64 order target_start in IsCombination (λ t s. t && not s)
+        (operand (λ n. n) 64 source_order source_start source.now) (at target.old) (at target.new)
         count result }
 {
     combine::<AndNot, u64, u64>(

@@ -2,7 +2,7 @@
 
 ghost use Rattle.std.specs.Prelude.{◌≡◌, ◌+◌, ◌*◌, ◌≤◌, length, map};
 ghost use Rattle.bitvec.specs.Place.{region_max_bits};
-ghost use Rattle.bitvec_c.specs.Call.{part, IsPut};
+ghost use Rattle.bitvec_c.specs.Call.{operand, IsPut};
 ghost use Rattle.bitvec_c.specs.Order.{order_at};
 ghost use Rattle.bitvec_c.specs.Range.{range_bits, RangeBecomes};
 
@@ -88,7 +88,7 @@ fn convert<R2: BitRegister, R: BitRegister>(
     to: usize,
     count: usize,
 ) -> u8
-    ensures { let at = part R.number R.BITS order to in IsPut (part R2.number R2.BITS
+    ensures { let at = operand R.number R.BITS order to in IsPut (operand R2.number R2.BITS
         source_order from source.now) (at target.old) (at target.new) count result }
 {
     let words = target.len();
@@ -113,7 +113,7 @@ pub extern "C" fn bitvec_c_copy_u8_to_u8(
     target_start: usize,
     count: usize,
 ) -> u8
-    ensures { let at = part (λ n. n) 8 order target_start in IsPut (part (λ n. n) 8 source_order
+    ensures { let at = operand (λ n. n) 8 order target_start in IsPut (operand (λ n. n) 8 source_order
         source_start source.now) (at target.old) (at target.new) count result }
 {
     convert::<u8, u8>(
@@ -141,7 +141,7 @@ pub extern "C" fn bitvec_c_copy_u8_to_u16(
     target_start: usize,
     count: usize,
 ) -> u8
-    ensures { let at = part (λ n. n) 16 order target_start in IsPut (part (λ n. n) 8
+    ensures { let at = operand (λ n. n) 16 order target_start in IsPut (operand (λ n. n) 8
         source_order source_start source.now) (at target.old) (at target.new) count result }
 {
     convert::<u8, u16>(
@@ -169,7 +169,7 @@ pub extern "C" fn bitvec_c_copy_u8_to_u32(
     target_start: usize,
     count: usize,
 ) -> u8
-    ensures { let at = part (λ n. n) 32 order target_start in IsPut (part (λ n. n) 8
+    ensures { let at = operand (λ n. n) 32 order target_start in IsPut (operand (λ n. n) 8
         source_order source_start source.now) (at target.old) (at target.new) count result }
 {
     convert::<u8, u32>(
@@ -197,7 +197,7 @@ pub extern "C" fn bitvec_c_copy_u8_to_u64(
     target_start: usize,
     count: usize,
 ) -> u8
-    ensures { let at = part (λ n. n) 64 order target_start in IsPut (part (λ n. n) 8
+    ensures { let at = operand (λ n. n) 64 order target_start in IsPut (operand (λ n. n) 8
         source_order source_start source.now) (at target.old) (at target.new) count result }
 {
     convert::<u8, u64>(
@@ -225,7 +225,7 @@ pub extern "C" fn bitvec_c_copy_u16_to_u8(
     target_start: usize,
     count: usize,
 ) -> u8
-    ensures { let at = part (λ n. n) 8 order target_start in IsPut (part (λ n. n) 16
+    ensures { let at = operand (λ n. n) 8 order target_start in IsPut (operand (λ n. n) 16
         source_order source_start source.now) (at target.old) (at target.new) count result }
 {
     convert::<u16, u8>(
@@ -253,7 +253,7 @@ pub extern "C" fn bitvec_c_copy_u16_to_u16(
     target_start: usize,
     count: usize,
 ) -> u8
-    ensures { let at = part (λ n. n) 16 order target_start in IsPut (part (λ n. n) 16
+    ensures { let at = operand (λ n. n) 16 order target_start in IsPut (operand (λ n. n) 16
         source_order source_start source.now) (at target.old) (at target.new) count result }
 {
     convert::<u16, u16>(
@@ -281,7 +281,7 @@ pub extern "C" fn bitvec_c_copy_u16_to_u32(
     target_start: usize,
     count: usize,
 ) -> u8
-    ensures { let at = part (λ n. n) 32 order target_start in IsPut (part (λ n. n) 16
+    ensures { let at = operand (λ n. n) 32 order target_start in IsPut (operand (λ n. n) 16
         source_order source_start source.now) (at target.old) (at target.new) count result }
 {
     convert::<u16, u32>(
@@ -309,7 +309,7 @@ pub extern "C" fn bitvec_c_copy_u16_to_u64(
     target_start: usize,
     count: usize,
 ) -> u8
-    ensures { let at = part (λ n. n) 64 order target_start in IsPut (part (λ n. n) 16
+    ensures { let at = operand (λ n. n) 64 order target_start in IsPut (operand (λ n. n) 16
         source_order source_start source.now) (at target.old) (at target.new) count result }
 {
     convert::<u16, u64>(
@@ -337,7 +337,7 @@ pub extern "C" fn bitvec_c_copy_u32_to_u8(
     target_start: usize,
     count: usize,
 ) -> u8
-    ensures { let at = part (λ n. n) 8 order target_start in IsPut (part (λ n. n) 32
+    ensures { let at = operand (λ n. n) 8 order target_start in IsPut (operand (λ n. n) 32
         source_order source_start source.now) (at target.old) (at target.new) count result }
 {
     convert::<u32, u8>(
@@ -365,7 +365,7 @@ pub extern "C" fn bitvec_c_copy_u32_to_u16(
     target_start: usize,
     count: usize,
 ) -> u8
-    ensures { let at = part (λ n. n) 16 order target_start in IsPut (part (λ n. n) 32
+    ensures { let at = operand (λ n. n) 16 order target_start in IsPut (operand (λ n. n) 32
         source_order source_start source.now) (at target.old) (at target.new) count result }
 {
     convert::<u32, u16>(
@@ -393,7 +393,7 @@ pub extern "C" fn bitvec_c_copy_u32_to_u32(
     target_start: usize,
     count: usize,
 ) -> u8
-    ensures { let at = part (λ n. n) 32 order target_start in IsPut (part (λ n. n) 32
+    ensures { let at = operand (λ n. n) 32 order target_start in IsPut (operand (λ n. n) 32
         source_order source_start source.now) (at target.old) (at target.new) count result }
 {
     convert::<u32, u32>(
@@ -421,7 +421,7 @@ pub extern "C" fn bitvec_c_copy_u32_to_u64(
     target_start: usize,
     count: usize,
 ) -> u8
-    ensures { let at = part (λ n. n) 64 order target_start in IsPut (part (λ n. n) 32
+    ensures { let at = operand (λ n. n) 64 order target_start in IsPut (operand (λ n. n) 32
         source_order source_start source.now) (at target.old) (at target.new) count result }
 {
     convert::<u32, u64>(
@@ -449,7 +449,7 @@ pub extern "C" fn bitvec_c_copy_u64_to_u8(
     target_start: usize,
     count: usize,
 ) -> u8
-    ensures { let at = part (λ n. n) 8 order target_start in IsPut (part (λ n. n) 64
+    ensures { let at = operand (λ n. n) 8 order target_start in IsPut (operand (λ n. n) 64
         source_order source_start source.now) (at target.old) (at target.new) count result }
 {
     convert::<u64, u8>(
@@ -477,7 +477,7 @@ pub extern "C" fn bitvec_c_copy_u64_to_u16(
     target_start: usize,
     count: usize,
 ) -> u8
-    ensures { let at = part (λ n. n) 16 order target_start in IsPut (part (λ n. n) 64
+    ensures { let at = operand (λ n. n) 16 order target_start in IsPut (operand (λ n. n) 64
         source_order source_start source.now) (at target.old) (at target.new) count result }
 {
     convert::<u64, u16>(
@@ -505,7 +505,7 @@ pub extern "C" fn bitvec_c_copy_u64_to_u32(
     target_start: usize,
     count: usize,
 ) -> u8
-    ensures { let at = part (λ n. n) 32 order target_start in IsPut (part (λ n. n) 64
+    ensures { let at = operand (λ n. n) 32 order target_start in IsPut (operand (λ n. n) 64
         source_order source_start source.now) (at target.old) (at target.new) count result }
 {
     convert::<u64, u32>(
@@ -533,7 +533,7 @@ pub extern "C" fn bitvec_c_copy_u64_to_u64(
     target_start: usize,
     count: usize,
 ) -> u8
-    ensures { let at = part (λ n. n) 64 order target_start in IsPut (part (λ n. n) 64
+    ensures { let at = operand (λ n. n) 64 order target_start in IsPut (operand (λ n. n) 64
         source_order source_start source.now) (at target.old) (at target.new) count result }
 {
     convert::<u64, u64>(

@@ -1,7 +1,7 @@
 //! Copies of ranges of bits, between two memories and inside one.
 
 ghost use Rattle.std.specs.Prelude.{◌≡◌, ◌+◌, ◌*◌, ◌≤◌, length, map};
-ghost use Rattle.bitvec_c.specs.Call.{part, IsCopy};
+ghost use Rattle.bitvec_c.specs.Call.{operand, IsCopy};
 ghost use Rattle.bitvec_c.specs.Order.{order_at};
 ghost use Rattle.bitvec_c.specs.Range.{CopiesBits};
 
@@ -58,7 +58,7 @@ fn copy<R: BitRegister>(
     to: usize,
     count: usize,
 ) -> u8
-    ensures { let at = part R.number R.BITS order in IsCopy (at from source.now) (at to
+    ensures { let at = operand R.number R.BITS order in IsCopy (at from source.now) (at to
         target.old) (at to target.new) count result }
 {
     let words = target.len();
@@ -104,7 +104,7 @@ fn copy_within<R: BitRegister>(
     to: usize,
     count: usize,
 ) -> u8
-    ensures { let at = part R.number R.BITS order in IsCopy (at from memory.old) (at to
+    ensures { let at = operand R.number R.BITS order in IsCopy (at from memory.old) (at to
         memory.old) (at to memory.new) count result }
 {
     let words = memory.len();
@@ -128,7 +128,7 @@ pub extern "C" fn bitvec_c_copy_u8(
     target_start: usize,
     count: usize,
 ) -> u8
-    ensures { let at = part (λ n. n) 8 order in IsCopy (at source_start source.now) (at
+    ensures { let at = operand (λ n. n) 8 order in IsCopy (at source_start source.now) (at
         target_start target.old) (at target_start target.new) count result }
 {
     copy(order, source, source_start, target, target_start, count)
@@ -147,7 +147,7 @@ pub extern "C" fn bitvec_c_copy_u16(
     target_start: usize,
     count: usize,
 ) -> u8
-    ensures { let at = part (λ n. n) 16 order in IsCopy (at source_start source.now) (at
+    ensures { let at = operand (λ n. n) 16 order in IsCopy (at source_start source.now) (at
         target_start target.old) (at target_start target.new) count result }
 {
     copy(order, source, source_start, target, target_start, count)
@@ -166,7 +166,7 @@ pub extern "C" fn bitvec_c_copy_u32(
     target_start: usize,
     count: usize,
 ) -> u8
-    ensures { let at = part (λ n. n) 32 order in IsCopy (at source_start source.now) (at
+    ensures { let at = operand (λ n. n) 32 order in IsCopy (at source_start source.now) (at
         target_start target.old) (at target_start target.new) count result }
 {
     copy(order, source, source_start, target, target_start, count)
@@ -185,7 +185,7 @@ pub extern "C" fn bitvec_c_copy_u64(
     target_start: usize,
     count: usize,
 ) -> u8
-    ensures { let at = part (λ n. n) 64 order in IsCopy (at source_start source.now) (at
+    ensures { let at = operand (λ n. n) 64 order in IsCopy (at source_start source.now) (at
         target_start target.old) (at target_start target.new) count result }
 {
     copy(order, source, source_start, target, target_start, count)
@@ -203,7 +203,7 @@ pub extern "C" fn bitvec_c_copy_within_u8(
     target_start: usize,
     count: usize,
 ) -> u8
-    ensures { let at = part (λ n. n) 8 order in IsCopy (at source_start memory.old) (at
+    ensures { let at = operand (λ n. n) 8 order in IsCopy (at source_start memory.old) (at
         target_start memory.old) (at target_start memory.new) count result }
 {
     copy_within(order, memory, source_start, target_start, count)
@@ -221,7 +221,7 @@ pub extern "C" fn bitvec_c_copy_within_u16(
     target_start: usize,
     count: usize,
 ) -> u8
-    ensures { let at = part (λ n. n) 16 order in IsCopy (at source_start memory.old) (at
+    ensures { let at = operand (λ n. n) 16 order in IsCopy (at source_start memory.old) (at
         target_start memory.old) (at target_start memory.new) count result }
 {
     copy_within(order, memory, source_start, target_start, count)
@@ -239,7 +239,7 @@ pub extern "C" fn bitvec_c_copy_within_u32(
     target_start: usize,
     count: usize,
 ) -> u8
-    ensures { let at = part (λ n. n) 32 order in IsCopy (at source_start memory.old) (at
+    ensures { let at = operand (λ n. n) 32 order in IsCopy (at source_start memory.old) (at
         target_start memory.old) (at target_start memory.new) count result }
 {
     copy_within(order, memory, source_start, target_start, count)
@@ -257,7 +257,7 @@ pub extern "C" fn bitvec_c_copy_within_u64(
     target_start: usize,
     count: usize,
 ) -> u8
-    ensures { let at = part (λ n. n) 64 order in IsCopy (at source_start memory.old) (at
+    ensures { let at = operand (λ n. n) 64 order in IsCopy (at source_start memory.old) (at
         target_start memory.old) (at target_start memory.new) count result }
 {
     copy_within(order, memory, source_start, target_start, count)

@@ -3,7 +3,7 @@
 ghost use Rattle.std.specs.Prelude.{◌≡◌, ◌+◌, ◌-◌, ◌*◌, ◌≤◌, ◌++◌, false, not, length, map};
 ghost use Rattle.std.specs.Prelude.{take, drop, reverse, replicate};
 ghost use Rattle.bitvec.specs.Place.{region_max_bits};
-ghost use Rattle.bitvec_c.specs.Call.{part, IsEdit, IsMove};
+ghost use Rattle.bitvec_c.specs.Call.{operand, IsEdit, IsMove};
 ghost use Rattle.bitvec_c.specs.Edit.{edited, moved_by};
 ghost use Rattle.bitvec_c.specs.Order.{order_at};
 ghost use Rattle.bitvec_c.specs.Range.{range_bits, RangeBecomes};
@@ -85,7 +85,7 @@ fn try_edit<R: BitRegister>(
     count: usize,
     edit: Edit,
 ) -> u8
-    ensures { let at = part R.number R.BITS order start in IsMove (moved_by edit) (at
+    ensures { let at = operand R.number R.BITS order start in IsMove (moved_by edit) (at
         memory.old) (at memory.new) count (edited edit) result }
 {
     let status = test_moved::<R>(order, memory.len(), start, count, moves(edit));
@@ -104,7 +104,7 @@ fn edit_all<R: BitRegister>(
     edit: Edit,
 ) -> u8
     requires { moved_by edit ≡ 0 }
-    ensures { let at = part R.number R.BITS order start in IsEdit (at memory.old) (at
+    ensures { let at = operand R.number R.BITS order start in IsEdit (at memory.old) (at
         memory.new) count (edited edit) result }
 {
     let status = test_range::<R>(order, memory.len(), start, count);
@@ -119,7 +119,7 @@ fn edit_all<R: BitRegister>(
 /// It refuses with `NO_ORDER`, `TOO_LONG` or `OUTSIDE`.
 #[unsafe(no_mangle)]
 pub extern "C" fn bitvec_c_invert_u8(order: u8, memory: &mut [u8], start: usize, count: usize) -> u8
-    ensures { let at = part (λ n. n) 8 order start in IsEdit (at memory.old) (at memory.new)
+    ensures { let at = operand (λ n. n) 8 order start in IsEdit (at memory.old) (at memory.new)
         count (map not) result }
 {
     edit_all(order, memory, start, count, Edit::Invert)
@@ -135,7 +135,7 @@ pub extern "C" fn bitvec_c_invert_u16(
     start: usize,
     count: usize,
 ) -> u8
-    ensures { let at = part (λ n. n) 16 order start in IsEdit (at memory.old) (at memory.new)
+    ensures { let at = operand (λ n. n) 16 order start in IsEdit (at memory.old) (at memory.new)
         count (map not) result }
 {
     edit_all(order, memory, start, count, Edit::Invert)
@@ -151,7 +151,7 @@ pub extern "C" fn bitvec_c_invert_u32(
     start: usize,
     count: usize,
 ) -> u8
-    ensures { let at = part (λ n. n) 32 order start in IsEdit (at memory.old) (at memory.new)
+    ensures { let at = operand (λ n. n) 32 order start in IsEdit (at memory.old) (at memory.new)
         count (map not) result }
 {
     edit_all(order, memory, start, count, Edit::Invert)
@@ -167,7 +167,7 @@ pub extern "C" fn bitvec_c_invert_u64(
     start: usize,
     count: usize,
 ) -> u8
-    ensures { let at = part (λ n. n) 64 order start in IsEdit (at memory.old) (at memory.new)
+    ensures { let at = operand (λ n. n) 64 order start in IsEdit (at memory.old) (at memory.new)
         count (map not) result }
 {
     edit_all(order, memory, start, count, Edit::Invert)
@@ -184,7 +184,7 @@ pub extern "C" fn bitvec_c_reverse_u8(
     start: usize,
     count: usize,
 ) -> u8
-    ensures { let at = part (λ n. n) 8 order start in IsEdit (at memory.old) (at memory.new)
+    ensures { let at = operand (λ n. n) 8 order start in IsEdit (at memory.old) (at memory.new)
         count reverse result }
 {
     edit_all(order, memory, start, count, Edit::Reverse)
@@ -201,7 +201,7 @@ pub extern "C" fn bitvec_c_reverse_u16(
     start: usize,
     count: usize,
 ) -> u8
-    ensures { let at = part (λ n. n) 16 order start in IsEdit (at memory.old) (at memory.new)
+    ensures { let at = operand (λ n. n) 16 order start in IsEdit (at memory.old) (at memory.new)
         count reverse result }
 {
     edit_all(order, memory, start, count, Edit::Reverse)
@@ -218,7 +218,7 @@ pub extern "C" fn bitvec_c_reverse_u32(
     start: usize,
     count: usize,
 ) -> u8
-    ensures { let at = part (λ n. n) 32 order start in IsEdit (at memory.old) (at memory.new)
+    ensures { let at = operand (λ n. n) 32 order start in IsEdit (at memory.old) (at memory.new)
         count reverse result }
 {
     edit_all(order, memory, start, count, Edit::Reverse)
@@ -235,7 +235,7 @@ pub extern "C" fn bitvec_c_reverse_u64(
     start: usize,
     count: usize,
 ) -> u8
-    ensures { let at = part (λ n. n) 64 order start in IsEdit (at memory.old) (at memory.new)
+    ensures { let at = operand (λ n. n) 64 order start in IsEdit (at memory.old) (at memory.new)
         count reverse result }
 {
     edit_all(order, memory, start, count, Edit::Reverse)
@@ -253,7 +253,7 @@ pub extern "C" fn bitvec_c_shift_left_u8(
     count: usize,
     by: usize,
 ) -> u8
-    ensures { let at = part (λ n. n) 8 order start in IsMove by (at memory.old) (at memory.new)
+    ensures { let at = operand (λ n. n) 8 order start in IsMove by (at memory.old) (at memory.new)
         count (λ xs. drop by xs ++ replicate by false) result }
 {
     try_edit(order, memory, start, count, Edit::ShiftLeft(by))
@@ -271,7 +271,7 @@ pub extern "C" fn bitvec_c_shift_left_u16(
     count: usize,
     by: usize,
 ) -> u8
-    ensures { let at = part (λ n. n) 16 order start in IsMove by (at memory.old) (at memory.new)
+    ensures { let at = operand (λ n. n) 16 order start in IsMove by (at memory.old) (at memory.new)
         count (λ xs. drop by xs ++ replicate by false) result }
 {
     try_edit(order, memory, start, count, Edit::ShiftLeft(by))
@@ -289,7 +289,7 @@ pub extern "C" fn bitvec_c_shift_left_u32(
     count: usize,
     by: usize,
 ) -> u8
-    ensures { let at = part (λ n. n) 32 order start in IsMove by (at memory.old) (at memory.new)
+    ensures { let at = operand (λ n. n) 32 order start in IsMove by (at memory.old) (at memory.new)
         count (λ xs. drop by xs ++ replicate by false) result }
 {
     try_edit(order, memory, start, count, Edit::ShiftLeft(by))
@@ -307,7 +307,7 @@ pub extern "C" fn bitvec_c_shift_left_u64(
     count: usize,
     by: usize,
 ) -> u8
-    ensures { let at = part (λ n. n) 64 order start in IsMove by (at memory.old) (at memory.new)
+    ensures { let at = operand (λ n. n) 64 order start in IsMove by (at memory.old) (at memory.new)
         count (λ xs. drop by xs ++ replicate by false) result }
 {
     try_edit(order, memory, start, count, Edit::ShiftLeft(by))
@@ -325,7 +325,7 @@ pub extern "C" fn bitvec_c_shift_right_u8(
     count: usize,
     by: usize,
 ) -> u8
-    ensures { let at = part (λ n. n) 8 order start in IsMove by (at memory.old) (at memory.new)
+    ensures { let at = operand (λ n. n) 8 order start in IsMove by (at memory.old) (at memory.new)
         count (λ xs. replicate by false ++ take (length xs - by) xs) result }
 {
     try_edit(order, memory, start, count, Edit::ShiftRight(by))
@@ -343,7 +343,7 @@ pub extern "C" fn bitvec_c_shift_right_u16(
     count: usize,
     by: usize,
 ) -> u8
-    ensures { let at = part (λ n. n) 16 order start in IsMove by (at memory.old) (at memory.new)
+    ensures { let at = operand (λ n. n) 16 order start in IsMove by (at memory.old) (at memory.new)
         count (λ xs. replicate by false ++ take (length xs - by) xs) result }
 {
     try_edit(order, memory, start, count, Edit::ShiftRight(by))
@@ -361,7 +361,7 @@ pub extern "C" fn bitvec_c_shift_right_u32(
     count: usize,
     by: usize,
 ) -> u8
-    ensures { let at = part (λ n. n) 32 order start in IsMove by (at memory.old) (at memory.new)
+    ensures { let at = operand (λ n. n) 32 order start in IsMove by (at memory.old) (at memory.new)
         count (λ xs. replicate by false ++ take (length xs - by) xs) result }
 {
     try_edit(order, memory, start, count, Edit::ShiftRight(by))
@@ -379,7 +379,7 @@ pub extern "C" fn bitvec_c_shift_right_u64(
     count: usize,
     by: usize,
 ) -> u8
-    ensures { let at = part (λ n. n) 64 order start in IsMove by (at memory.old) (at memory.new)
+    ensures { let at = operand (λ n. n) 64 order start in IsMove by (at memory.old) (at memory.new)
         count (λ xs. replicate by false ++ take (length xs - by) xs) result }
 {
     try_edit(order, memory, start, count, Edit::ShiftRight(by))
@@ -397,7 +397,7 @@ pub extern "C" fn bitvec_c_rotate_left_u8(
     count: usize,
     by: usize,
 ) -> u8
-    ensures { let at = part (λ n. n) 8 order start in IsMove by (at memory.old) (at memory.new)
+    ensures { let at = operand (λ n. n) 8 order start in IsMove by (at memory.old) (at memory.new)
         count (λ xs. drop by xs ++ take by xs) result }
 {
     try_edit(order, memory, start, count, Edit::RotateLeft(by))
@@ -415,7 +415,7 @@ pub extern "C" fn bitvec_c_rotate_left_u16(
     count: usize,
     by: usize,
 ) -> u8
-    ensures { let at = part (λ n. n) 16 order start in IsMove by (at memory.old) (at memory.new)
+    ensures { let at = operand (λ n. n) 16 order start in IsMove by (at memory.old) (at memory.new)
         count (λ xs. drop by xs ++ take by xs) result }
 {
     try_edit(order, memory, start, count, Edit::RotateLeft(by))
@@ -433,7 +433,7 @@ pub extern "C" fn bitvec_c_rotate_left_u32(
     count: usize,
     by: usize,
 ) -> u8
-    ensures { let at = part (λ n. n) 32 order start in IsMove by (at memory.old) (at memory.new)
+    ensures { let at = operand (λ n. n) 32 order start in IsMove by (at memory.old) (at memory.new)
         count (λ xs. drop by xs ++ take by xs) result }
 {
     try_edit(order, memory, start, count, Edit::RotateLeft(by))
@@ -451,7 +451,7 @@ pub extern "C" fn bitvec_c_rotate_left_u64(
     count: usize,
     by: usize,
 ) -> u8
-    ensures { let at = part (λ n. n) 64 order start in IsMove by (at memory.old) (at memory.new)
+    ensures { let at = operand (λ n. n) 64 order start in IsMove by (at memory.old) (at memory.new)
         count (λ xs. drop by xs ++ take by xs) result }
 {
     try_edit(order, memory, start, count, Edit::RotateLeft(by))

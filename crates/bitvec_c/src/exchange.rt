@@ -2,7 +2,7 @@
 
 ghost use Rattle.std.specs.Prelude.{◌≡◌, ◌*◌, ◌<◌, length, map};
 ghost use Rattle.bitvec.specs.Memory.{bit_of};
-ghost use Rattle.bitvec_c.specs.Call.{part, IsReplacement, IsExchange};
+ghost use Rattle.bitvec_c.specs.Call.{operand, IsReplacement, IsExchange};
 ghost use Rattle.bitvec_c.specs.Order.{order_at};
 ghost use Rattle.bitvec_c.specs.Range.{ExchangesBits};
 
@@ -18,7 +18,7 @@ fn replace<R: BitRegister>(
     bit: bool,
     before: &mut bool,
 ) -> u8
-    ensures { let at = part R.number R.BITS order place in IsReplacement (at memory.old)
+    ensures { let at = operand R.number R.BITS order place in IsReplacement (at memory.old)
         (at memory.new) bit before.old before.new result }
 {
     let status = test_range::<R>(order, memory.len(), place, 1);
@@ -44,7 +44,7 @@ fn exchange<R: BitRegister>(order: u8, memory: &mut [R], place: usize, other_pla
 
 // Exchanges the bits at two places where the call's conditions hold, and returns the status.
 fn swap<R: BitRegister>(order: u8, memory: &mut [R], place: usize, other_place: usize) -> u8
-    ensures { let at = part R.number R.BITS order place in IsExchange (at memory.old)
+    ensures { let at = operand R.number R.BITS order place in IsExchange (at memory.old)
         (at memory.new) other_place result }
 {
     let words = memory.len();
@@ -67,7 +67,7 @@ pub extern "C" fn bitvec_c_replace_u8(
     bit: bool,
     before: &mut bool,
 ) -> u8
-    ensures { let at = part (λ n. n) 8 order place in IsReplacement (at memory.old) (at
+    ensures { let at = operand (λ n. n) 8 order place in IsReplacement (at memory.old) (at
         memory.new) bit before.old before.new result }
 {
     replace(order, memory, place, bit, before)
@@ -85,7 +85,7 @@ pub extern "C" fn bitvec_c_replace_u16(
     bit: bool,
     before: &mut bool,
 ) -> u8
-    ensures { let at = part (λ n. n) 16 order place in IsReplacement (at memory.old) (at
+    ensures { let at = operand (λ n. n) 16 order place in IsReplacement (at memory.old) (at
         memory.new) bit before.old before.new result }
 {
     replace(order, memory, place, bit, before)
@@ -103,7 +103,7 @@ pub extern "C" fn bitvec_c_replace_u32(
     bit: bool,
     before: &mut bool,
 ) -> u8
-    ensures { let at = part (λ n. n) 32 order place in IsReplacement (at memory.old) (at
+    ensures { let at = operand (λ n. n) 32 order place in IsReplacement (at memory.old) (at
         memory.new) bit before.old before.new result }
 {
     replace(order, memory, place, bit, before)
@@ -121,7 +121,7 @@ pub extern "C" fn bitvec_c_replace_u64(
     bit: bool,
     before: &mut bool,
 ) -> u8
-    ensures { let at = part (λ n. n) 64 order place in IsReplacement (at memory.old) (at
+    ensures { let at = operand (λ n. n) 64 order place in IsReplacement (at memory.old) (at
         memory.new) bit before.old before.new result }
 {
     replace(order, memory, place, bit, before)
@@ -137,7 +137,7 @@ pub extern "C" fn bitvec_c_swap_u8(
     place: usize,
     other_place: usize,
 ) -> u8
-    ensures { let at = part (λ n. n) 8 order place in IsExchange (at memory.old) (at memory.new)
+    ensures { let at = operand (λ n. n) 8 order place in IsExchange (at memory.old) (at memory.new)
         other_place result }
 {
     swap(order, memory, place, other_place)
@@ -153,7 +153,7 @@ pub extern "C" fn bitvec_c_swap_u16(
     place: usize,
     other_place: usize,
 ) -> u8
-    ensures { let at = part (λ n. n) 16 order place in IsExchange (at memory.old) (at
+    ensures { let at = operand (λ n. n) 16 order place in IsExchange (at memory.old) (at
         memory.new) other_place result }
 {
     swap(order, memory, place, other_place)
@@ -169,7 +169,7 @@ pub extern "C" fn bitvec_c_swap_u32(
     place: usize,
     other_place: usize,
 ) -> u8
-    ensures { let at = part (λ n. n) 32 order place in IsExchange (at memory.old) (at
+    ensures { let at = operand (λ n. n) 32 order place in IsExchange (at memory.old) (at
         memory.new) other_place result }
 {
     swap(order, memory, place, other_place)
@@ -185,7 +185,7 @@ pub extern "C" fn bitvec_c_swap_u64(
     place: usize,
     other_place: usize,
 ) -> u8
-    ensures { let at = part (λ n. n) 64 order place in IsExchange (at memory.old) (at
+    ensures { let at = operand (λ n. n) 64 order place in IsExchange (at memory.old) (at
         memory.new) other_place result }
 {
     swap(order, memory, place, other_place)

@@ -2,7 +2,7 @@
 
 ghost use Rattle.std.specs.Prelude.{◌≡◌, ◌+◌, ◌*◌, ◌≤◌, length, map, replicate};
 ghost use Rattle.bitvec.specs.Place.{region_max_bits};
-ghost use Rattle.bitvec_c.specs.Call.{part, IsEdit};
+ghost use Rattle.bitvec_c.specs.Call.{operand, IsEdit};
 ghost use Rattle.bitvec_c.specs.Order.{order_at};
 ghost use Rattle.bitvec_c.specs.Range.{RangeBecomes};
 
@@ -37,7 +37,7 @@ fn fill_range<R: BitRegister>(order: u8, memory: &mut [R], start: usize, count: 
 
 // Makes each bit of a range the same where the call's conditions hold, and returns the status.
 fn fill<R: BitRegister>(order: u8, memory: &mut [R], start: usize, count: usize, bit: bool) -> u8
-    ensures { let at = part R.number R.BITS order start in IsEdit (at memory.old) (at
+    ensures { let at = operand R.number R.BITS order start in IsEdit (at memory.old) (at
         memory.new) count (λ xs. replicate count bit) result }
 {
     let status = test_range::<R>(order, memory.len(), start, count);
@@ -58,7 +58,7 @@ pub extern "C" fn bitvec_c_fill_u8(
     count: usize,
     bit: bool,
 ) -> u8
-    ensures { let at = part (λ n. n) 8 order start in IsEdit (at memory.old) (at memory.new)
+    ensures { let at = operand (λ n. n) 8 order start in IsEdit (at memory.old) (at memory.new)
         count (λ xs. replicate count bit) result }
 {
     fill(order, memory, start, count, bit)
@@ -75,7 +75,7 @@ pub extern "C" fn bitvec_c_fill_u16(
     count: usize,
     bit: bool,
 ) -> u8
-    ensures { let at = part (λ n. n) 16 order start in IsEdit (at memory.old) (at memory.new)
+    ensures { let at = operand (λ n. n) 16 order start in IsEdit (at memory.old) (at memory.new)
         count (λ xs. replicate count bit) result }
 {
     fill(order, memory, start, count, bit)
@@ -92,7 +92,7 @@ pub extern "C" fn bitvec_c_fill_u32(
     count: usize,
     bit: bool,
 ) -> u8
-    ensures { let at = part (λ n. n) 32 order start in IsEdit (at memory.old) (at memory.new)
+    ensures { let at = operand (λ n. n) 32 order start in IsEdit (at memory.old) (at memory.new)
         count (λ xs. replicate count bit) result }
 {
     fill(order, memory, start, count, bit)
@@ -109,7 +109,7 @@ pub extern "C" fn bitvec_c_fill_u64(
     count: usize,
     bit: bool,
 ) -> u8
-    ensures { let at = part (λ n. n) 64 order start in IsEdit (at memory.old) (at memory.new)
+    ensures { let at = operand (λ n. n) 64 order start in IsEdit (at memory.old) (at memory.new)
         count (λ xs. replicate count bit) result }
 {
     fill(order, memory, start, count, bit)

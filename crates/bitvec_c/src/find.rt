@@ -4,7 +4,7 @@ ghost use Rattle.std.specs.Prelude.{◌≡◌, ◌+◌, ◌*◌, ◌≤◌, ◌�
 ghost use Rattle.bitvec.specs.Place.{region_max_bits};
 ghost use Rattle.bitvec.specs.Truths.{ones_in};
 ghost use Rattle.bitvec_slice.specs.Bits.{BeginsWith};
-ghost use Rattle.bitvec_c.specs.Call.{part, IsAnswer, IsComparison};
+ghost use Rattle.bitvec_c.specs.Call.{operand, IsAnswer, IsComparison};
 ghost use Rattle.bitvec_c.specs.Order.{order_at};
 ghost use Rattle.bitvec_c.specs.Range.{range_bits, HaveSameBits};
 
@@ -35,7 +35,7 @@ fn count_ones<R: BitRegister>(
     count: usize,
     ones: &mut usize,
 ) -> u8
-    ensures { IsAnswer (part R.number R.BITS order start memory.now) count (λ xs. ones.new ≡
+    ensures { IsAnswer (operand R.number R.BITS order start memory.now) count (λ xs. ones.new ≡
         ones_in xs) (ones.new ≡ ones.old) result }
 {
     let status = test_range::<R>(order, memory.len(), start, count);
@@ -67,7 +67,7 @@ fn first_one<R: BitRegister>(
     count: usize,
     index: &mut usize,
 ) -> u8
-    ensures { IsAnswer (part R.number R.BITS order start memory.now) count (λ xs. BeginsWith
+    ensures { IsAnswer (operand R.number R.BITS order start memory.now) count (λ xs. BeginsWith
         false xs index.new) (index.new ≡ index.old) result }
 {
     let status = test_range::<R>(order, memory.len(), start, count);
@@ -109,7 +109,7 @@ fn equal<R: BitRegister>(
     count: usize,
     same: &mut bool,
 ) -> u8
-    ensures { let at = part R.number R.BITS order in IsComparison (at start memory.now) (at
+    ensures { let at = operand R.number R.BITS order in IsComparison (at start memory.now) (at
         other_start other.now) count same.old same.new result }
 {
     let status = test_ranges::<R>(order, memory.len(), start, other.len(), other_start, count);
@@ -130,7 +130,7 @@ pub extern "C" fn bitvec_c_count_ones_u8(
     count: usize,
     ones: &mut usize,
 ) -> u8
-    ensures { IsAnswer (part (λ n. n) 8 order start memory.now) count (λ xs. ones.new ≡ ones_in
+    ensures { IsAnswer (operand (λ n. n) 8 order start memory.now) count (λ xs. ones.new ≡ ones_in
         xs) (ones.new ≡ ones.old) result }
 {
     count_ones(order, memory, start, count, ones)
@@ -147,7 +147,7 @@ pub extern "C" fn bitvec_c_count_ones_u16(
     count: usize,
     ones: &mut usize,
 ) -> u8
-    ensures { IsAnswer (part (λ n. n) 16 order start memory.now) count (λ xs. ones.new ≡ ones_in
+    ensures { IsAnswer (operand (λ n. n) 16 order start memory.now) count (λ xs. ones.new ≡ ones_in
         xs) (ones.new ≡ ones.old) result }
 {
     count_ones(order, memory, start, count, ones)
@@ -164,7 +164,7 @@ pub extern "C" fn bitvec_c_count_ones_u32(
     count: usize,
     ones: &mut usize,
 ) -> u8
-    ensures { IsAnswer (part (λ n. n) 32 order start memory.now) count (λ xs. ones.new ≡ ones_in
+    ensures { IsAnswer (operand (λ n. n) 32 order start memory.now) count (λ xs. ones.new ≡ ones_in
         xs) (ones.new ≡ ones.old) result }
 {
     count_ones(order, memory, start, count, ones)
@@ -181,7 +181,7 @@ pub extern "C" fn bitvec_c_count_ones_u64(
     count: usize,
     ones: &mut usize,
 ) -> u8
-    ensures { IsAnswer (part (λ n. n) 64 order start memory.now) count (λ xs. ones.new ≡ ones_in
+    ensures { IsAnswer (operand (λ n. n) 64 order start memory.now) count (λ xs. ones.new ≡ ones_in
         xs) (ones.new ≡ ones.old) result }
 {
     count_ones(order, memory, start, count, ones)
@@ -199,7 +199,7 @@ pub extern "C" fn bitvec_c_first_one_u8(
     count: usize,
     index: &mut usize,
 ) -> u8
-    ensures { IsAnswer (part (λ n. n) 8 order start memory.now) count (λ xs. BeginsWith false xs
+    ensures { IsAnswer (operand (λ n. n) 8 order start memory.now) count (λ xs. BeginsWith false xs
         index.new) (index.new ≡ index.old) result }
 {
     first_one(order, memory, start, count, index)
@@ -217,7 +217,7 @@ pub extern "C" fn bitvec_c_first_one_u16(
     count: usize,
     index: &mut usize,
 ) -> u8
-    ensures { IsAnswer (part (λ n. n) 16 order start memory.now) count (λ xs. BeginsWith false
+    ensures { IsAnswer (operand (λ n. n) 16 order start memory.now) count (λ xs. BeginsWith false
         xs index.new) (index.new ≡ index.old) result }
 {
     first_one(order, memory, start, count, index)
@@ -235,7 +235,7 @@ pub extern "C" fn bitvec_c_first_one_u32(
     count: usize,
     index: &mut usize,
 ) -> u8
-    ensures { IsAnswer (part (λ n. n) 32 order start memory.now) count (λ xs. BeginsWith false
+    ensures { IsAnswer (operand (λ n. n) 32 order start memory.now) count (λ xs. BeginsWith false
         xs index.new) (index.new ≡ index.old) result }
 {
     first_one(order, memory, start, count, index)
@@ -253,7 +253,7 @@ pub extern "C" fn bitvec_c_first_one_u64(
     count: usize,
     index: &mut usize,
 ) -> u8
-    ensures { IsAnswer (part (λ n. n) 64 order start memory.now) count (λ xs. BeginsWith false
+    ensures { IsAnswer (operand (λ n. n) 64 order start memory.now) count (λ xs. BeginsWith false
         xs index.new) (index.new ≡ index.old) result }
 {
     first_one(order, memory, start, count, index)
@@ -272,7 +272,7 @@ pub extern "C" fn bitvec_c_equal_u8(
     count: usize,
     same: &mut bool,
 ) -> u8
-    ensures { let at = part (λ n. n) 8 order in IsComparison (at start memory.now) (at
+    ensures { let at = operand (λ n. n) 8 order in IsComparison (at start memory.now) (at
         other_start other.now) count same.old same.new result }
 {
     equal(order, memory, start, other, other_start, count, same)
@@ -291,7 +291,7 @@ pub extern "C" fn bitvec_c_equal_u16(
     count: usize,
     same: &mut bool,
 ) -> u8
-    ensures { let at = part (λ n. n) 16 order in IsComparison (at start memory.now) (at
+    ensures { let at = operand (λ n. n) 16 order in IsComparison (at start memory.now) (at
         other_start other.now) count same.old same.new result }
 {
     equal(order, memory, start, other, other_start, count, same)
@@ -310,7 +310,7 @@ pub extern "C" fn bitvec_c_equal_u32(
     count: usize,
     same: &mut bool,
 ) -> u8
-    ensures { let at = part (λ n. n) 32 order in IsComparison (at start memory.now) (at
+    ensures { let at = operand (λ n. n) 32 order in IsComparison (at start memory.now) (at
         other_start other.now) count same.old same.new result }
 {
     equal(order, memory, start, other, other_start, count, same)
@@ -329,7 +329,7 @@ pub extern "C" fn bitvec_c_equal_u64(
     count: usize,
     same: &mut bool,
 ) -> u8
-    ensures { let at = part (λ n. n) 64 order in IsComparison (at start memory.now) (at
+    ensures { let at = operand (λ n. n) 64 order in IsComparison (at start memory.now) (at
         other_start other.now) count same.old same.new result }
 {
     equal(order, memory, start, other, other_start, count, same)

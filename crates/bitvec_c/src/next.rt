@@ -3,7 +3,7 @@
 
 ghost use Rattle.std.specs.Prelude.{◌≡◌, ◌+◌, ◌*◌, ◌≤◌, length, map};
 ghost use Rattle.bitvec.specs.Place.{region_max_bits};
-ghost use Rattle.bitvec_c.specs.Call.{part, IsAnswer};
+ghost use Rattle.bitvec_c.specs.Call.{operand, IsAnswer};
 ghost use Rattle.bitvec_c.specs.Order.{order_at};
 ghost use Rattle.bitvec_c.specs.Range.{range_bits};
 ghost use Rattle.bitvec_c.specs.Seek.{IsNextOr, IsPreviousOr, IsFreeFromOr};
@@ -72,7 +72,7 @@ fn next<R: BitRegister>(
     bit: bool,
     index: &mut usize,
 ) -> u8
-    ensures { IsAnswer (part R.number R.BITS order start memory.now) count
+    ensures { IsAnswer (operand R.number R.BITS order start memory.now) count
         (λ xs. IsNextOr bit from xs count index.new) (index.new ≡ index.old) result }
 {
     let status = test_range::<R>(order, memory.len(), start, count);
@@ -141,7 +141,7 @@ fn previous<R: BitRegister>(
     bit: bool,
     index: &mut usize,
 ) -> u8
-    ensures { IsAnswer (part R.number R.BITS order start memory.now) count
+    ensures { IsAnswer (operand R.number R.BITS order start memory.now) count
         (λ xs. IsPreviousOr bit before xs count index.new) (index.new ≡ index.old) result }
 {
     let status = test_range::<R>(order, memory.len(), start, count);
@@ -207,7 +207,7 @@ fn find_zeros_from<R: BitRegister>(
     multiple_of: usize,
     index: &mut usize,
 ) -> u8
-    ensures { IsAnswer (part R.number R.BITS order start memory.now) count (λ xs. IsFreeFromOr
+    ensures { IsAnswer (operand R.number R.BITS order start memory.now) count (λ xs. IsFreeFromOr
         from zeros multiple_of xs count index.new) (index.new ≡ index.old) result }
 {
     let status = test_range::<R>(order, memory.len(), start, count);
@@ -231,7 +231,7 @@ pub extern "C" fn bitvec_c_next_u8(
     bit: bool,
     index: &mut usize,
 ) -> u8
-    ensures { IsAnswer (part (λ n. n) 8 order start memory.now) count (λ xs. IsNextOr bit from
+    ensures { IsAnswer (operand (λ n. n) 8 order start memory.now) count (λ xs. IsNextOr bit from
         xs count index.new) (index.new ≡ index.old) result }
 {
     next(order, memory, start, count, from, bit, index)
@@ -251,7 +251,7 @@ pub extern "C" fn bitvec_c_next_u16(
     bit: bool,
     index: &mut usize,
 ) -> u8
-    ensures { IsAnswer (part (λ n. n) 16 order start memory.now) count (λ xs. IsNextOr bit from
+    ensures { IsAnswer (operand (λ n. n) 16 order start memory.now) count (λ xs. IsNextOr bit from
         xs count index.new) (index.new ≡ index.old) result }
 {
     next(order, memory, start, count, from, bit, index)
@@ -271,7 +271,7 @@ pub extern "C" fn bitvec_c_next_u32(
     bit: bool,
     index: &mut usize,
 ) -> u8
-    ensures { IsAnswer (part (λ n. n) 32 order start memory.now) count (λ xs. IsNextOr bit from
+    ensures { IsAnswer (operand (λ n. n) 32 order start memory.now) count (λ xs. IsNextOr bit from
         xs count index.new) (index.new ≡ index.old) result }
 {
     next(order, memory, start, count, from, bit, index)
@@ -291,7 +291,7 @@ pub extern "C" fn bitvec_c_next_u64(
     bit: bool,
     index: &mut usize,
 ) -> u8
-    ensures { IsAnswer (part (λ n. n) 64 order start memory.now) count (λ xs. IsNextOr bit from
+    ensures { IsAnswer (operand (λ n. n) 64 order start memory.now) count (λ xs. IsNextOr bit from
         xs count index.new) (index.new ≡ index.old) result }
 {
     next(order, memory, start, count, from, bit, index)
@@ -311,7 +311,7 @@ pub extern "C" fn bitvec_c_previous_u8(
     bit: bool,
     index: &mut usize,
 ) -> u8
-    ensures { IsAnswer (part (λ n. n) 8 order start memory.now) count (λ xs. IsPreviousOr bit
+    ensures { IsAnswer (operand (λ n. n) 8 order start memory.now) count (λ xs. IsPreviousOr bit
         before xs count index.new) (index.new ≡ index.old) result }
 {
     previous(order, memory, start, count, before, bit, index)
@@ -331,7 +331,7 @@ pub extern "C" fn bitvec_c_previous_u16(
     bit: bool,
     index: &mut usize,
 ) -> u8
-    ensures { IsAnswer (part (λ n. n) 16 order start memory.now) count (λ xs. IsPreviousOr bit
+    ensures { IsAnswer (operand (λ n. n) 16 order start memory.now) count (λ xs. IsPreviousOr bit
         before xs count index.new) (index.new ≡ index.old) result }
 {
     previous(order, memory, start, count, before, bit, index)
@@ -351,7 +351,7 @@ pub extern "C" fn bitvec_c_previous_u32(
     bit: bool,
     index: &mut usize,
 ) -> u8
-    ensures { IsAnswer (part (λ n. n) 32 order start memory.now) count (λ xs. IsPreviousOr bit
+    ensures { IsAnswer (operand (λ n. n) 32 order start memory.now) count (λ xs. IsPreviousOr bit
         before xs count index.new) (index.new ≡ index.old) result }
 {
     previous(order, memory, start, count, before, bit, index)
@@ -371,7 +371,7 @@ pub extern "C" fn bitvec_c_previous_u64(
     bit: bool,
     index: &mut usize,
 ) -> u8
-    ensures { IsAnswer (part (λ n. n) 64 order start memory.now) count (λ xs. IsPreviousOr bit
+    ensures { IsAnswer (operand (λ n. n) 64 order start memory.now) count (λ xs. IsPreviousOr bit
         before xs count index.new) (index.new ≡ index.old) result }
 {
     previous(order, memory, start, count, before, bit, index)
@@ -393,7 +393,7 @@ pub extern "C" fn bitvec_c_find_zeros_from_u8(
     multiple_of: usize,
     index: &mut usize,
 ) -> u8
-    ensures { IsAnswer (part (λ n. n) 8 order start memory.now) count (λ xs. IsFreeFromOr from
+    ensures { IsAnswer (operand (λ n. n) 8 order start memory.now) count (λ xs. IsFreeFromOr from
         zeros multiple_of xs count index.new) (index.new ≡ index.old) result }
 {
     find_zeros_from(order, memory, start, count, from, zeros, multiple_of, index)
@@ -415,7 +415,7 @@ pub extern "C" fn bitvec_c_find_zeros_from_u16(
     multiple_of: usize,
     index: &mut usize,
 ) -> u8
-    ensures { IsAnswer (part (λ n. n) 16 order start memory.now) count (λ xs. IsFreeFromOr from
+    ensures { IsAnswer (operand (λ n. n) 16 order start memory.now) count (λ xs. IsFreeFromOr from
         zeros multiple_of xs count index.new) (index.new ≡ index.old) result }
 {
     find_zeros_from(order, memory, start, count, from, zeros, multiple_of, index)
@@ -437,7 +437,7 @@ pub extern "C" fn bitvec_c_find_zeros_from_u32(
     multiple_of: usize,
     index: &mut usize,
 ) -> u8
-    ensures { IsAnswer (part (λ n. n) 32 order start memory.now) count (λ xs. IsFreeFromOr from
+    ensures { IsAnswer (operand (λ n. n) 32 order start memory.now) count (λ xs. IsFreeFromOr from
         zeros multiple_of xs count index.new) (index.new ≡ index.old) result }
 {
     find_zeros_from(order, memory, start, count, from, zeros, multiple_of, index)
@@ -459,7 +459,7 @@ pub extern "C" fn bitvec_c_find_zeros_from_u64(
     multiple_of: usize,
     index: &mut usize,
 ) -> u8
-    ensures { IsAnswer (part (λ n. n) 64 order start memory.now) count (λ xs. IsFreeFromOr from
+    ensures { IsAnswer (operand (λ n. n) 64 order start memory.now) count (λ xs. IsFreeFromOr from
         zeros multiple_of xs count index.new) (index.new ≡ index.old) result }
 {
     find_zeros_from(order, memory, start, count, from, zeros, multiple_of, index)

@@ -2,7 +2,7 @@
 
 ghost use Rattle.std.specs.Prelude.{◌≡◌, ◌+◌, ◌*◌, ◌≤◌, length, map};
 ghost use Rattle.bitvec_c.specs.Number.{loaded_number, StoresNumber};
-ghost use Rattle.bitvec_c.specs.Call.{part, IsLoad, IsStore};
+ghost use Rattle.bitvec_c.specs.Call.{operand, IsLoad, IsStore};
 ghost use Rattle.bitvec_c.specs.Order.{order_at, rises};
 
 use crate::range::{bits, bits_mut};
@@ -54,7 +54,7 @@ fn load<R: BitRegister>(
     count: usize,
     number: &mut u64,
 ) -> u8
-    ensures { IsLoad big (part R.number R.BITS order start memory.now) count number.old
+    ensures { IsLoad big (operand R.number R.BITS order start memory.now) count number.old
         number.new result }
 {
     let status = test_number::<R>(order, memory.len(), start, count);
@@ -116,7 +116,7 @@ fn store<R: BitRegister>(
     count: usize,
     number: u64,
 ) -> u8
-    ensures { let at = part R.number R.BITS order start in IsStore big (at memory.old) (at
+    ensures { let at = operand R.number R.BITS order start in IsStore big (at memory.old) (at
         memory.new) count number result }
 {
     let status = test_number::<R>(order, memory.len(), start, count);
@@ -141,7 +141,7 @@ pub extern "C" fn bitvec_c_load_u8(
     count: usize,
     number: &mut u64,
 ) -> u8
-    ensures { IsLoad big_endian (part (λ n. n) 8 order start memory.now) count number.old
+    ensures { IsLoad big_endian (operand (λ n. n) 8 order start memory.now) count number.old
         number.new result }
 {
     load(order, big_endian, memory, start, count, number)
@@ -162,7 +162,7 @@ pub extern "C" fn bitvec_c_load_u16(
     count: usize,
     number: &mut u64,
 ) -> u8
-    ensures { IsLoad big_endian (part (λ n. n) 16 order start memory.now) count number.old
+    ensures { IsLoad big_endian (operand (λ n. n) 16 order start memory.now) count number.old
         number.new result }
 {
     load(order, big_endian, memory, start, count, number)
@@ -183,7 +183,7 @@ pub extern "C" fn bitvec_c_load_u32(
     count: usize,
     number: &mut u64,
 ) -> u8
-    ensures { IsLoad big_endian (part (λ n. n) 32 order start memory.now) count number.old
+    ensures { IsLoad big_endian (operand (λ n. n) 32 order start memory.now) count number.old
         number.new result }
 {
     load(order, big_endian, memory, start, count, number)
@@ -204,7 +204,7 @@ pub extern "C" fn bitvec_c_load_u64(
     count: usize,
     number: &mut u64,
 ) -> u8
-    ensures { IsLoad big_endian (part (λ n. n) 64 order start memory.now) count number.old
+    ensures { IsLoad big_endian (operand (λ n. n) 64 order start memory.now) count number.old
         number.new result }
 {
     load(order, big_endian, memory, start, count, number)
@@ -225,7 +225,7 @@ pub extern "C" fn bitvec_c_store_u8(
     count: usize,
     number: u64,
 ) -> u8
-    ensures { let at = part (λ n. n) 8 order start in IsStore big_endian (at memory.old) (at
+    ensures { let at = operand (λ n. n) 8 order start in IsStore big_endian (at memory.old) (at
         memory.new) count number result }
 {
     store(order, big_endian, memory, start, count, number)
@@ -246,7 +246,7 @@ pub extern "C" fn bitvec_c_store_u16(
     count: usize,
     number: u64,
 ) -> u8
-    ensures { let at = part (λ n. n) 16 order start in IsStore big_endian (at memory.old) (at
+    ensures { let at = operand (λ n. n) 16 order start in IsStore big_endian (at memory.old) (at
         memory.new) count number result }
 {
     store(order, big_endian, memory, start, count, number)
@@ -267,7 +267,7 @@ pub extern "C" fn bitvec_c_store_u32(
     count: usize,
     number: u64,
 ) -> u8
-    ensures { let at = part (λ n. n) 32 order start in IsStore big_endian (at memory.old) (at
+    ensures { let at = operand (λ n. n) 32 order start in IsStore big_endian (at memory.old) (at
         memory.new) count number result }
 {
     store(order, big_endian, memory, start, count, number)
@@ -288,7 +288,7 @@ pub extern "C" fn bitvec_c_store_u64(
     count: usize,
     number: u64,
 ) -> u8
-    ensures { let at = part (λ n. n) 64 order start in IsStore big_endian (at memory.old) (at
+    ensures { let at = operand (λ n. n) 64 order start in IsStore big_endian (at memory.old) (at
         memory.new) count number result }
 {
     store(order, big_endian, memory, start, count, number)

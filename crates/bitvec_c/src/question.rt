@@ -5,7 +5,7 @@ ghost use Rattle.bitvec.specs.Digit.{exclusive_or};
 ghost use Rattle.bitvec.specs.Memory.{zip_with};
 ghost use Rattle.bitvec.specs.Place.{region_max_bits};
 ghost use Rattle.bitvec.specs.Truths.{ones_in};
-ghost use Rattle.bitvec_c.specs.Call.{part, CountsPairs, FindsPair};
+ghost use Rattle.bitvec_c.specs.Call.{operand, CountsPairs, FindsPair};
 ghost use Rattle.bitvec_c.specs.Order.{order_at};
 ghost use Rattle.bitvec_c.specs.Range.{range_bits};
 ghost use Rattle.bitvec_c.specs.Seek.{IsFirstOr};
@@ -96,7 +96,7 @@ fn count_with<C: Combine, R: BitRegister, R2: BitRegister>(
     count: usize,
     ones: &mut usize,
 ) -> u8
-    ensures { CountsPairs C.of (part R.number R.BITS order start memory.now) (part R2.number
+    ensures { CountsPairs C.of (operand R.number R.BITS order start memory.now) (operand R2.number
         R2.BITS other_order other_start other.now) count ones.old ones.new result }
 {
     let words = memory.len();
@@ -199,7 +199,7 @@ fn first_with<C: Combine, R: BitRegister, R2: BitRegister>(
     count: usize,
     index: &mut usize,
 ) -> u8
-    ensures { FindsPair C.of (part R.number R.BITS order start memory.now) (part R2.number
+    ensures { FindsPair C.of (operand R.number R.BITS order start memory.now) (operand R2.number
         R2.BITS other_order other_start other.now) count index.old index.new result }
 {
     let words = memory.len();
@@ -233,7 +233,7 @@ pub extern "C" fn bitvec_c_count_and_u8(
     count: usize,
     ones: &mut usize,
 ) -> u8
-    ensures { CountsPairs (λ x y. x && y) (part (λ n. n) 8 order start memory.now) (part (λ n.
+    ensures { CountsPairs (λ x y. x && y) (operand (λ n. n) 8 order start memory.now) (operand (λ n.
         n) 8 other_order other_start other.now) count ones.old ones.new result }
 {
     count_with::<And, u8, u8>(
@@ -263,7 +263,7 @@ pub extern "C" fn bitvec_c_count_and_u16(
     count: usize,
     ones: &mut usize,
 ) -> u8
-    ensures { CountsPairs (λ x y. x && y) (part (λ n. n) 16 order start memory.now) (part (λ n.
+    ensures { CountsPairs (λ x y. x && y) (operand (λ n. n) 16 order start memory.now) (operand (λ n.
         n) 16 other_order other_start other.now) count ones.old ones.new result }
 {
     count_with::<And, u16, u16>(
@@ -293,7 +293,7 @@ pub extern "C" fn bitvec_c_count_and_u32(
     count: usize,
     ones: &mut usize,
 ) -> u8
-    ensures { CountsPairs (λ x y. x && y) (part (λ n. n) 32 order start memory.now) (part (λ n.
+    ensures { CountsPairs (λ x y. x && y) (operand (λ n. n) 32 order start memory.now) (operand (λ n.
         n) 32 other_order other_start other.now) count ones.old ones.new result }
 {
     count_with::<And, u32, u32>(
@@ -323,7 +323,7 @@ pub extern "C" fn bitvec_c_count_and_u64(
     count: usize,
     ones: &mut usize,
 ) -> u8
-    ensures { CountsPairs (λ x y. x && y) (part (λ n. n) 64 order start memory.now) (part (λ n.
+    ensures { CountsPairs (λ x y. x && y) (operand (λ n. n) 64 order start memory.now) (operand (λ n.
         n) 64 other_order other_start other.now) count ones.old ones.new result }
 {
     count_with::<And, u64, u64>(
@@ -354,7 +354,7 @@ pub extern "C" fn bitvec_c_first_and_u8(
     count: usize,
     index: &mut usize,
 ) -> u8
-    ensures { FindsPair (λ x y. x && y) (part (λ n. n) 8 order start memory.now) (part (λ n. n)
+    ensures { FindsPair (λ x y. x && y) (operand (λ n. n) 8 order start memory.now) (operand (λ n. n)
         8 other_order other_start other.now) count index.old index.new result }
 {
     first_with::<And, u8, u8>(
@@ -385,7 +385,7 @@ pub extern "C" fn bitvec_c_first_and_u16(
     count: usize,
     index: &mut usize,
 ) -> u8
-    ensures { FindsPair (λ x y. x && y) (part (λ n. n) 16 order start memory.now) (part (λ n. n)
+    ensures { FindsPair (λ x y. x && y) (operand (λ n. n) 16 order start memory.now) (operand (λ n. n)
         16 other_order other_start other.now) count index.old index.new result }
 {
     first_with::<And, u16, u16>(
@@ -416,7 +416,7 @@ pub extern "C" fn bitvec_c_first_and_u32(
     count: usize,
     index: &mut usize,
 ) -> u8
-    ensures { FindsPair (λ x y. x && y) (part (λ n. n) 32 order start memory.now) (part (λ n. n)
+    ensures { FindsPair (λ x y. x && y) (operand (λ n. n) 32 order start memory.now) (operand (λ n. n)
         32 other_order other_start other.now) count index.old index.new result }
 {
     first_with::<And, u32, u32>(
@@ -447,7 +447,7 @@ pub extern "C" fn bitvec_c_first_and_u64(
     count: usize,
     index: &mut usize,
 ) -> u8
-    ensures { FindsPair (λ x y. x && y) (part (λ n. n) 64 order start memory.now) (part (λ n. n)
+    ensures { FindsPair (λ x y. x && y) (operand (λ n. n) 64 order start memory.now) (operand (λ n. n)
         64 other_order other_start other.now) count index.old index.new result }
 {
     first_with::<And, u64, u64>(
@@ -478,7 +478,7 @@ pub extern "C" fn bitvec_c_first_and_not_u8(
     count: usize,
     index: &mut usize,
 ) -> u8
-    ensures { FindsPair (λ x y. x && not y) (part (λ n. n) 8 order start memory.now) (part (λ n.
+    ensures { FindsPair (λ x y. x && not y) (operand (λ n. n) 8 order start memory.now) (operand (λ n.
         n) 8 other_order other_start other.now) count index.old index.new result }
 {
     first_with::<AndNot, u8, u8>(
@@ -509,7 +509,7 @@ pub extern "C" fn bitvec_c_first_and_not_u16(
     count: usize,
     index: &mut usize,
 ) -> u8
-    ensures { FindsPair (λ x y. x && not y) (part (λ n. n) 16 order start memory.now) (part (λ
+    ensures { FindsPair (λ x y. x && not y) (operand (λ n. n) 16 order start memory.now) (operand (λ
         n. n) 16 other_order other_start other.now) count index.old index.new result }
 {
     first_with::<AndNot, u16, u16>(
@@ -540,7 +540,7 @@ pub extern "C" fn bitvec_c_first_and_not_u32(
     count: usize,
     index: &mut usize,
 ) -> u8
-    ensures { FindsPair (λ x y. x && not y) (part (λ n. n) 32 order start memory.now) (part (λ
+    ensures { FindsPair (λ x y. x && not y) (operand (λ n. n) 32 order start memory.now) (operand (λ
         n. n) 32 other_order other_start other.now) count index.old index.new result }
 {
     first_with::<AndNot, u32, u32>(
@@ -571,7 +571,7 @@ pub extern "C" fn bitvec_c_first_and_not_u64(
     count: usize,
     index: &mut usize,
 ) -> u8
-    ensures { FindsPair (λ x y. x && not y) (part (λ n. n) 64 order start memory.now) (part (λ
+    ensures { FindsPair (λ x y. x && not y) (operand (λ n. n) 64 order start memory.now) (operand (λ
         n. n) 64 other_order other_start other.now) count index.old index.new result }
 {
     first_with::<AndNot, u64, u64>(
@@ -602,7 +602,7 @@ pub extern "C" fn bitvec_c_first_difference_u8(
     count: usize,
     index: &mut usize,
 ) -> u8
-    ensures { FindsPair exclusive_or (part (λ n. n) 8 order start memory.now) (part (λ n. n) 8
+    ensures { FindsPair exclusive_or (operand (λ n. n) 8 order start memory.now) (operand (λ n. n) 8
         other_order other_start other.now) count index.old index.new result }
 {
     first_with::<Xor, u8, u8>(
@@ -633,7 +633,7 @@ pub extern "C" fn bitvec_c_first_difference_u16(
     count: usize,
     index: &mut usize,
 ) -> u8
-    ensures { FindsPair exclusive_or (part (λ n. n) 16 order start memory.now) (part (λ n. n) 16
+    ensures { FindsPair exclusive_or (operand (λ n. n) 16 order start memory.now) (operand (λ n. n) 16
         other_order other_start other.now) count index.old index.new result }
 {
     first_with::<Xor, u16, u16>(
@@ -664,7 +664,7 @@ pub extern "C" fn bitvec_c_first_difference_u32(
     count: usize,
     index: &mut usize,
 ) -> u8
-    ensures { FindsPair exclusive_or (part (λ n. n) 32 order start memory.now) (part (λ n. n) 32
+    ensures { FindsPair exclusive_or (operand (λ n. n) 32 order start memory.now) (operand (λ n. n) 32
         other_order other_start other.now) count index.old index.new result }
 {
     first_with::<Xor, u32, u32>(
@@ -695,7 +695,7 @@ pub extern "C" fn bitvec_c_first_difference_u64(
     count: usize,
     index: &mut usize,
 ) -> u8
-    ensures { FindsPair exclusive_or (part (λ n. n) 64 order start memory.now) (part (λ n. n) 64
+    ensures { FindsPair exclusive_or (operand (λ n. n) 64 order start memory.now) (operand (λ n. n) 64
         other_order other_start other.now) count index.old index.new result }
 {
     first_with::<Xor, u64, u64>(
@@ -726,7 +726,7 @@ pub extern "C" fn bitvec_c_first_difference_u8_with_u8(
     count: usize,
     index: &mut usize,
 ) -> u8
-    ensures { FindsPair exclusive_or (part (λ n. n) 8 order start memory.now) (part (λ n. n) 8
+    ensures { FindsPair exclusive_or (operand (λ n. n) 8 order start memory.now) (operand (λ n. n) 8
         other_order other_start other.now) count index.old index.new result }
 {
     first_with::<Xor, u8, u8>(
@@ -757,7 +757,7 @@ pub extern "C" fn bitvec_c_first_difference_u8_with_u16(
     count: usize,
     index: &mut usize,
 ) -> u8
-    ensures { FindsPair exclusive_or (part (λ n. n) 8 order start memory.now) (part (λ n. n) 16
+    ensures { FindsPair exclusive_or (operand (λ n. n) 8 order start memory.now) (operand (λ n. n) 16
         other_order other_start other.now) count index.old index.new result }
 {
     first_with::<Xor, u8, u16>(
@@ -788,7 +788,7 @@ pub extern "C" fn bitvec_c_first_difference_u8_with_u32(
     count: usize,
     index: &mut usize,
 ) -> u8
-    ensures { FindsPair exclusive_or (part (λ n. n) 8 order start memory.now) (part (λ n. n) 32
+    ensures { FindsPair exclusive_or (operand (λ n. n) 8 order start memory.now) (operand (λ n. n) 32
         other_order other_start other.now) count index.old index.new result }
 {
     first_with::<Xor, u8, u32>(
@@ -819,7 +819,7 @@ pub extern "C" fn bitvec_c_first_difference_u8_with_u64(
     count: usize,
     index: &mut usize,
 ) -> u8
-    ensures { FindsPair exclusive_or (part (λ n. n) 8 order start memory.now) (part (λ n. n) 64
+    ensures { FindsPair exclusive_or (operand (λ n. n) 8 order start memory.now) (operand (λ n. n) 64
         other_order other_start other.now) count index.old index.new result }
 {
     first_with::<Xor, u8, u64>(
@@ -850,7 +850,7 @@ pub extern "C" fn bitvec_c_first_difference_u16_with_u8(
     count: usize,
     index: &mut usize,
 ) -> u8
-    ensures { FindsPair exclusive_or (part (λ n. n) 16 order start memory.now) (part (λ n. n) 8
+    ensures { FindsPair exclusive_or (operand (λ n. n) 16 order start memory.now) (operand (λ n. n) 8
         other_order other_start other.now) count index.old index.new result }
 {
     first_with::<Xor, u16, u8>(
@@ -881,7 +881,7 @@ pub extern "C" fn bitvec_c_first_difference_u16_with_u16(
     count: usize,
     index: &mut usize,
 ) -> u8
-    ensures { FindsPair exclusive_or (part (λ n. n) 16 order start memory.now) (part (λ n. n) 16
+    ensures { FindsPair exclusive_or (operand (λ n. n) 16 order start memory.now) (operand (λ n. n) 16
         other_order other_start other.now) count index.old index.new result }
 {
     first_with::<Xor, u16, u16>(
@@ -912,7 +912,7 @@ pub extern "C" fn bitvec_c_first_difference_u16_with_u32(
     count: usize,
     index: &mut usize,
 ) -> u8
-    ensures { FindsPair exclusive_or (part (λ n. n) 16 order start memory.now) (part (λ n. n) 32
+    ensures { FindsPair exclusive_or (operand (λ n. n) 16 order start memory.now) (operand (λ n. n) 32
         other_order other_start other.now) count index.old index.new result }
 {
     first_with::<Xor, u16, u32>(
@@ -943,7 +943,7 @@ pub extern "C" fn bitvec_c_first_difference_u16_with_u64(
     count: usize,
     index: &mut usize,
 ) -> u8
-    ensures { FindsPair exclusive_or (part (λ n. n) 16 order start memory.now) (part (λ n. n) 64
+    ensures { FindsPair exclusive_or (operand (λ n. n) 16 order start memory.now) (operand (λ n. n) 64
         other_order other_start other.now) count index.old index.new result }
 {
     first_with::<Xor, u16, u64>(
@@ -974,7 +974,7 @@ pub extern "C" fn bitvec_c_first_difference_u32_with_u8(
     count: usize,
     index: &mut usize,
 ) -> u8
-    ensures { FindsPair exclusive_or (part (λ n. n) 32 order start memory.now) (part (λ n. n) 8
+    ensures { FindsPair exclusive_or (operand (λ n. n) 32 order start memory.now) (operand (λ n. n) 8
         other_order other_start other.now) count index.old index.new result }
 {
     first_with::<Xor, u32, u8>(
@@ -1005,7 +1005,7 @@ pub extern "C" fn bitvec_c_first_difference_u32_with_u16(
     count: usize,
     index: &mut usize,
 ) -> u8
-    ensures { FindsPair exclusive_or (part (λ n. n) 32 order start memory.now) (part (λ n. n) 16
+    ensures { FindsPair exclusive_or (operand (λ n. n) 32 order start memory.now) (operand (λ n. n) 16
         other_order other_start other.now) count index.old index.new result }
 {
     first_with::<Xor, u32, u16>(
@@ -1036,7 +1036,7 @@ pub extern "C" fn bitvec_c_first_difference_u32_with_u32(
     count: usize,
     index: &mut usize,
 ) -> u8
-    ensures { FindsPair exclusive_or (part (λ n. n) 32 order start memory.now) (part (λ n. n) 32
+    ensures { FindsPair exclusive_or (operand (λ n. n) 32 order start memory.now) (operand (λ n. n) 32
         other_order other_start other.now) count index.old index.new result }
 {
     first_with::<Xor, u32, u32>(
@@ -1067,7 +1067,7 @@ pub extern "C" fn bitvec_c_first_difference_u32_with_u64(
     count: usize,
     index: &mut usize,
 ) -> u8
-    ensures { FindsPair exclusive_or (part (λ n. n) 32 order start memory.now) (part (λ n. n) 64
+    ensures { FindsPair exclusive_or (operand (λ n. n) 32 order start memory.now) (operand (λ n. n) 64
         other_order other_start other.now) count index.old index.new result }
 {
     first_with::<Xor, u32, u64>(
@@ -1098,7 +1098,7 @@ pub extern "C" fn bitvec_c_first_difference_u64_with_u8(
     count: usize,
     index: &mut usize,
 ) -> u8
-    ensures { FindsPair exclusive_or (part (λ n. n) 64 order start memory.now) (part (λ n. n) 8
+    ensures { FindsPair exclusive_or (operand (λ n. n) 64 order start memory.now) (operand (λ n. n) 8
         other_order other_start other.now) count index.old index.new result }
 {
     first_with::<Xor, u64, u8>(
@@ -1129,7 +1129,7 @@ pub extern "C" fn bitvec_c_first_difference_u64_with_u16(
     count: usize,
     index: &mut usize,
 ) -> u8
-    ensures { FindsPair exclusive_or (part (λ n. n) 64 order start memory.now) (part (λ n. n) 16
+    ensures { FindsPair exclusive_or (operand (λ n. n) 64 order start memory.now) (operand (λ n. n) 16
         other_order other_start other.now) count index.old index.new result }
 {
     first_with::<Xor, u64, u16>(
@@ -1160,7 +1160,7 @@ pub extern "C" fn bitvec_c_first_difference_u64_with_u32(
     count: usize,
     index: &mut usize,
 ) -> u8
-    ensures { FindsPair exclusive_or (part (λ n. n) 64 order start memory.now) (part (λ n. n) 32
+    ensures { FindsPair exclusive_or (operand (λ n. n) 64 order start memory.now) (operand (λ n. n) 32
         other_order other_start other.now) count index.old index.new result }
 {
     first_with::<Xor, u64, u32>(
@@ -1191,7 +1191,7 @@ pub extern "C" fn bitvec_c_first_difference_u64_with_u64(
     count: usize,
     index: &mut usize,
 ) -> u8
-    ensures { FindsPair exclusive_or (part (λ n. n) 64 order start memory.now) (part (λ n. n) 64
+    ensures { FindsPair exclusive_or (operand (λ n. n) 64 order start memory.now) (operand (λ n. n) 64
         other_order other_start other.now) count index.old index.new result }
 {
     first_with::<Xor, u64, u64>(

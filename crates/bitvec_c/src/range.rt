@@ -6,7 +6,7 @@ ghost use Rattle.bitvec.specs.BitSpan.{span_of};
 ghost use Rattle.bitvec.specs.Place.{index_of, region_max_bits};
 ghost use Rattle.bitvec.specs.Span.{Fits, span_at};
 ghost use Rattle.bitvec.specs.Steps.{IsIn, RangeIsIn};
-ghost use Rattle.bitvec_slice.specs.BitSlice.{slice_span, bits_of};
+ghost use Rattle.bitvec_slice.specs.BitSlice.{slice_span, slice_bits};
 ghost use Rattle.bitvec_slice.specs.BitSliceMut.{lent_memory, lent_span};
 ghost use Rattle.bitvec_c.specs.Range.{place_ptr, range_bits};
 
@@ -46,7 +46,7 @@ pub(crate) fn bits<R: BitRegister, O: BitOrder<R>>(
     requires short { count ≤ region_max_bits }
     requires inside { start + count ≤ length memory.now * R.BITS }
     ensures span { slice_span result ≡ span_at R.BITS start count }
-    ensures bits { bits_of result
+    ensures bits { slice_bits result
         ≡ range_bits R.BITS O.at_of start count (map R.number memory.now) }
 {
     BitSlice::new(span::<R, O>(start, count), memory).unwrap()

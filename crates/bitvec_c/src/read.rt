@@ -2,8 +2,8 @@
 
 ghost use Rattle.std.specs.Prelude.{◌≡◌, ◌+◌, ◌-◌, ◌*◌, ◌<◌, ◌≤◌, MatchResult, length, map, take};
 ghost use Rattle.bitvec.specs.Place.{region_max_bits};
-ghost use Rattle.bitvec_stream.specs.Reader.{rest};
-ghost use Rattle.bitvec_c.specs.Call.{part};
+ghost use Rattle.bitvec_stream.specs.Reader.{unread};
+ghost use Rattle.bitvec_c.specs.Call.{operand};
 ghost use Rattle.bitvec_c.specs.Status.{ok};
 ghost use Rattle.bitvec_c.specs.Stream.{number_by, signed_by, bits_between, ReadsNumber};
 ghost use Rattle.bitvec_c.specs.Stream.{ReadsSigned, IsRead, IsSignedRead};
@@ -22,7 +22,7 @@ fn next_number<R: BitRegister, O: BitOrder<R>>(
     count: usize,
 ) -> Result<u64, ReadError>
     requires { count ≤ 64 }
-    ensures { let xs = rest reader.entry in MatchResult result
+    ensures { let xs = unread reader.entry in MatchResult result
         (λ n. (count ≤ length xs) × (n ≡ number_by big (take count xs)))
         (λ _. length xs < count) }
 {
@@ -40,7 +40,7 @@ fn next_signed<R: BitRegister, O: BitOrder<R>>(
     count: usize,
 ) -> Result<i64, ReadError>
     requires { count ≤ 64 }
-    ensures { let xs = rest reader.entry in MatchResult result
+    ensures { let xs = unread reader.entry in MatchResult result
         (λ z. (count ≤ length xs) × (z ≡ signed_by big count (take count xs)))
         (λ _. length xs < count) }
 {
@@ -90,7 +90,7 @@ fn read<R: BitRegister>(
     count: usize,
     number: &mut u64,
 ) -> u8
-    ensures { IsRead big (part R.number R.BITS order place.old memory.now) end place.new count
+    ensures { IsRead big (operand R.number R.BITS order place.old memory.now) end place.new count
         number.old number.new result }
 {
     let status = test_left::<R>(order, memory.len(), *place, end);
@@ -143,7 +143,7 @@ fn read_signed<R: BitRegister>(
     count: usize,
     number: &mut i64,
 ) -> u8
-    ensures { IsSignedRead big (part R.number R.BITS order place.old memory.now) end place.new count
+    ensures { IsSignedRead big (operand R.number R.BITS order place.old memory.now) end place.new count
         number.old number.new result }
 {
     let status = test_left::<R>(order, memory.len(), *place, end);
@@ -172,7 +172,7 @@ pub extern "C" fn bitvec_c_read_u8(
     count: usize,
     number: &mut u64,
 ) -> u8
-    ensures { IsRead big_endian (part (λ n. n) 8 order place.old memory.now) end place.new count
+    ensures { IsRead big_endian (operand (λ n. n) 8 order place.old memory.now) end place.new count
         number.old number.new result }
 {
     read(order, big_endian, memory, place, end, count, number)
@@ -193,7 +193,7 @@ pub extern "C" fn bitvec_c_read_u16(
     count: usize,
     number: &mut u64,
 ) -> u8
-    ensures { IsRead big_endian (part (λ n. n) 16 order place.old memory.now) end place.new count
+    ensures { IsRead big_endian (operand (λ n. n) 16 order place.old memory.now) end place.new count
         number.old number.new result }
 {
     read(order, big_endian, memory, place, end, count, number)
@@ -214,7 +214,7 @@ pub extern "C" fn bitvec_c_read_u32(
     count: usize,
     number: &mut u64,
 ) -> u8
-    ensures { IsRead big_endian (part (λ n. n) 32 order place.old memory.now) end place.new count
+    ensures { IsRead big_endian (operand (λ n. n) 32 order place.old memory.now) end place.new count
         number.old number.new result }
 {
     read(order, big_endian, memory, place, end, count, number)
@@ -235,7 +235,7 @@ pub extern "C" fn bitvec_c_read_u64(
     count: usize,
     number: &mut u64,
 ) -> u8
-    ensures { IsRead big_endian (part (λ n. n) 64 order place.old memory.now) end place.new count
+    ensures { IsRead big_endian (operand (λ n. n) 64 order place.old memory.now) end place.new count
         number.old number.new result }
 {
     read(order, big_endian, memory, place, end, count, number)
@@ -256,7 +256,7 @@ pub extern "C" fn bitvec_c_read_signed_u8(
     count: usize,
     number: &mut i64,
 ) -> u8
-    ensures { IsSignedRead big_endian (part (λ n. n) 8 order place.old memory.now) end place.new
+    ensures { IsSignedRead big_endian (operand (λ n. n) 8 order place.old memory.now) end place.new
         count number.old number.new result }
 {
     read_signed(order, big_endian, memory, place, end, count, number)
@@ -277,7 +277,7 @@ pub extern "C" fn bitvec_c_read_signed_u16(
     count: usize,
     number: &mut i64,
 ) -> u8
-    ensures { IsSignedRead big_endian (part (λ n. n) 16 order place.old memory.now) end place.new
+    ensures { IsSignedRead big_endian (operand (λ n. n) 16 order place.old memory.now) end place.new
         count number.old number.new result }
 {
     read_signed(order, big_endian, memory, place, end, count, number)
@@ -298,7 +298,7 @@ pub extern "C" fn bitvec_c_read_signed_u32(
     count: usize,
     number: &mut i64,
 ) -> u8
-    ensures { IsSignedRead big_endian (part (λ n. n) 32 order place.old memory.now) end place.new
+    ensures { IsSignedRead big_endian (operand (λ n. n) 32 order place.old memory.now) end place.new
         count number.old number.new result }
 {
     read_signed(order, big_endian, memory, place, end, count, number)
@@ -319,7 +319,7 @@ pub extern "C" fn bitvec_c_read_signed_u64(
     count: usize,
     number: &mut i64,
 ) -> u8
-    ensures { IsSignedRead big_endian (part (λ n. n) 64 order place.old memory.now) end place.new
+    ensures { IsSignedRead big_endian (operand (λ n. n) 64 order place.old memory.now) end place.new
         count number.old number.new result }
 {
     read_signed(order, big_endian, memory, place, end, count, number)

@@ -2,7 +2,7 @@
 
 ghost use Rattle.std.specs.Prelude.{◌≡◌, ◌+◌, ◌-◌, ◌*◌, ◌≤◌, length, map};
 ghost use Rattle.bitvec.specs.Place.{region_max_bits};
-ghost use Rattle.bitvec_c.specs.Call.{part};
+ghost use Rattle.bitvec_c.specs.Call.{operand};
 ghost use Rattle.bitvec_c.specs.Status.{ok};
 ghost use Rattle.bitvec_c.specs.Stream.{bits_between, ReadsUnary, ReadsCode, ReadsSignedCode};
 ghost use Rattle.bitvec_c.specs.Stream.{IsUnaryRead, IsCodeRead, IsSignedCodeRead, read_status};
@@ -58,7 +58,7 @@ fn read_unary<R: BitRegister>(
     bit: bool,
     count: &mut usize,
 ) -> u8
-    ensures { IsUnaryRead bit (part R.number R.BITS order place.old memory.now) end place.new
+    ensures { IsUnaryRead bit (operand R.number R.BITS order place.old memory.now) end place.new
         count.old count.new result }
 {
     let status = test_left::<R>(order, memory.len(), *place, end);
@@ -104,7 +104,7 @@ fn read_exp_golomb<R: BitRegister>(
     end: usize,
     number: &mut u64,
 ) -> u8
-    ensures { IsCodeRead (part R.number R.BITS order place.old memory.now) end place.new number.old
+    ensures { IsCodeRead (operand R.number R.BITS order place.old memory.now) end place.new number.old
         number.new result }
 {
     let status = test_left::<R>(order, memory.len(), *place, end);
@@ -150,7 +150,7 @@ fn read_signed_exp_golomb<R: BitRegister>(
     end: usize,
     number: &mut i64,
 ) -> u8
-    ensures { IsSignedCodeRead (part R.number R.BITS order place.old memory.now) end place.new
+    ensures { IsSignedCodeRead (operand R.number R.BITS order place.old memory.now) end place.new
         number.old number.new result }
 {
     let status = test_left::<R>(order, memory.len(), *place, end);
@@ -177,7 +177,7 @@ pub extern "C" fn bitvec_c_read_unary_u8(
     bit: bool,
     count: &mut usize,
 ) -> u8
-    ensures { IsUnaryRead bit (part (λ n. n) 8 order place.old memory.now) end place.new count.old
+    ensures { IsUnaryRead bit (operand (λ n. n) 8 order place.old memory.now) end place.new count.old
         count.new result }
 {
     read_unary(order, memory, place, end, bit, count)
@@ -196,7 +196,7 @@ pub extern "C" fn bitvec_c_read_unary_u16(
     bit: bool,
     count: &mut usize,
 ) -> u8
-    ensures { IsUnaryRead bit (part (λ n. n) 16 order place.old memory.now) end place.new count.old
+    ensures { IsUnaryRead bit (operand (λ n. n) 16 order place.old memory.now) end place.new count.old
         count.new result }
 {
     read_unary(order, memory, place, end, bit, count)
@@ -215,7 +215,7 @@ pub extern "C" fn bitvec_c_read_unary_u32(
     bit: bool,
     count: &mut usize,
 ) -> u8
-    ensures { IsUnaryRead bit (part (λ n. n) 32 order place.old memory.now) end place.new count.old
+    ensures { IsUnaryRead bit (operand (λ n. n) 32 order place.old memory.now) end place.new count.old
         count.new result }
 {
     read_unary(order, memory, place, end, bit, count)
@@ -234,7 +234,7 @@ pub extern "C" fn bitvec_c_read_unary_u64(
     bit: bool,
     count: &mut usize,
 ) -> u8
-    ensures { IsUnaryRead bit (part (λ n. n) 64 order place.old memory.now) end place.new count.old
+    ensures { IsUnaryRead bit (operand (λ n. n) 64 order place.old memory.now) end place.new count.old
         count.new result }
 {
     read_unary(order, memory, place, end, bit, count)
@@ -252,7 +252,7 @@ pub extern "C" fn bitvec_c_read_exp_golomb_u8(
     end: usize,
     number: &mut u64,
 ) -> u8
-    ensures { IsCodeRead (part (λ n. n) 8 order place.old memory.now) end place.new number.old
+    ensures { IsCodeRead (operand (λ n. n) 8 order place.old memory.now) end place.new number.old
         number.new result }
 {
     read_exp_golomb(order, memory, place, end, number)
@@ -270,7 +270,7 @@ pub extern "C" fn bitvec_c_read_exp_golomb_u16(
     end: usize,
     number: &mut u64,
 ) -> u8
-    ensures { IsCodeRead (part (λ n. n) 16 order place.old memory.now) end place.new number.old
+    ensures { IsCodeRead (operand (λ n. n) 16 order place.old memory.now) end place.new number.old
         number.new result }
 {
     read_exp_golomb(order, memory, place, end, number)
@@ -288,7 +288,7 @@ pub extern "C" fn bitvec_c_read_exp_golomb_u32(
     end: usize,
     number: &mut u64,
 ) -> u8
-    ensures { IsCodeRead (part (λ n. n) 32 order place.old memory.now) end place.new number.old
+    ensures { IsCodeRead (operand (λ n. n) 32 order place.old memory.now) end place.new number.old
         number.new result }
 {
     read_exp_golomb(order, memory, place, end, number)
@@ -306,7 +306,7 @@ pub extern "C" fn bitvec_c_read_exp_golomb_u64(
     end: usize,
     number: &mut u64,
 ) -> u8
-    ensures { IsCodeRead (part (λ n. n) 64 order place.old memory.now) end place.new number.old
+    ensures { IsCodeRead (operand (λ n. n) 64 order place.old memory.now) end place.new number.old
         number.new result }
 {
     read_exp_golomb(order, memory, place, end, number)
@@ -325,7 +325,7 @@ pub extern "C" fn bitvec_c_read_signed_exp_golomb_u8(
     end: usize,
     number: &mut i64,
 ) -> u8
-    ensures { IsSignedCodeRead (part (λ n. n) 8 order place.old memory.now) end place.new number.old
+    ensures { IsSignedCodeRead (operand (λ n. n) 8 order place.old memory.now) end place.new number.old
         number.new result }
 {
     read_signed_exp_golomb(order, memory, place, end, number)
@@ -344,7 +344,7 @@ pub extern "C" fn bitvec_c_read_signed_exp_golomb_u16(
     end: usize,
     number: &mut i64,
 ) -> u8
-    ensures { IsSignedCodeRead (part (λ n. n) 16 order place.old memory.now) end place.new
+    ensures { IsSignedCodeRead (operand (λ n. n) 16 order place.old memory.now) end place.new
         number.old number.new result }
 {
     read_signed_exp_golomb(order, memory, place, end, number)
@@ -363,7 +363,7 @@ pub extern "C" fn bitvec_c_read_signed_exp_golomb_u32(
     end: usize,
     number: &mut i64,
 ) -> u8
-    ensures { IsSignedCodeRead (part (λ n. n) 32 order place.old memory.now) end place.new
+    ensures { IsSignedCodeRead (operand (λ n. n) 32 order place.old memory.now) end place.new
         number.old number.new result }
 {
     read_signed_exp_golomb(order, memory, place, end, number)
@@ -382,7 +382,7 @@ pub extern "C" fn bitvec_c_read_signed_exp_golomb_u64(
     end: usize,
     number: &mut i64,
 ) -> u8
-    ensures { IsSignedCodeRead (part (λ n. n) 64 order place.old memory.now) end place.new
+    ensures { IsSignedCodeRead (operand (λ n. n) 64 order place.old memory.now) end place.new
         number.old number.new result }
 {
     read_signed_exp_golomb(order, memory, place, end, number)

@@ -2,7 +2,7 @@
 
 ghost use Rattle.std.specs.Prelude.{◌≡◌, ℕ, ◌+◌, ◌*◌, ◌≤◌, ◌↔◌, IsTrue, [], ◌∷◌, length, map};
 ghost use Rattle.bitvec.specs.Run.{CanRun};
-ghost use Rattle.bitvec_c.specs.Call.{part};
+ghost use Rattle.bitvec_c.specs.Call.{operand};
 ghost use Rattle.bitvec_c.specs.Order.{order_at};
 ghost use Rattle.bitvec_c.specs.Plain.{plain_span, AllShort, AllInside, AreCommands};
 ghost use Rattle.bitvec_c.specs.Plain.{IsPlainRun};
@@ -167,7 +167,7 @@ fn run_plain<R: BitRegister>(
     replies: &mut [PlainReply],
 ) -> u8
     requires narrow { R.BITS ≤ 64 }
-    ensures { let at = part R.number R.BITS order 0 in IsRunOf spans.now (at memory.old)
+    ensures { let at = operand R.number R.BITS order 0 in IsRunOf spans.now (at memory.old)
         (at memory.new) requests.now replies.old replies.new result }
 {
     let count = replies.len();
@@ -235,7 +235,7 @@ pub extern "C" fn bitvec_c_run_u8(
     requests: &[PlainRequest],
     replies: &mut [PlainReply],
 ) -> u8
-    ensures { let at = part (λ n. n) 8 order 0 in IsRunOf spans.now (at memory.old)
+    ensures { let at = operand (λ n. n) 8 order 0 in IsRunOf spans.now (at memory.old)
         (at memory.new) requests.now replies.old replies.new result }
 {
     run_plain(order, spans, memory, requests, replies)
@@ -254,7 +254,7 @@ pub extern "C" fn bitvec_c_run_u16(
     requests: &[PlainRequest],
     replies: &mut [PlainReply],
 ) -> u8
-    ensures { let at = part (λ n. n) 16 order 0 in IsRunOf spans.now (at memory.old)
+    ensures { let at = operand (λ n. n) 16 order 0 in IsRunOf spans.now (at memory.old)
         (at memory.new) requests.now replies.old replies.new result }
 {
     run_plain(order, spans, memory, requests, replies)
@@ -273,7 +273,7 @@ pub extern "C" fn bitvec_c_run_u32(
     requests: &[PlainRequest],
     replies: &mut [PlainReply],
 ) -> u8
-    ensures { let at = part (λ n. n) 32 order 0 in IsRunOf spans.now (at memory.old)
+    ensures { let at = operand (λ n. n) 32 order 0 in IsRunOf spans.now (at memory.old)
         (at memory.new) requests.now replies.old replies.new result }
 {
     run_plain(order, spans, memory, requests, replies)
@@ -292,7 +292,7 @@ pub extern "C" fn bitvec_c_run_u64(
     requests: &[PlainRequest],
     replies: &mut [PlainReply],
 ) -> u8
-    ensures { let at = part (λ n. n) 64 order 0 in IsRunOf spans.now (at memory.old)
+    ensures { let at = operand (λ n. n) 64 order 0 in IsRunOf spans.now (at memory.old)
         (at memory.new) requests.now replies.old replies.new result }
 {
     run_plain(order, spans, memory, requests, replies)

@@ -2,7 +2,7 @@
 
 ghost use Rattle.std.specs.Prelude.{◌≡◌, ◌≤◌, ◌++◌, length};
 ghost use Rattle.bitvec.specs.Run.{CanRun};
-ghost use Rattle.bitvec_c.specs.Call.{part};
+ghost use Rattle.bitvec_c.specs.Call.{operand};
 ghost use Rattle.bitvec_c.specs.Plain.{plain_span, AllShort, AreCommands};
 ghost use Rattle.bitvec_c.specs.RunStatus.{IsFirstFailed, IsSpansTest, IsRoomyRun, IsRoomAfter};
 ghost use Rattle.bitvec_c.specs.RunStatus.{roomy_conditions, requests_conditions};
@@ -48,7 +48,7 @@ fn run_plain_in<R: BitRegister>(
     room: &mut [usize],
 ) -> u8
     requires narrow { R.BITS ≤ 64 }
-    ensures run { let at = part R.number R.BITS order 0 in IsRoomyRun (length room.old) spans.now
+    ensures run { let at = operand R.number R.BITS order 0 in IsRoomyRun (length room.old) spans.now
         (at memory.old) (at memory.new) requests.now replies.old replies.new result }
     ensures room { IsRoomAfter R.BITS order spans.now (length memory.old) room.old room.new }
 {
@@ -153,7 +153,7 @@ pub extern "C" fn bitvec_c_run_in_u8(
     replies: &mut [PlainReply],
     room: &mut [usize],
 ) -> u8
-    ensures run { let at = part (λ n. n) 8 order 0 in IsRoomyRun (length room.old) spans.now
+    ensures run { let at = operand (λ n. n) 8 order 0 in IsRoomyRun (length room.old) spans.now
         (at memory.old) (at memory.new) requests.now replies.old replies.new result }
     ensures room { IsRoomAfter 8 order spans.now (length memory.old) room.old room.new }
 {
@@ -173,7 +173,7 @@ pub extern "C" fn bitvec_c_run_in_u16(
     replies: &mut [PlainReply],
     room: &mut [usize],
 ) -> u8
-    ensures run { let at = part (λ n. n) 16 order 0 in IsRoomyRun (length room.old) spans.now
+    ensures run { let at = operand (λ n. n) 16 order 0 in IsRoomyRun (length room.old) spans.now
         (at memory.old) (at memory.new) requests.now replies.old replies.new result }
     ensures room { IsRoomAfter 16 order spans.now (length memory.old) room.old room.new }
 {
@@ -193,7 +193,7 @@ pub extern "C" fn bitvec_c_run_in_u32(
     replies: &mut [PlainReply],
     room: &mut [usize],
 ) -> u8
-    ensures run { let at = part (λ n. n) 32 order 0 in IsRoomyRun (length room.old) spans.now
+    ensures run { let at = operand (λ n. n) 32 order 0 in IsRoomyRun (length room.old) spans.now
         (at memory.old) (at memory.new) requests.now replies.old replies.new result }
     ensures room { IsRoomAfter 32 order spans.now (length memory.old) room.old room.new }
 {
@@ -213,7 +213,7 @@ pub extern "C" fn bitvec_c_run_in_u64(
     replies: &mut [PlainReply],
     room: &mut [usize],
 ) -> u8
-    ensures run { let at = part (λ n. n) 64 order 0 in IsRoomyRun (length room.old) spans.now
+    ensures run { let at = operand (λ n. n) 64 order 0 in IsRoomyRun (length room.old) spans.now
         (at memory.old) (at memory.new) requests.now replies.old replies.new result }
     ensures room { IsRoomAfter 64 order spans.now (length memory.old) room.old room.new }
 {

@@ -3,7 +3,7 @@
 ghost use Rattle.std.specs.Prelude.{◌≡◌, ◌+◌, ◌*◌, ◌≤◌, not, length, map};
 ghost use Rattle.bitvec.specs.Place.{region_max_bits};
 ghost use Rattle.bitvec_slice.specs.Bits.{BeginsWith};
-ghost use Rattle.bitvec_c.specs.Call.{part, IsAnswer};
+ghost use Rattle.bitvec_c.specs.Call.{operand, IsAnswer};
 ghost use Rattle.bitvec_c.specs.Order.{order_at};
 ghost use Rattle.bitvec_c.specs.Range.{range_bits};
 ghost use Rattle.bitvec_c.specs.Seek.{IsLastOr, IsFreeOr};
@@ -56,7 +56,7 @@ fn first<R: BitRegister>(
     bit: bool,
     index: &mut usize,
 ) -> u8
-    ensures { IsAnswer (part R.number R.BITS order start memory.now) count (λ xs. BeginsWith
+    ensures { IsAnswer (operand R.number R.BITS order start memory.now) count (λ xs. BeginsWith
         (not bit) xs index.new) (index.new ≡ index.old) result }
 {
     let status = test_range::<R>(order, memory.len(), start, count);
@@ -115,7 +115,7 @@ fn last<R: BitRegister>(
     bit: bool,
     index: &mut usize,
 ) -> u8
-    ensures { IsAnswer (part R.number R.BITS order start memory.now) count (λ xs. IsLastOr bit
+    ensures { IsAnswer (operand R.number R.BITS order start memory.now) count (λ xs. IsLastOr bit
         xs count index.new) (index.new ≡ index.old) result }
 {
     let status = test_range::<R>(order, memory.len(), start, count);
@@ -174,7 +174,7 @@ fn find_zeros<R: BitRegister>(
     zeros: usize,
     index: &mut usize,
 ) -> u8
-    ensures { IsAnswer (part R.number R.BITS order start memory.now) count (λ xs. IsFreeOr zeros
+    ensures { IsAnswer (operand R.number R.BITS order start memory.now) count (λ xs. IsFreeOr zeros
         xs count index.new) (index.new ≡ index.old) result }
 {
     let status = test_range::<R>(order, memory.len(), start, count);
@@ -197,7 +197,7 @@ pub extern "C" fn bitvec_c_first_u8(
     bit: bool,
     index: &mut usize,
 ) -> u8
-    ensures { IsAnswer (part (λ n. n) 8 order start memory.now) count (λ xs. BeginsWith (not
+    ensures { IsAnswer (operand (λ n. n) 8 order start memory.now) count (λ xs. BeginsWith (not
         bit) xs index.new) (index.new ≡ index.old) result }
 {
     first(order, memory, start, count, bit, index)
@@ -216,7 +216,7 @@ pub extern "C" fn bitvec_c_first_u16(
     bit: bool,
     index: &mut usize,
 ) -> u8
-    ensures { IsAnswer (part (λ n. n) 16 order start memory.now) count (λ xs. BeginsWith (not
+    ensures { IsAnswer (operand (λ n. n) 16 order start memory.now) count (λ xs. BeginsWith (not
         bit) xs index.new) (index.new ≡ index.old) result }
 {
     first(order, memory, start, count, bit, index)
@@ -235,7 +235,7 @@ pub extern "C" fn bitvec_c_first_u32(
     bit: bool,
     index: &mut usize,
 ) -> u8
-    ensures { IsAnswer (part (λ n. n) 32 order start memory.now) count (λ xs. BeginsWith (not
+    ensures { IsAnswer (operand (λ n. n) 32 order start memory.now) count (λ xs. BeginsWith (not
         bit) xs index.new) (index.new ≡ index.old) result }
 {
     first(order, memory, start, count, bit, index)
@@ -254,7 +254,7 @@ pub extern "C" fn bitvec_c_first_u64(
     bit: bool,
     index: &mut usize,
 ) -> u8
-    ensures { IsAnswer (part (λ n. n) 64 order start memory.now) count (λ xs. BeginsWith (not
+    ensures { IsAnswer (operand (λ n. n) 64 order start memory.now) count (λ xs. BeginsWith (not
         bit) xs index.new) (index.new ≡ index.old) result }
 {
     first(order, memory, start, count, bit, index)
@@ -273,7 +273,7 @@ pub extern "C" fn bitvec_c_last_u8(
     bit: bool,
     index: &mut usize,
 ) -> u8
-    ensures { IsAnswer (part (λ n. n) 8 order start memory.now) count (λ xs. IsLastOr bit xs
+    ensures { IsAnswer (operand (λ n. n) 8 order start memory.now) count (λ xs. IsLastOr bit xs
         count index.new) (index.new ≡ index.old) result }
 {
     last(order, memory, start, count, bit, index)
@@ -292,7 +292,7 @@ pub extern "C" fn bitvec_c_last_u16(
     bit: bool,
     index: &mut usize,
 ) -> u8
-    ensures { IsAnswer (part (λ n. n) 16 order start memory.now) count (λ xs. IsLastOr bit xs
+    ensures { IsAnswer (operand (λ n. n) 16 order start memory.now) count (λ xs. IsLastOr bit xs
         count index.new) (index.new ≡ index.old) result }
 {
     last(order, memory, start, count, bit, index)
@@ -311,7 +311,7 @@ pub extern "C" fn bitvec_c_last_u32(
     bit: bool,
     index: &mut usize,
 ) -> u8
-    ensures { IsAnswer (part (λ n. n) 32 order start memory.now) count (λ xs. IsLastOr bit xs
+    ensures { IsAnswer (operand (λ n. n) 32 order start memory.now) count (λ xs. IsLastOr bit xs
         count index.new) (index.new ≡ index.old) result }
 {
     last(order, memory, start, count, bit, index)
@@ -330,7 +330,7 @@ pub extern "C" fn bitvec_c_last_u64(
     bit: bool,
     index: &mut usize,
 ) -> u8
-    ensures { IsAnswer (part (λ n. n) 64 order start memory.now) count (λ xs. IsLastOr bit xs
+    ensures { IsAnswer (operand (λ n. n) 64 order start memory.now) count (λ xs. IsLastOr bit xs
         count index.new) (index.new ≡ index.old) result }
 {
     last(order, memory, start, count, bit, index)
@@ -349,7 +349,7 @@ pub extern "C" fn bitvec_c_find_zeros_u8(
     zeros: usize,
     index: &mut usize,
 ) -> u8
-    ensures { IsAnswer (part (λ n. n) 8 order start memory.now) count (λ xs. IsFreeOr zeros xs
+    ensures { IsAnswer (operand (λ n. n) 8 order start memory.now) count (λ xs. IsFreeOr zeros xs
         count index.new) (index.new ≡ index.old) result }
 {
     find_zeros(order, memory, start, count, zeros, index)
@@ -368,7 +368,7 @@ pub extern "C" fn bitvec_c_find_zeros_u16(
     zeros: usize,
     index: &mut usize,
 ) -> u8
-    ensures { IsAnswer (part (λ n. n) 16 order start memory.now) count (λ xs. IsFreeOr zeros xs
+    ensures { IsAnswer (operand (λ n. n) 16 order start memory.now) count (λ xs. IsFreeOr zeros xs
         count index.new) (index.new ≡ index.old) result }
 {
     find_zeros(order, memory, start, count, zeros, index)
@@ -387,7 +387,7 @@ pub extern "C" fn bitvec_c_find_zeros_u32(
     zeros: usize,
     index: &mut usize,
 ) -> u8
-    ensures { IsAnswer (part (λ n. n) 32 order start memory.now) count (λ xs. IsFreeOr zeros xs
+    ensures { IsAnswer (operand (λ n. n) 32 order start memory.now) count (λ xs. IsFreeOr zeros xs
         count index.new) (index.new ≡ index.old) result }
 {
     find_zeros(order, memory, start, count, zeros, index)
@@ -406,7 +406,7 @@ pub extern "C" fn bitvec_c_find_zeros_u64(
     zeros: usize,
     index: &mut usize,
 ) -> u8
-    ensures { IsAnswer (part (λ n. n) 64 order start memory.now) count (λ xs. IsFreeOr zeros xs
+    ensures { IsAnswer (operand (λ n. n) 64 order start memory.now) count (λ xs. IsFreeOr zeros xs
         count index.new) (index.new ≡ index.old) result }
 {
     find_zeros(order, memory, start, count, zeros, index)

@@ -2,7 +2,7 @@
 
 ghost use Rattle.std.specs.Prelude.{◌≡◌, ◌+◌, ◌*◌, ◌≤◌, length, map};
 ghost use Rattle.bitvec_slice.specs.Signed.{signed_of, complement_of};
-ghost use Rattle.bitvec_c.specs.Call.{part, IsSignedLoad, IsStore};
+ghost use Rattle.bitvec_c.specs.Call.{operand, IsSignedLoad, IsStore};
 ghost use Rattle.bitvec_c.specs.Number.{loaded_number, StoresNumber};
 ghost use Rattle.bitvec_c.specs.Order.{order_at, rises};
 
@@ -55,7 +55,7 @@ fn load_signed<R: BitRegister>(
     count: usize,
     number: &mut i64,
 ) -> u8
-    ensures { IsSignedLoad big (part R.number R.BITS order start memory.now) count number.old
+    ensures { IsSignedLoad big (operand R.number R.BITS order start memory.now) count number.old
         number.new result }
 {
     let status = test_number::<R>(order, memory.len(), start, count);
@@ -116,7 +116,7 @@ fn store_signed<R: BitRegister>(
     count: usize,
     number: i64,
 ) -> u8
-    ensures { let at = part R.number R.BITS order start in IsStore big (at memory.old)
+    ensures { let at = operand R.number R.BITS order start in IsStore big (at memory.old)
         (at memory.new) count (complement_of count number) result }
 {
     let status = test_number::<R>(order, memory.len(), start, count);
@@ -140,7 +140,7 @@ pub extern "C" fn bitvec_c_load_signed_u8(
     count: usize,
     number: &mut i64,
 ) -> u8
-    ensures { IsSignedLoad big_endian (part (λ n. n) 8 order start memory.now) count number.old
+    ensures { IsSignedLoad big_endian (operand (λ n. n) 8 order start memory.now) count number.old
         number.new result }
 {
     load_signed(order, big_endian, memory, start, count, number)
@@ -160,7 +160,7 @@ pub extern "C" fn bitvec_c_load_signed_u16(
     count: usize,
     number: &mut i64,
 ) -> u8
-    ensures { IsSignedLoad big_endian (part (λ n. n) 16 order start memory.now) count number.old
+    ensures { IsSignedLoad big_endian (operand (λ n. n) 16 order start memory.now) count number.old
         number.new result }
 {
     load_signed(order, big_endian, memory, start, count, number)
@@ -180,7 +180,7 @@ pub extern "C" fn bitvec_c_load_signed_u32(
     count: usize,
     number: &mut i64,
 ) -> u8
-    ensures { IsSignedLoad big_endian (part (λ n. n) 32 order start memory.now) count number.old
+    ensures { IsSignedLoad big_endian (operand (λ n. n) 32 order start memory.now) count number.old
         number.new result }
 {
     load_signed(order, big_endian, memory, start, count, number)
@@ -200,7 +200,7 @@ pub extern "C" fn bitvec_c_load_signed_u64(
     count: usize,
     number: &mut i64,
 ) -> u8
-    ensures { IsSignedLoad big_endian (part (λ n. n) 64 order start memory.now) count number.old
+    ensures { IsSignedLoad big_endian (operand (λ n. n) 64 order start memory.now) count number.old
         number.new result }
 {
     load_signed(order, big_endian, memory, start, count, number)
@@ -220,7 +220,7 @@ pub extern "C" fn bitvec_c_store_signed_u8(
     count: usize,
     number: i64,
 ) -> u8
-    ensures { let at = part (λ n. n) 8 order start in IsStore big_endian (at memory.old) (at
+    ensures { let at = operand (λ n. n) 8 order start in IsStore big_endian (at memory.old) (at
         memory.new) count (complement_of count number) result }
 {
     store_signed(order, big_endian, memory, start, count, number)
@@ -240,7 +240,7 @@ pub extern "C" fn bitvec_c_store_signed_u16(
     count: usize,
     number: i64,
 ) -> u8
-    ensures { let at = part (λ n. n) 16 order start in IsStore big_endian (at memory.old) (at
+    ensures { let at = operand (λ n. n) 16 order start in IsStore big_endian (at memory.old) (at
         memory.new) count (complement_of count number) result }
 {
     store_signed(order, big_endian, memory, start, count, number)
@@ -260,7 +260,7 @@ pub extern "C" fn bitvec_c_store_signed_u32(
     count: usize,
     number: i64,
 ) -> u8
-    ensures { let at = part (λ n. n) 32 order start in IsStore big_endian (at memory.old) (at
+    ensures { let at = operand (λ n. n) 32 order start in IsStore big_endian (at memory.old) (at
         memory.new) count (complement_of count number) result }
 {
     store_signed(order, big_endian, memory, start, count, number)
@@ -280,7 +280,7 @@ pub extern "C" fn bitvec_c_store_signed_u64(
     count: usize,
     number: i64,
 ) -> u8
-    ensures { let at = part (λ n. n) 64 order start in IsStore big_endian (at memory.old) (at
+    ensures { let at = operand (λ n. n) 64 order start in IsStore big_endian (at memory.old) (at
         memory.new) count (complement_of count number) result }
 {
     store_signed(order, big_endian, memory, start, count, number)

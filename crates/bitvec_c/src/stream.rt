@@ -4,7 +4,7 @@ ghost use Rattle.std.specs.Prelude.{◌≡◌, ◌+◌, ◌-◌, ◌*◌, ◌≤
 ghost use Rattle.bitvec.specs.Place.{region_max_bits};
 ghost use Rattle.bitvec.specs.Span.{span_at};
 ghost use Rattle.bitvec_slice.specs.BitSlice.{slice_len};
-ghost use Rattle.bitvec_stream.specs.Reader.{source, bits_read, rest};
+ghost use Rattle.bitvec_stream.specs.Reader.{source, bits_read, unread};
 ghost use Rattle.bitvec_stream.specs.Writer.{target_memory, target_span, bits_written, room};
 ghost use Rattle.bitvec_c.specs.Stream.{bits_between};
 
@@ -24,9 +24,9 @@ pub(crate) fn reader_between<R: BitRegister, O: BitOrder<R>>(
     requires rises { place ≤ end }
     requires inside { place + (end - place) ≤ length memory.now * R.BITS }
     ensures position { bits_read result ≡ 0 }
-    ensures rest { rest result
+    ensures rest { unread result
         ≡ bits_between R.BITS O.at_of place end (map R.number memory.now) }
-    ensures len { length (rest result) ≡ end - place }
+    ensures len { length (unread result) ≡ end - place }
     ensures source { slice_len (source result) ≡ end - place }
 {
     BitReader::new(bits::<R, O>(memory, place, end - place))

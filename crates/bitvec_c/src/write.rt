@@ -3,9 +3,9 @@
 ghost use Rattle.std.specs.Prelude.{◌≡◌, ◌+◌, ◌-◌, ◌*◌, ◌^◌, ◌<◌, ◌≤◌, ◌↔◌, Err, IsOk, IfOk, IfErr};
 ghost use Rattle.std.specs.Prelude.{length, map};
 ghost use Rattle.bitvec.specs.Place.{region_max_bits};
-ghost use Rattle.bitvec_slice.specs.Signed.{complement_of, HasDigits};
+ghost use Rattle.bitvec_slice.specs.Signed.{complement_of, FitsSignedDigits};
 ghost use Rattle.bitvec_stream.specs.Writer.{room, Writes};
-ghost use Rattle.bitvec_c.specs.Call.{part};
+ghost use Rattle.bitvec_c.specs.Call.{operand};
 ghost use Rattle.bitvec_c.specs.Status.{ok};
 ghost use Rattle.bitvec_c.specs.Stream.{bits_between, digits_by, written_conditions, WritesBits};
 ghost use Rattle.bitvec_c.specs.Stream.{write_status, IsNumberWrite, IsSignedWrite};
@@ -89,7 +89,7 @@ fn write<R: BitRegister>(
     count: usize,
     number: u64,
 ) -> u8
-    ensures { let at = part R.number R.BITS order place.old in IsNumberWrite big (at memory.old)
+    ensures { let at = operand R.number R.BITS order place.old in IsNumberWrite big (at memory.old)
         (at memory.new) end place.new count number result }
 {
     let status = test_left::<R>(order, memory.len(), *place, end);
@@ -113,7 +113,7 @@ fn put_signed<R: BitRegister, O: BitOrder<R>>(
 ) -> Result<(), WriteError>
     requires { count ≤ 64 }
     ensures accepted { IsOk result
-        ↔ ((count ≤ length (room writer.old)) × HasDigits count number) }
+        ↔ ((count ≤ length (room writer.old)) × FitsSignedDigits count number) }
     ensures no_room { (result ≡ Err WriteError.NoRoom) ↔ (length (room writer.old) < count) }
     ensures written { IfOk result
         (λ _. Writes writer.old writer.new (digits_by big count (complement_of count number))) }
@@ -139,7 +139,7 @@ fn write_signed_in<R: BitRegister, O: BitOrder<R>>(
     requires rises { place.old ≤ end }
     requires inside { place.old + (end - place.old) ≤ length memory.old * R.BITS }
     ensures { let left = bits_between R.BITS O.at_of place.old end (map R.number memory.old) in
-        WritesBits (written_conditions count (HasDigits count number) (length left))
+        WritesBits (written_conditions count (FitsSignedDigits count number) (length left))
         (digits_by big count (complement_of count number)) ok R.BITS O.at_of place.old place.new
         (map R.number memory.old) (map R.number memory.new) result }
 {
@@ -166,7 +166,7 @@ fn write_signed<R: BitRegister>(
     count: usize,
     number: i64,
 ) -> u8
-    ensures { let at = part R.number R.BITS order place.old in IsSignedWrite big (at memory.old)
+    ensures { let at = operand R.number R.BITS order place.old in IsSignedWrite big (at memory.old)
         (at memory.new) end place.new count number result }
 {
     let status = test_left::<R>(order, memory.len(), *place, end);
@@ -196,7 +196,7 @@ pub extern "C" fn bitvec_c_write_u8(
     count: usize,
     number: u64,
 ) -> u8
-    ensures { let at = part (λ n. n) 8 order place.old in IsNumberWrite big_endian (at memory.old)
+    ensures { let at = operand (λ n. n) 8 order place.old in IsNumberWrite big_endian (at memory.old)
         (at memory.new) end place.new count number result }
 {
     write(order, big_endian, memory, place, end, count, number)
@@ -218,7 +218,7 @@ pub extern "C" fn bitvec_c_write_u16(
     count: usize,
     number: u64,
 ) -> u8
-    ensures { let at = part (λ n. n) 16 order place.old in IsNumberWrite big_endian (at memory.old)
+    ensures { let at = operand (λ n. n) 16 order place.old in IsNumberWrite big_endian (at memory.old)
         (at memory.new) end place.new count number result }
 {
     write(order, big_endian, memory, place, end, count, number)
@@ -240,7 +240,7 @@ pub extern "C" fn bitvec_c_write_u32(
     count: usize,
     number: u64,
 ) -> u8
-    ensures { let at = part (λ n. n) 32 order place.old in IsNumberWrite big_endian (at memory.old)
+    ensures { let at = operand (λ n. n) 32 order place.old in IsNumberWrite big_endian (at memory.old)
         (at memory.new) end place.new count number result }
 {
     write(order, big_endian, memory, place, end, count, number)
@@ -262,7 +262,7 @@ pub extern "C" fn bitvec_c_write_u64(
     count: usize,
     number: u64,
 ) -> u8
-    ensures { let at = part (λ n. n) 64 order place.old in IsNumberWrite big_endian (at memory.old)
+    ensures { let at = operand (λ n. n) 64 order place.old in IsNumberWrite big_endian (at memory.old)
         (at memory.new) end place.new count number result }
 {
     write(order, big_endian, memory, place, end, count, number)
@@ -284,7 +284,7 @@ pub extern "C" fn bitvec_c_write_signed_u8(
     count: usize,
     number: i64,
 ) -> u8
-    ensures { let at = part (λ n. n) 8 order place.old in IsSignedWrite big_endian (at memory.old)
+    ensures { let at = operand (λ n. n) 8 order place.old in IsSignedWrite big_endian (at memory.old)
         (at memory.new) end place.new count number result }
 {
     write_signed(order, big_endian, memory, place, end, count, number)
@@ -306,7 +306,7 @@ pub extern "C" fn bitvec_c_write_signed_u16(
     count: usize,
     number: i64,
 ) -> u8
-    ensures { let at = part (λ n. n) 16 order place.old in IsSignedWrite big_endian (at memory.old)
+    ensures { let at = operand (λ n. n) 16 order place.old in IsSignedWrite big_endian (at memory.old)
         (at memory.new) end place.new count number result }
 {
     write_signed(order, big_endian, memory, place, end, count, number)
@@ -328,7 +328,7 @@ pub extern "C" fn bitvec_c_write_signed_u32(
     count: usize,
     number: i64,
 ) -> u8
-    ensures { let at = part (λ n. n) 32 order place.old in IsSignedWrite big_endian (at memory.old)
+    ensures { let at = operand (λ n. n) 32 order place.old in IsSignedWrite big_endian (at memory.old)
         (at memory.new) end place.new count number result }
 {
     write_signed(order, big_endian, memory, place, end, count, number)
@@ -350,7 +350,7 @@ pub extern "C" fn bitvec_c_write_signed_u64(
     count: usize,
     number: i64,
 ) -> u8
-    ensures { let at = part (λ n. n) 64 order place.old in IsSignedWrite big_endian (at memory.old)
+    ensures { let at = operand (λ n. n) 64 order place.old in IsSignedWrite big_endian (at memory.old)
         (at memory.new) end place.new count number result }
 {
     write_signed(order, big_endian, memory, place, end, count, number)

@@ -4,7 +4,7 @@ ghost use Rattle.std.specs.Prelude.{◌≡◌, ◌+◌, ◌-◌, ◌*◌, ◌<�
 ghost use Rattle.std.specs.Prelude.{replicate};
 ghost use Rattle.bitvec.specs.Place.{region_max_bits};
 ghost use Rattle.bitvec_stream.specs.Golomb.{golomb, signed_place};
-ghost use Rattle.bitvec_c.specs.Call.{part};
+ghost use Rattle.bitvec_c.specs.Call.{operand};
 ghost use Rattle.bitvec_c.specs.Status.{ok, too_few};
 ghost use Rattle.bitvec_c.specs.Stream.{bits_between, WritesBits};
 ghost use Rattle.bitvec_c.specs.Stream.{IsUnaryWrite, IsCodeWrite, IsSignedCodeWrite};
@@ -50,7 +50,7 @@ fn write_unary<R: BitRegister>(
     bit: bool,
     count: usize,
 ) -> u8
-    ensures { let at = part R.number R.BITS order place.old in IsUnaryWrite bit (at memory.old)
+    ensures { let at = operand R.number R.BITS order place.old in IsUnaryWrite bit (at memory.old)
         (at memory.new) end place.new count result }
 {
     let status = test_left::<R>(order, memory.len(), *place, end);
@@ -97,7 +97,7 @@ fn write_exp_golomb<R: BitRegister>(
     end: usize,
     number: u64,
 ) -> u8
-    ensures { let at = part R.number R.BITS order place.old in IsCodeWrite (at memory.old)
+    ensures { let at = operand R.number R.BITS order place.old in IsCodeWrite (at memory.old)
         (at memory.new) end place.new number result }
 {
     let status = test_left::<R>(order, memory.len(), *place, end);
@@ -144,7 +144,7 @@ fn write_signed_exp_golomb<R: BitRegister>(
     end: usize,
     number: i64,
 ) -> u8
-    ensures { let at = part R.number R.BITS order place.old in IsSignedCodeWrite (at memory.old)
+    ensures { let at = operand R.number R.BITS order place.old in IsSignedCodeWrite (at memory.old)
         (at memory.new) end place.new number result }
 {
     let status = test_left::<R>(order, memory.len(), *place, end);
@@ -172,7 +172,7 @@ pub extern "C" fn bitvec_c_write_unary_u8(
     bit: bool,
     count: usize,
 ) -> u8
-    ensures { let at = part (λ n. n) 8 order place.old in IsUnaryWrite bit (at memory.old)
+    ensures { let at = operand (λ n. n) 8 order place.old in IsUnaryWrite bit (at memory.old)
         (at memory.new) end place.new count result }
 {
     write_unary(order, memory, place, end, bit, count)
@@ -192,7 +192,7 @@ pub extern "C" fn bitvec_c_write_unary_u16(
     bit: bool,
     count: usize,
 ) -> u8
-    ensures { let at = part (λ n. n) 16 order place.old in IsUnaryWrite bit (at memory.old)
+    ensures { let at = operand (λ n. n) 16 order place.old in IsUnaryWrite bit (at memory.old)
         (at memory.new) end place.new count result }
 {
     write_unary(order, memory, place, end, bit, count)
@@ -212,7 +212,7 @@ pub extern "C" fn bitvec_c_write_unary_u32(
     bit: bool,
     count: usize,
 ) -> u8
-    ensures { let at = part (λ n. n) 32 order place.old in IsUnaryWrite bit (at memory.old)
+    ensures { let at = operand (λ n. n) 32 order place.old in IsUnaryWrite bit (at memory.old)
         (at memory.new) end place.new count result }
 {
     write_unary(order, memory, place, end, bit, count)
@@ -232,7 +232,7 @@ pub extern "C" fn bitvec_c_write_unary_u64(
     bit: bool,
     count: usize,
 ) -> u8
-    ensures { let at = part (λ n. n) 64 order place.old in IsUnaryWrite bit (at memory.old)
+    ensures { let at = operand (λ n. n) 64 order place.old in IsUnaryWrite bit (at memory.old)
         (at memory.new) end place.new count result }
 {
     write_unary(order, memory, place, end, bit, count)
@@ -250,7 +250,7 @@ pub extern "C" fn bitvec_c_write_exp_golomb_u8(
     end: usize,
     number: u64,
 ) -> u8
-    ensures { let at = part (λ n. n) 8 order place.old in IsCodeWrite (at memory.old)
+    ensures { let at = operand (λ n. n) 8 order place.old in IsCodeWrite (at memory.old)
         (at memory.new) end place.new number result }
 {
     write_exp_golomb(order, memory, place, end, number)
@@ -268,7 +268,7 @@ pub extern "C" fn bitvec_c_write_exp_golomb_u16(
     end: usize,
     number: u64,
 ) -> u8
-    ensures { let at = part (λ n. n) 16 order place.old in IsCodeWrite (at memory.old)
+    ensures { let at = operand (λ n. n) 16 order place.old in IsCodeWrite (at memory.old)
         (at memory.new) end place.new number result }
 {
     write_exp_golomb(order, memory, place, end, number)
@@ -286,7 +286,7 @@ pub extern "C" fn bitvec_c_write_exp_golomb_u32(
     end: usize,
     number: u64,
 ) -> u8
-    ensures { let at = part (λ n. n) 32 order place.old in IsCodeWrite (at memory.old)
+    ensures { let at = operand (λ n. n) 32 order place.old in IsCodeWrite (at memory.old)
         (at memory.new) end place.new number result }
 {
     write_exp_golomb(order, memory, place, end, number)
@@ -304,7 +304,7 @@ pub extern "C" fn bitvec_c_write_exp_golomb_u64(
     end: usize,
     number: u64,
 ) -> u8
-    ensures { let at = part (λ n. n) 64 order place.old in IsCodeWrite (at memory.old)
+    ensures { let at = operand (λ n. n) 64 order place.old in IsCodeWrite (at memory.old)
         (at memory.new) end place.new number result }
 {
     write_exp_golomb(order, memory, place, end, number)
@@ -322,7 +322,7 @@ pub extern "C" fn bitvec_c_write_signed_exp_golomb_u8(
     end: usize,
     number: i64,
 ) -> u8
-    ensures { let at = part (λ n. n) 8 order place.old in IsSignedCodeWrite (at memory.old)
+    ensures { let at = operand (λ n. n) 8 order place.old in IsSignedCodeWrite (at memory.old)
         (at memory.new) end place.new number result }
 {
     write_signed_exp_golomb(order, memory, place, end, number)
@@ -340,7 +340,7 @@ pub extern "C" fn bitvec_c_write_signed_exp_golomb_u16(
     end: usize,
     number: i64,
 ) -> u8
-    ensures { let at = part (λ n. n) 16 order place.old in IsSignedCodeWrite (at memory.old)
+    ensures { let at = operand (λ n. n) 16 order place.old in IsSignedCodeWrite (at memory.old)
         (at memory.new) end place.new number result }
 {
     write_signed_exp_golomb(order, memory, place, end, number)
@@ -358,7 +358,7 @@ pub extern "C" fn bitvec_c_write_signed_exp_golomb_u32(
     end: usize,
     number: i64,
 ) -> u8
-    ensures { let at = part (λ n. n) 32 order place.old in IsSignedCodeWrite (at memory.old)
+    ensures { let at = operand (λ n. n) 32 order place.old in IsSignedCodeWrite (at memory.old)
         (at memory.new) end place.new number result }
 {
     write_signed_exp_golomb(order, memory, place, end, number)
@@ -376,7 +376,7 @@ pub extern "C" fn bitvec_c_write_signed_exp_golomb_u64(
     end: usize,
     number: i64,
 ) -> u8
-    ensures { let at = part (λ n. n) 64 order place.old in IsSignedCodeWrite (at memory.old)
+    ensures { let at = operand (λ n. n) 64 order place.old in IsSignedCodeWrite (at memory.old)
         (at memory.new) end place.new number result }
 {
     write_signed_exp_golomb(order, memory, place, end, number)

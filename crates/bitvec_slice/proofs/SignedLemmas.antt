@@ -10,7 +10,7 @@ use Rattle.std.proofs.Math.Nat.{two-pow-succ, add-mul, mod-eq_of_lt, mul-le-mul_
 use Rattle.std.proofs.Math.Pow.{pow_mono}
 use Rattle.bitvec.specs.Digit.{digit}
 use Rattle.bitvec.proofs.DigitLemmas.{digit_above}
-use Rattle.bitvec_slice.specs.Signed.{signed_of, complement_of, HasDigits}
+use Rattle.bitvec_slice.specs.Signed.{signed_of, complement_of, FitsSignedDigits}
 
 -- two to the number of digits is twice two to one less
 pub half : (len : ℕ) → 0 < len → 2 ^ len ≡ 2 ^ (len - 1) + 2 ^ (len - 1)
@@ -39,10 +39,10 @@ signed_high len n some below h =
     rw (high_digit (len - 1) n (omega (arith, e, h)) (omega (arith, e, below))) (omega (arith, ints, below))
 
 -- a signed number of so many digits has them
-pub signed_digits : (len n : ℕ) → n < 2 ^ len → HasDigits len (signed_of len n)
+pub signed_digits : (len n : ℕ) → n < 2 ^ len → FitsSignedDigits len (signed_of len n)
 signed_digits len n below = elim (cases_lt (2 * n) (2 ^ len)) [
-  | inl low ↦ subst (HasDigits len) (sym (signed_low len n low)) low
-  | inr high ↦ subst (HasDigits len) (sym (signed_high len n (some len n below high) below high)) (omega (arith, below, high))
+  | inl low ↦ subst (FitsSignedDigits len) (sym (signed_low len n low)) low
+  | inr high ↦ subst (FitsSignedDigits len) (sym (signed_high len n (some len n below high) below high)) (omega (arith, below, high))
 ]
   where
     some : (len n : ℕ) → n < 2 ^ len → 2 ^ len ≤ 2 * n → 0 < len
@@ -50,7 +50,7 @@ signed_digits len n below = elim (cases_lt (2 * n) (2 ^ len)) [
     some (suc k) n below high = omega arith
 
 -- and it has more
-pub digits_more : (len more : ℕ) (z : ℤ) → len ≤ more → HasDigits len z → HasDigits more z
+pub digits_more : (len more : ℕ) (z : ℤ) → len ≤ more → FitsSignedDigits len z → FitsSignedDigits more z
 digits_more len more (pos n) h digits = let p : 2 ^ len ≤ 2 ^ more = pow_mono h in omega (arith, p, digits)
 digits_more len more (negsuc n) h digits = let p : 2 ^ len ≤ 2 ^ more = pow_mono h in omega (arith, p, digits)
 
@@ -84,7 +84,7 @@ low_complement len (negsuc n) h fits =
     ap (λ k. (k - suc n) % 2 ^ len) whole ∙ rest_of_less (2 ^ (128 - len)) (2 ^ len) n (pow_pos len) below
 
 -- a signed number of so many digits is that of its two's complement
-pub signed_back : (len : ℕ) (z : ℤ) → HasDigits len z → signed_of len (complement_of len z) ≡ z
+pub signed_back : (len : ℕ) (z : ℤ) → FitsSignedDigits len z → signed_of len (complement_of len z) ≡ z
 signed_back len (pos n) h =
     let same : n % 2 ^ len ≡ n = mod-eq_of_lt {n = n} {m = 2 ^ len} (omega (arith, h)) in
     rw same (signed_low len n h)
@@ -111,10 +111,10 @@ pub low_digits : (len n : ℕ) (y z : ℤ) → len ≤ 128 → FitsSigned w128 y
 low_digits len n y z h fits is same = ap (λ k. k % 2 ^ len) (is ∙ ap (cast_unsigned w128) (to_z-of_z {w = w128} {z = y} fits)) ∙ low_complement len y h fits ∙ ap (complement_of len) same
 
 -- a signed number that was stored, and loaded
-pub loaded_back : (len n m : ℕ) (z : ℤ) → m ≡ n % 2 ^ len → n % 2 ^ len ≡ complement_of len z → HasDigits len z → signed_of len m ≡ z
+pub loaded_back : (len n m : ℕ) (z : ℤ) → m ≡ n % 2 ^ len → n % 2 ^ len ≡ complement_of len z → FitsSignedDigits len z → signed_of len m ≡ z
 loaded_back len n m z loaded low has = ap (signed_of len) (loaded ∙ low) ∙ signed_back len z has
 
 -- a signed number of so many digits, passed on as one of a type that has them
-pub passed_digits : (len more : ℕ) (y z : ℤ) → FitsSigned w128 y → y ≡ z → len ≤ more → HasDigits len z → HasDigits more (to_z w128 (of_z w128 y))
+pub passed_digits : (len more : ℕ) (y z : ℤ) → FitsSigned w128 y → y ≡ z → len ≤ more → FitsSignedDigits len z → FitsSignedDigits more (to_z w128 (of_z w128 y))
 passed_digits len more y z fits same h has =
-    subst (HasDigits more) (sym (to_z-of_z {w = w128} {z = y} fits ∙ same)) (digits_more len more z h has)
+    subst (FitsSignedDigits more) (sym (to_z-of_z {w = w128} {z = y} fits ∙ same)) (digits_more len more z h has)

@@ -17,9 +17,9 @@ abbrev pub slice_len : {R O : Type 0} {a b c d e f g h i : _} → BitSlice R O a
 slice_len slice = (slice_span slice).len
 
 -- its bits, in order
-abbrev pub bits_of : {R O : Type 0} {a b c d e f g h i : _} → BitSlice R O a b c d e f g h i → List Bool
-bits_of {a = own} {i = order} slice = list_of own.BITS order.at_of (slice_span slice) (map own.number (slice_memory slice))
+abbrev pub slice_bits : {R O : Type 0} {a b c d e f g h i : _} → BitSlice R O a b c d e f g h i → List Bool
+slice_bits {a = own} {i = order} slice = list_of own.BITS order.at_of (slice_span slice) (map own.number (slice_memory slice))
 
 -- the number of word k of those that it meets: its bits there, and all other digits zero
 abbrev pub slice_word : {R O : Type 0} {a b c d e f g h i : _} → BitSlice R O a b c d e f g h i → ℕ → ℕ
-slice_word {a = own} {i = order} slice k = word_of own.BITS order.at_of (slice_span slice).head (bits_of slice) k
+slice_word {a = own} {i = order} slice k = word_of own.BITS order.at_of (slice_span slice).head (slice_bits slice) k

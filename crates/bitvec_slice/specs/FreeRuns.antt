@@ -21,7 +21,7 @@ IsFirstRun test count s = AllPass test s count × ((t : ℕ) → t < s → ¬ Al
 abbrev pub AreStarts : (ℕ → Bool) → ℕ → (ℕ → Bool) → Type 0
 AreStarts test count starts = (i : ℕ) → (starts i ≡ true) ↔ AllPass test i count
 
--- so many numbers pass, and those behind them as they do a test from 0 on
+-- the first `before` numbers pass, and those behind them as they do a test from 0 on
 unfoldable pub behind : ℕ → (ℕ → Bool) → ℕ → Bool
 behind before test t = nat_lt t before || test (t - before)
 

@@ -7,22 +7,22 @@ use Rattle.bitvec_slice.specs.BitSlice.{slice_memory, slice_span}
 use Rattle.bitvec_slice.specs.declared.slice.iter.Iter.{Iter}
 
 -- the memory that it reads
-abbrev pub rest_memory : {R O : Type 0} {a b c d e f g h i : _} → Iter R O a b c d e f g h i → List R
-rest_memory it = slice_memory it.slice
+abbrev pub iter_memory : {R O : Type 0} {a b c d e f g h i : _} → Iter R O a b c d e f g h i → List R
+iter_memory it = slice_memory it.slice
 
 -- where in that memory the bits lie that are still to come
-abbrev pub rest_span : {R O : Type 0} {a b c d e f g h i : _} → Iter R O a b c d e f g h i → Span
-rest_span {a = own} it = span_range own.BITS (slice_span it.slice) it.next it.end
+abbrev pub iter_span : {R O : Type 0} {a b c d e f g h i : _} → Iter R O a b c d e f g h i → Span
+iter_span {a = own} it = span_range own.BITS (slice_span it.slice) it.next it.end
 
 -- the bits that are still to come, in order
-abbrev pub rest_of : {R O : Type 0} {a b c d e f g h i : _} → Iter R O a b c d e f g h i → List Bool
-rest_of {a = own} {i = order} it = list_of own.BITS order.at_of (rest_span it) (map own.number (rest_memory it))
+abbrev pub iter_left : {R O : Type 0} {a b c d e f g h i : _} → Iter R O a b c d e f g h i → List Bool
+iter_left {a = own} {i = order} it = list_of own.BITS order.at_of (iter_span it) (map own.number (iter_memory it))
 
 -- A fact of the type of an iterator, and not of the one that is named: whichever one of this type a run of calls begins
 -- with, the run gives the bits that it had left, in order.
 abbrev pub GivesBitsInOrder : {R O : Type 0} {a b c d e f g h i : _} → Iter R O a b c d e f g h i → Type 0
-GivesBitsInOrder {R = R} {O = O} {a = a} {b = b} {c = c} {d = d} {e = e} {f = f} {g = g} {h = h} {i = i} it = YieldsInOrder (YieldsFirst (rest_of {R = R} {O = O} {a = a} {b = b} {c = c} {d = d} {e = e} {f = f} {g = g} {h = h} {i = i})) rest_of
+GivesBitsInOrder {R = R} {O = O} {a = a} {b = b} {c = c} {d = d} {e = e} {f = f} {g = g} {h = h} {i = i} it = YieldsInOrder (YieldsFirst (iter_left {R = R} {O = O} {a = a} {b = b} {c = c} {d = d} {e = e} {f = f} {g = g} {h = h} {i = i})) iter_left
 
 -- the same of runs of calls from the back
 abbrev pub GivesBitsInReverse : {R O : Type 0} {a b c d e f g h i : _} → Iter R O a b c d e f g h i → Type 0
-GivesBitsInReverse {R = R} {O = O} {a = a} {b = b} {c = c} {d = d} {e = e} {f = f} {g = g} {h = h} {i = i} it = YieldsInReverse (YieldsLast (rest_of {R = R} {O = O} {a = a} {b = b} {c = c} {d = d} {e = e} {f = f} {g = g} {h = h} {i = i})) rest_of
+GivesBitsInReverse {R = R} {O = O} {a = a} {b = b} {c = c} {d = d} {e = e} {f = f} {g = g} {h = h} {i = i} it = YieldsInReverse (YieldsLast (iter_left {R = R} {O = O} {a = a} {b = b} {c = c} {d = d} {e = e} {f = f} {g = g} {h = h} {i = i})) iter_left

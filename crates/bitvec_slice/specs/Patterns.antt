@@ -1,4 +1,4 @@
--- Where a list of truth values has the elements of another, and where so many are false from a multiple of a number on.
+-- Where a list of truth values has the elements of another, and from which multiples of a number on `count` are false.
 use Rattle.std.specs.Prelude.{◌≡◌, ℕ, ◌+◌, ◌<◌, ◌≤◌, ◌%◌, Bool, List, length, slice_range}
 use Rattle.bitvec_slice.specs.Bits.{AreFree}
 

@@ -1,7 +1,7 @@
 -- What the iterators over a slice's pieces show.
 use Rattle.std.specs.Prelude.{◌≡◌, ℕ, Bool, List, Option, MatchOption}
 use Rattle.bitvec.specs.Span.{span_range}
-use Rattle.bitvec_slice.specs.BitSlice.{slice_memory, slice_span, slice_len, bits_of}
+use Rattle.bitvec_slice.specs.BitSlice.{slice_memory, slice_span, slice_len, slice_bits}
 use Rattle.bitvec_slice.specs.Pieces.{windows_of, chunks_of, rchunks_of}
 use Rattle.bitvec_slice.specs.declared.slice.bit_slice.BitSlice.{BitSlice}
 use Rattle.bitvec_slice.specs.declared.slice.chunks.Chunks.{Chunks}
@@ -11,20 +11,20 @@ use Rattle.bitvec_slice.specs.declared.slice.windows.Windows.{Windows}
 
 -- the bits of each piece that is still to come
 abbrev pub windows_left : {R O : Type 0} {a b c d e f g h i : _} → Windows R O a b c d e f g h i → List (List Bool)
-windows_left it = windows_of it.size (bits_of it.rest)
+windows_left it = windows_of it.size (slice_bits it.rest)
 
 abbrev pub chunks_left : {R O : Type 0} {a b c d e f g h i : _} → Chunks R O a b c d e f g h i → List (List Bool)
-chunks_left it = chunks_of it.size (bits_of it.rest)
+chunks_left it = chunks_of it.size (slice_bits it.rest)
 
 abbrev pub chunks_exact_left : {R O : Type 0} {a b c d e f g h i : _} → ChunksExact R O a b c d e f g h i → List (List Bool)
 chunks_exact_left it = chunks_left it.whole
 
 abbrev pub rchunks_left : {R O : Type 0} {a b c d e f g h i : _} → RChunks R O a b c d e f g h i → List (List Bool)
-rchunks_left it = rchunks_of it.size (bits_of it.rest)
+rchunks_left it = rchunks_of it.size (slice_bits it.rest)
 
 -- the bits behind the last whole piece
 abbrev pub chunks_remainder : {R O : Type 0} {a b c d e f g h i : _} → ChunksExact R O a b c d e f g h i → List Bool
-chunks_remainder it = bits_of it.remainder
+chunks_remainder it = slice_bits it.remainder
 
 -- the slice of the bits of which pieces are still to come
 abbrev pub windows_rest : {R O : Type 0} {a b c d e f g h i : _} → Windows R O a b c d e f g h i → BitSlice R O a b c d e f g h i

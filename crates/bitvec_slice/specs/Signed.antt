@@ -1,4 +1,4 @@
--- Signed numbers as two's complements of so many binary digits.
+-- Signed numbers as two's complements of a number of binary digits.
 use Rattle.std.specs.Prelude.{ℕ, suc, ◌-◌, ◌*◌, ◌^◌, ◌<◌, ◌≤◌, ℤ, pos, negsuc, ◌-ℤ◌, unsigned_abs, if◌then◌else◌}
 use Rattle.std.specs.Int.{int_rem_euclid}
 use Rattle.bitvec.specs.Digit.{digit}
@@ -12,6 +12,6 @@ abbrev pub complement_of : ℕ → ℤ → ℕ
 complement_of len z = unsigned_abs (int_rem_euclid z (pos (2 ^ len)))
 
 -- A signed number has `len` digits: twice the number is below 2 ^ len, and not below -2 ^ len. `negsuc n` is -(n + 1).
-abbrev pub HasDigits : ℕ → ℤ → Type 0
-HasDigits len (pos n) = 2 * n < 2 ^ len
-HasDigits len (negsuc n) = 2 * suc n ≤ 2 ^ len
+abbrev pub FitsSignedDigits : ℕ → ℤ → Type 0
+FitsSignedDigits len (pos n) = 2 * n < 2 ^ len
+FitsSignedDigits len (negsuc n) = 2 * suc n ≤ 2 ^ len

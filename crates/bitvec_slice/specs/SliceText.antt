@@ -31,7 +31,7 @@ IsDigit c = (c ≡ 48) ⊎ (c ≡ 49)
 abbrev pub AreDigits : List ℕ → ℕ → Type 0
 AreDigits text n = (k : ℕ) → k < n → IsDigit (slice_index text k)
 
--- that the character at a place is no digit, and that there are so many digits, in words
+-- that the character at a place is no digit, and that the number of digits is another than that of the bits, in words
 abbrev pub not_a_digit_text : ℕ → List ℕ
 not_a_digit_text at = codes "character " ++ (decimal_text at ++ codes " is neither 0 nor 1")
 

@@ -7,6 +7,6 @@ use Rattle.bitvec.specs.Span.{Span, list_of}
 abbrev pub whole_span : ℕ → ℕ → Span
 whole_span bits words = record { word = pos 0; head = 0; len = words * bits }
 
--- a span's list in any memory of so many words is the list of all its bits
+-- a span's list in any memory of `count` words is the list of all its bits
 abbrev pub ShowsMemory : ℕ → (ℕ → ℕ) → Span → ℕ → Type 0
 ShowsMemory bits at span count = (words : List ℕ) → length words ≡ count → list_of bits at span words ≡ memory_bits bits at words

@@ -528,7 +528,7 @@ pub(crate) fn store<R: BitRegister, O: Sequential<R>, N: BitRegister>(
 }
 
 impl<'a, R: BitRegister, O: Sequential<R>> BitSlice<'a, R, O> {
-    ghost use Rattle.bitvec_slice.specs.BitSlice.{slice_memory, slice_span, slice_len, bits_of};
+    ghost use Rattle.bitvec_slice.specs.BitSlice.{slice_memory, slice_span, slice_len, slice_bits};
 
     /// The number whose digits the bits are: those of one word in the word's own order, and those
     /// of the first word lowest. Requires no more bits than the number type has digits; the digits
@@ -549,14 +549,14 @@ impl<'a, R: BitRegister, O: Sequential<R>> BitSlice<'a, R, O> {
     pub fn load_le<N: BitRegister>(&self) -> N
         requires { slice_len self.now ≤ N.BITS }
         ensures number { N.number result
-            ≡ field_number false R.BITS O.RISES (slice_span self.now).head (bits_of self.now) }
-        ensures digits { (j : ℕ) → j < length (bits_of self.now) → digit (N.number result)
+            ≡ field_number false R.BITS O.RISES (slice_span self.now).head (slice_bits self.now) }
+        ensures digits { (j : ℕ) → j < length (slice_bits self.now) → digit (N.number result)
             (digit_place false R.BITS O.RISES (slice_span self.now).head
-            (length (bits_of self.now)) j)
-            ≡ element (bits_of self.now) j }
-        ensures rising { O.RISES ≡ true → (j : ℕ) → j < length (bits_of self.now)
-            → digit (N.number result) j ≡ element (bits_of self.now) j }
-        ensures past { (j : ℕ) → length (bits_of self.now) ≤ j
+            (length (slice_bits self.now)) j)
+            ≡ element (slice_bits self.now) j }
+        ensures rising { O.RISES ≡ true → (j : ℕ) → j < length (slice_bits self.now)
+            → digit (N.number result) j ≡ element (slice_bits self.now) j }
+        ensures past { (j : ℕ) → length (slice_bits self.now) ≤ j
             → digit (N.number result) j ≡ false }
     {
         load(self.span, self.memory, false)
@@ -583,15 +583,15 @@ impl<'a, R: BitRegister, O: Sequential<R>> BitSlice<'a, R, O> {
     pub fn load_be<N: BitRegister>(&self) -> N
         requires { slice_len self.now ≤ N.BITS }
         ensures number { N.number result
-            ≡ field_number true R.BITS O.RISES (slice_span self.now).head (bits_of self.now) }
-        ensures digits { (j : ℕ) → j < length (bits_of self.now) → digit (N.number result)
+            ≡ field_number true R.BITS O.RISES (slice_span self.now).head (slice_bits self.now) }
+        ensures digits { (j : ℕ) → j < length (slice_bits self.now) → digit (N.number result)
             (digit_place true R.BITS O.RISES (slice_span self.now).head
-            (length (bits_of self.now)) j)
-            ≡ element (bits_of self.now) j }
-        ensures falling { O.RISES ≡ false → (j : ℕ) → j < length (bits_of self.now)
+            (length (slice_bits self.now)) j)
+            ≡ element (slice_bits self.now) j }
+        ensures falling { O.RISES ≡ false → (j : ℕ) → j < length (slice_bits self.now)
             → digit (N.number result) j
-            ≡ element (bits_of self.now) (length (bits_of self.now) - 1 - j) }
-        ensures past { (j : ℕ) → length (bits_of self.now) ≤ j
+            ≡ element (slice_bits self.now) (length (slice_bits self.now) - 1 - j) }
+        ensures past { (j : ℕ) → length (slice_bits self.now) ≤ j
             → digit (N.number result) j ≡ false }
     {
         load(self.span, self.memory, true)

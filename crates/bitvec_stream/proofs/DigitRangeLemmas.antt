@@ -9,7 +9,7 @@ use Rattle.std.proofs.Math.Nat.{two-pow-succ}
 use Rattle.bitvec.specs.Digit.{digit}
 use Rattle.bitvec.specs.SameDigits.{same_from_digits}
 use Rattle.bitvec.proofs.DigitLemmas.{digit-mod, digit_above}
-use Rattle.bitvec_slice.specs.Signed.{HasDigits}
+use Rattle.bitvec_slice.specs.Signed.{FitsSignedDigits}
 use Rattle.bitvec_slice.proofs.FieldLemmas.{small_from_digits}
 
 -- the digits past so many are none exactly where the number is below the power
@@ -26,7 +26,7 @@ none_above n count below =
     ap (λ k. k / 2 ^ count) whole ∙ div-mul-add 0 (2 ^ count) n below
 
 -- a signed number of so many digits lies between the least and the greatest
-pub digits_between : (k : ℕ) (z : ℤ) → (z ≤ℤ pos (2 ^ k - 1)) × (negsuc (2 ^ k - 1) ≤ℤ z) ↔ HasDigits (suc k) z
+pub digits_between : (k : ℕ) (z : ℤ) → (z ≤ℤ pos (2 ^ k - 1)) × (negsuc (2 ^ k - 1) ≤ℤ z) ↔ FitsSignedDigits (suc k) z
 digits_between k (pos n) = let twice = two-pow-succ k in let some = pow_pos k in (λ h. omega (arith, ints, twice, some, h.0), λ h. (omega (arith, ints, twice, some, h), omega (arith, ints)))
 digits_between k (negsuc n) = let twice = two-pow-succ k in let some = pow_pos k in (λ h. omega (arith, ints, twice, some, h.1), λ h. (omega (arith, ints), omega (arith, ints, twice, some, h)))
 
@@ -43,20 +43,20 @@ half_ones (suc k) some most =
     ap (λ n. n / 2) ones ∙ half ∙ ap (λ n. 2 ^ n - 1) (sym less)
 
 -- the same by the number of digits
-pub digits_from_between : (count : ℕ) (z : ℤ) → 0 < count → z ≤ℤ pos (2 ^ (count - 1) - 1) → negsuc (2 ^ (count - 1) - 1) ≤ℤ z → HasDigits count z
+pub digits_from_between : (count : ℕ) (z : ℤ) → 0 < count → z ≤ℤ pos (2 ^ (count - 1) - 1) → negsuc (2 ^ (count - 1) - 1) ≤ℤ z → FitsSignedDigits count z
 digits_from_between zero z some most least = absurd (omega arith)
 digits_from_between (suc k) z some most least =
     let less : suc k - 1 ≡ k = omega arith in
     (digits_between k z).0 (subst (λ n. z ≤ℤ pos (2 ^ n - 1)) less most, subst (λ n. negsuc (2 ^ n - 1) ≤ℤ z) less least)
 
-pub between_from_digits : (count : ℕ) (z : ℤ) → 0 < count → HasDigits count z → (z ≤ℤ pos (2 ^ (count - 1) - 1)) × (negsuc (2 ^ (count - 1) - 1) ≤ℤ z)
+pub between_from_digits : (count : ℕ) (z : ℤ) → 0 < count → FitsSignedDigits count z → (z ≤ℤ pos (2 ^ (count - 1) - 1)) × (negsuc (2 ^ (count - 1) - 1) ≤ℤ z)
 between_from_digits zero z some has = absurd (omega arith)
 between_from_digits (suc k) z some has =
     let less : k ≡ suc k - 1 = omega arith in
     let both = (digits_between k z).1 has in
     (subst (λ n. z ≤ℤ pos (2 ^ n - 1)) less both.0, subst (λ n. negsuc (2 ^ n - 1) ≤ℤ z) less both.1)
 
-pub no_digits : (z : ℤ) → HasDigits 0 z → z ≡ pos 0
+pub no_digits : (z : ℤ) → FitsSignedDigits 0 z → z ≡ pos 0
 no_digits (pos n) h = let e : n ≡ 0 = omega (arith, h) in ap pos e
 no_digits (negsuc n) h = absurd (omega (arith, h))
 

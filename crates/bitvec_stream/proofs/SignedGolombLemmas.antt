@@ -2,7 +2,7 @@
 use Rattle.std.proofs.Common.{◌≡◌, ℕ, zero, suc, ◌+◌, ◌-◌, ◌*◌, ◌/◌, ◌%◌, ◌^◌, ◌≤◌, ℤ, pos, negsuc, ◌-ℤ◌, refl, sym, ap, ◌∙◌, inl, inr, arith}
 use Rattle.std.proofs.lemmas.Bool.{cases_lt}
 use Rattle.std.proofs.lemmas.Int.{ints}
-use Rattle.bitvec_slice.specs.Signed.{HasDigits}
+use Rattle.bitvec_slice.specs.Signed.{FitsSignedDigits}
 use Rattle.bitvec_slice.proofs.SignedLemmas.{digits_more}
 use Rattle.bitvec_stream.specs.Golomb.{signed_place, IsSignedLacking}
 
@@ -39,6 +39,6 @@ lacking_less bits n h lacking = (lacking.0, lacking.1, λ has. lacking.2 (digits
 pub lacking_beyond : (n : ℕ) → 2 ^ 128 ≤ n + 1 → (n ≡ 2 ^ 128 → ⊥) → IsSignedLacking 128 n
 lacking_beyond n from other = let found = place_back n in (found.0, sym found.1, λ has. no_digits found.0 n found.1 from other has)
   where
-    no_digits : (z : ℤ) (n : ℕ) → signed_place z ≡ n → 2 ^ 128 ≤ n + 1 → (n ≡ 2 ^ 128 → ⊥) → HasDigits 128 z → ⊥
+    no_digits : (z : ℤ) (n : ℕ) → signed_place z ≡ n → 2 ^ 128 ≤ n + 1 → (n ≡ 2 ^ 128 → ⊥) → FitsSignedDigits 128 z → ⊥
     no_digits (pos k) n is from other has = omega (arith, is, from, has)
     no_digits (negsuc k) n is from other has = other (omega (arith, is, from, has))

@@ -2,7 +2,7 @@
 use Rattle.std.specs.Prelude.{◌≡◌, ℕ, suc, ◌+◌, ◌-◌, ◌*◌, ◌<◌, ℤ, pos, negsuc, Bool, true, false, List, ◌++◌, length, take, replicate}
 use Rattle.std.specs.Int.Digits.{digits_of}
 use Rattle.bitvec.specs.Span.{element}
-use Rattle.bitvec_slice.specs.Signed.{HasDigits}
+use Rattle.bitvec_slice.specs.Signed.{FitsSignedDigits}
 use Rattle.bitvec_stream.specs.Numbers.{digits_be}
 
 -- how many binary digits a number has, of which the highest is one; 0 has none
@@ -21,7 +21,7 @@ StartsWith xs ys = take (length ys) xs ≡ ys
 abbrev pub IsCode : List Bool → List Bool → Type 0
 IsCode xs digits = (element digits 0 ≡ true) × StartsWith xs (replicate (length digits - 1) false ++ digits)
 
--- a list begins with the code of one less than a number, which has so many bits
+-- a list begins with the code of one less than a number, and the code has `count` bits
 abbrev pub BeginsWithCode : List Bool → ℕ → ℕ → Type 0
 BeginsWithCode xs above count = StartsWith xs (golomb (above - 1)) × (0 < above) × (length (golomb (above - 1)) ≡ count)
 
@@ -31,6 +31,6 @@ abbrev pub signed_place : ℤ → ℕ
 signed_place (pos k) = 2 * k - 1
 signed_place (negsuc n) = 2 * suc n
 
--- a number's code is that of a signed number that has more than so many digits
+-- a number's code is that of a signed number that has more than `bits` digits
 abbrev pub IsSignedLacking : ℕ → ℕ → Type 0
-IsSignedLacking bits n = (z : ℤ) × (n ≡ signed_place z) × ¬ HasDigits bits z
+IsSignedLacking bits n = (z : ℤ) × (n ≡ signed_place z) × ¬ FitsSignedDigits bits z

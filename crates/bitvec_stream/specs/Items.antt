@@ -1,11 +1,11 @@
 -- Numbers that stand one behind the other in a list of bits.
 use Rattle.std.specs.Prelude.{◌≡◌, ◌↔◌, ℕ, ◌^◌, ◌<◌, ◌≤◌, ℤ, pos, negsuc, unsigned_abs, Bool, List, [], ◌∷◌, ◌++◌, length, map, take, drop}
 use Rattle.std.specs.List.{All, flat_map}
-use Rattle.bitvec_slice.specs.Signed.{signed_of, complement_of, HasDigits}
+use Rattle.bitvec_slice.specs.Signed.{signed_of, complement_of, FitsSignedDigits}
 use Rattle.bitvec_stream.specs.Golomb.{golomb, signed_place, StartsWith}
 use Rattle.bitvec_stream.specs.Numbers.{number_le, number_be, digits_le, digits_be}
 
--- A way to write a number: in so many bits, the highest digit first or the lowest, as an unsigned number or as a two's
+-- A way to write a number: in a number of bits, the highest digit first or the lowest, as an unsigned number or as a two's
 -- complement; or as an Exp-Golomb code.
 pub data Way : Type 0 where
   highest_first : ℕ → Way
@@ -29,8 +29,8 @@ IsUnsigned (negsuc n) = ⊥
 abbrev pub CanBeWritten : Way → ℤ → Type 0
 CanBeWritten (highest_first count) z = IsBelow (2 ^ count) z
 CanBeWritten (lowest_first count) z = IsBelow (2 ^ count) z
-CanBeWritten (signed_highest_first count) z = HasDigits count z
-CanBeWritten (signed_lowest_first count) z = HasDigits count z
+CanBeWritten (signed_highest_first count) z = FitsSignedDigits count z
+CanBeWritten (signed_lowest_first count) z = FitsSignedDigits count z
 CanBeWritten exp_golomb z = IsUnsigned z
 CanBeWritten signed_exp_golomb z = Unit {0}
 

@@ -47,7 +47,7 @@ Writes old new bits =
     (written new ≡ written old ++ bits) × (room new ≡ drop (length bits) (room old)) × (bits_written new ≡ bits_written old + length bits)
     × BecomesTarget old new (written old ++ bits ++ drop (length bits) (room old))
 
--- A writer has passed over so many bits of its room, which are as they were.
+-- A writer has passed over `count` bits of its room, which are as they were.
 abbrev pub Skips : {R O : Type 0} {a b c d e f g h i : _} → (old new : BitWriter R O a b c d e f g h i) → ℕ → Type 0
 Skips old new count =
     (written new ≡ written old ++ take count (room old)) × (room new ≡ drop count (room old)) × (bits_written new ≡ bits_written old + count)

@@ -7,7 +7,7 @@
 ghost use Rattle.std.specs.Prelude.{◌≡◌, ◌%◌, ◌^◌, ◌<◌, ◌≤◌, length};
 ghost use Rattle.bitvec.specs.BitSpan.{span_of};
 ghost use Rattle.bitvec.specs.Span.{Fits};
-ghost use Rattle.bitvec_slice.specs.BitSlice.{slice_len, bits_of};
+ghost use Rattle.bitvec_slice.specs.BitSlice.{slice_len, slice_bits};
 ghost use Rattle.bitvec_slice.specs.Signed.{signed_of};
 ghost use Rattle.bitvec_stream.specs.Numbers.{number_le, number_be};
 
@@ -49,7 +49,7 @@ fn high_span(count: usize) -> BitSpan<u128, Msb0>
 // The number of a slice's bits, the first the highest.
 pub(crate) fn load_be<R: BitRegister, O: BitOrder<R>>(part: BitSlice<'_, R, O>) -> u128
     requires { slice_len part ≤ 128 }
-    ensures { result ≡ number_be (bits_of part.entry) }
+    ensures { result ≡ number_be (slice_bits part.entry) }
 {
     part.load_digits_be(0, part.len())
 }
@@ -59,7 +59,7 @@ pub(crate) fn load_signed_le<R: BitRegister, O: BitOrder<R>, N: SignedNumber>(
     part: BitSlice<'_, R, O>,
 ) -> N
     requires { slice_len part ≤ N.BITS }
-    ensures { let bits = bits_of part.entry
+    ensures { let bits = slice_bits part.entry
         in N.number result ≡ signed_of (length bits) (number_le bits) }
 {
     let mut words = [0u128];
@@ -73,7 +73,7 @@ pub(crate) fn load_signed_be<R: BitRegister, O: BitOrder<R>, N: SignedNumber>(
     part: BitSlice<'_, R, O>,
 ) -> N
     requires { slice_len part ≤ N.BITS }
-    ensures { let bits = bits_of part.entry
+    ensures { let bits = slice_bits part.entry
         in N.number result ≡ signed_of (length bits) (number_be bits) }
 {
     let mut words = [0u128];

@@ -4,7 +4,7 @@ ghost use Rattle.std.specs.Prelude.{◌≡◌, ⊤, ◌+◌, ◌-◌, ◌<◌, �
 ghost use Rattle.std.specs.Prelude.{MatchResult};
 ghost use Rattle.std.specs.Prelude.{IfErr, length, take};
 ghost use Rattle.bitvec.specs.Span.{element};
-ghost use Rattle.bitvec_slice.specs.BitSlice.{slice_memory, slice_span, slice_len, bits_of};
+ghost use Rattle.bitvec_slice.specs.BitSlice.{slice_memory, slice_span, slice_len, slice_bits};
 ghost use Rattle.bitvec_stream.specs.Multiples.{to_multiple};
 ghost use Rattle.bitvec_stream.specs.Window.{Keeps};
 
@@ -48,7 +48,7 @@ pub struct BitReader<'a, R: BitRegister, O: BitOrder<R>> {
     pub ghost within: { loaded ≤ slice_len slice },
     pub ghost behind: { kept ≤ loaded },
     pub ghost few: { kept < R.BITS },
-    pub ghost shown: { Keeps R.BITS O.at_of (bits_of slice) (loaded - kept) kept
+    pub ghost shown: { Keeps R.BITS O.at_of (slice_bits slice) (loaded - kept) kept
         (R.number window) },
 }
 
@@ -68,13 +68,13 @@ impl<'a, R: BitRegister, O: BitOrder<R>> Clone for BitReader<'a, R, O> {
 }
 
 impl<'a, R: BitRegister, O: BitOrder<R>> BitReader<'a, R, O> {
-    ghost use Rattle.bitvec_stream.specs.Reader.{source, bits_read, rest, next_span, Passes};
+    ghost use Rattle.bitvec_stream.specs.Reader.{source, bits_read, unread, next_span, Passes};
 
     /// A reader before the first bit of a slice. Constant time. Not in the Rust crate.
     pub fn new(slice: BitSlice<'a, R, O>) -> Self
         ensures source { source result ≡ slice.entry }
         ensures position { bits_read result ≡ 0 }
-        ensures rest { rest result ≡ bits_of slice.entry }
+        ensures rest { unread result ≡ slice_bits slice.entry }
     {
         Self::at(slice, 0)
     }
@@ -97,21 +97,21 @@ impl<'a, R: BitRegister, O: BitOrder<R>> BitReader<'a, R, O> {
     /// How many bits were read or passed over. Constant time. Not in the Rust crate.
     pub fn position(&self) -> usize
         ensures value { result ≡ bits_read self.now }
-        ensures rest { result + length (rest self.now) ≡ slice_len (source self.now) }
+        ensures rest { result + length (unread self.now) ≡ slice_len (source self.now) }
     {
         self.loaded - self.kept
     }
 
     /// How many bits are left. Constant time. Not in the Rust crate.
     pub fn remaining(&self) -> usize
-        ensures { result ≡ length (rest self.now) }
+        ensures { result ≡ length (unread self.now) }
     {
         self.slice.len() - self.position()
     }
 
     /// Whether no bit is left. Constant time. Not in the Rust crate.
     pub fn is_empty(&self) -> bool
-        ensures { IsTrue result ↔ (length (rest self.now) ≡ 0) }
+        ensures { IsTrue result ↔ (length (unread self.now) ≡ 0) }
     {
         self.remaining() == 0
     }
@@ -119,7 +119,7 @@ impl<'a, R: BitRegister, O: BitOrder<R>> BitReader<'a, R, O> {
     // Passes over so many bits, which are left.
     #[inline(always)]
     fn pass(&mut self, count: usize)
-        requires { count ≤ length (rest self.old) }
+        requires { count ≤ length (unread self.old) }
         ensures { Passes self.old self.new count }
     {
         if 0 < count && count <= self.kept {
@@ -134,8 +134,8 @@ impl<'a, R: BitRegister, O: BitOrder<R>> BitReader<'a, R, O> {
     /// The next bit. It refuses with `TooFew` exactly where none is left. Constant time. Not in the
     /// Rust crate.
     pub fn read_bit(&mut self) -> Result<bool, ReadError>
-        ensures accepted { IsOk result ↔ (0 < length (rest self.old)) }
-        ensures value { IfOk result (λ bit. bit ≡ element (rest self.old) 0) }
+        ensures accepted { IsOk result ↔ (0 < length (unread self.old)) }
+        ensures value { IfOk result (λ bit. bit ≡ element (unread self.old) 0) }
         ensures moved { MatchResult result (λ _. Passes self.old self.new 1)
             (λ error. (error ≡ ReadError.TooFew) × (self.new ≡ self.old)) }
     {
@@ -151,8 +151,8 @@ impl<'a, R: BitRegister, O: BitOrder<R>> BitReader<'a, R, O> {
     /// The next `count` bits as a slice of the same memory; the reader stays before them. It
     /// refuses with `TooFew` exactly where fewer are left. Constant time. Not in the Rust crate.
     pub fn peek_slice(&self, count: usize) -> Result<BitSlice<'a, R, O>, ReadError>
-        ensures accepted { IsOk result ↔ (count ≤ length (rest self.now)) }
-        ensures bits { IfOk result (λ part. bits_of part ≡ take count (rest self.now)) }
+        ensures accepted { IsOk result ↔ (count ≤ length (unread self.now)) }
+        ensures bits { IfOk result (λ part. slice_bits part ≡ take count (unread self.now)) }
         ensures len { IfOk result (λ part. slice_len part ≡ count) }
         ensures memory { IfOk result (λ part. slice_memory part ≡ slice_memory (source self.now)) }
         ensures span { IfOk result (λ part. slice_span part ≡ next_span R.BITS self.now count) }
@@ -181,8 +181,8 @@ impl<'a, R: BitRegister, O: BitOrder<R>> BitReader<'a, R, O> {
     /// assert_eq!(rt; reader.remaining(), 10);
     /// ```
     pub fn read_slice(&mut self, count: usize) -> Result<BitSlice<'a, R, O>, ReadError>
-        ensures accepted { IsOk result ↔ (count ≤ length (rest self.old)) }
-        ensures bits { IfOk result (λ part. bits_of part ≡ take count (rest self.old)) }
+        ensures accepted { IsOk result ↔ (count ≤ length (unread self.old)) }
+        ensures bits { IfOk result (λ part. slice_bits part ≡ take count (unread self.old)) }
         ensures len { IfOk result (λ part. slice_len part ≡ count) }
         ensures memory { IfOk result (λ part. slice_memory part ≡ slice_memory (source self.old)) }
         ensures span { IfOk result (λ part. slice_span part ≡ next_span R.BITS self.old count) }
@@ -197,7 +197,7 @@ impl<'a, R: BitRegister, O: BitOrder<R>> BitReader<'a, R, O> {
     /// Passes over `count` bits. It refuses with `TooFew` exactly where fewer are left. Constant
     /// time. Not in the Rust crate.
     pub fn skip(&mut self, count: usize) -> Result<(), ReadError>
-        ensures accepted { IsOk result ↔ (count ≤ length (rest self.old)) }
+        ensures accepted { IsOk result ↔ (count ≤ length (unread self.old)) }
         ensures moved { MatchResult result (λ _. Passes self.old self.new count)
             (λ error. (error ≡ ReadError.TooFew) × (self.new ≡ self.old)) }
     {
@@ -215,7 +215,7 @@ impl<'a, R: BitRegister, O: BitOrder<R>> BitReader<'a, R, O> {
     pub fn skip_to_multiple(&mut self, of: usize) -> Result<(), ReadError>
         requires { 0 < of }
         ensures accepted { let count = to_multiple of (bits_read self.old)
-            in IsOk result ↔ (count ≤ length (rest self.old)) }
+            in IsOk result ↔ (count ≤ length (unread self.old)) }
         ensures moved { let count = to_multiple of (bits_read self.old)
             in MatchResult result (λ _. Passes self.old self.new count)
             (λ error. (error ≡ ReadError.TooFew) × (self.new ≡ self.old)) }

@@ -7,7 +7,7 @@ ghost use Rattle.bitvec.specs.BitSpan.{span_of, list_by};
 ghost use Rattle.bitvec.specs.Memory.{memory_bits};
 ghost use Rattle.bitvec.specs.Place.{region_max_bits};
 ghost use Rattle.bitvec.specs.Span.{Fits, span_upto};
-ghost use Rattle.bitvec_slice.specs.BitSlice.{slice_memory, slice_span, slice_len, bits_of};
+ghost use Rattle.bitvec_slice.specs.BitSlice.{slice_memory, slice_span, slice_len, slice_bits};
 ghost use Rattle.bitvec_slice.specs.BitSliceMut.{lent_memory, lent_span, lent_bits};
 ghost use Rattle.bitvec_slice.specs.Lengths.{HasLength};
 ghost use Rattle.bitvec_slice.specs.Whole.{whole_span, ShowsMemory};
@@ -128,7 +128,7 @@ impl<'a, R: BitRegister, O: BitOrder<R>> BitWriter<'a, R, O> {
     fn slice(&self) -> BitSlice<'_, R, O>
         ensures memory { slice_memory result ≡ (target_memory self.now).now }
         ensures span { slice_span result ≡ target_span self.now }
-        ensures bits { bits_of result ≡ target_bits self.now }
+        ensures bits { slice_bits result ≡ target_bits self.now }
     {
         BitSlice::new_unchecked(self.span, &*self.memory)
     }
@@ -161,7 +161,7 @@ impl<'a, R: BitRegister, O: BitOrder<R>> BitWriter<'a, R, O> {
     /// assert_eq!(rt; reader.read_le::<u8>(5), Ok(11));
     /// ```
     pub fn written(&self) -> BitSlice<'_, R, O>
-        ensures bits { bits_of result ≡ written self.now }
+        ensures bits { slice_bits result ≡ written self.now }
         ensures memory { slice_memory result ≡ (target_memory self.now).now }
         ensures span { slice_span result ≡ span_upto (target_span self.now) (bits_written self.now) }
     {
@@ -201,7 +201,7 @@ impl<'a, R: BitRegister, O: BitOrder<R>> BitWriter<'a, R, O> {
     // Writes the bits of a slice, for which there is room.
     fn put_slice<R2: BitRegister, O2: BitOrder<R2>>(&mut self, source: BitSlice<'_, R2, O2>)
         requires { slice_len source ≤ length (room self.old) }
-        ensures { Writes self.old self.new (bits_of source.entry) }
+        ensures { Writes self.old self.new (slice_bits source.entry) }
     {
         let (position, count) = (self.position(), source.len());
         self.kept = 0;
@@ -233,7 +233,7 @@ impl<'a, R: BitRegister, O: BitOrder<R>> BitWriter<'a, R, O> {
     ) -> Result<(), WriteError>
         ensures accepted { IsOk result ↔ (slice_len source.entry ≤ length (room self.old)) }
         ensures written { MatchResult result
-            (λ _. Writes self.old self.new (bits_of source.entry))
+            (λ _. Writes self.old self.new (slice_bits source.entry))
             (λ error. (error ≡ WriteError.NoRoom) × (self.new ≡ self.old)) }
     {
         if self.remaining() < source.len() {

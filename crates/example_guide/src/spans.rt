@@ -4,7 +4,7 @@ ghost use Rattle.std.specs.Prelude.{◌≡◌, ◌↔◌, IsTrue, IsFalse, IsSom
 ghost use Rattle.std.specs.Prelude.{replicate};
 ghost use Rattle.bitvec.specs.BitSpan.{span_of, list_by, Becomes};
 ghost use Rattle.bitvec.specs.Span.{Fits};
-ghost use Rattle.bitvec_slice.specs.BitSlice.{bits_of, slice_len};
+ghost use Rattle.bitvec_slice.specs.BitSlice.{slice_bits, slice_len};
 ghost use Rattle.bitvec.specs.Truths.{ones_in};
 
 use bitvec::mem::BitRegister;
@@ -48,7 +48,7 @@ pub fn copy_if_inside<R: BitRegister, O: BitOrder<R>, R2: BitRegister, O2: BitOr
     ensures inside { IsTrue result ↔ (Fits R2.BITS (span_of span) (length memory.old)
         × (slice_len source.now ≡ (span_of span).len)) }
     ensures copied { IsTrue result → Becomes span O2.at_of memory.old memory.new
-        (bits_of source.now) }
+        (slice_bits source.now) }
     ensures refused { IsFalse result → memory.new ≡ memory.old }
 {
     if !span.fits(memory.len()) || source.len() != span.len() {

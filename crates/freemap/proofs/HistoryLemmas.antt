@@ -5,7 +5,7 @@ use Rattle.bitvec.specs.Span.{element, with_filled}
 use Rattle.bitvec_slice.specs.Bits.{AreFree}
 use Rattle.bitvec_slice.proofs.EditRangeLemmas.{filled_new, filled_kept}
 use Rattle.freemap.specs.Blocks.{AreInUse}
-use Rattle.freemap.specs.History.{HoldsBlock, IsHeld, AreDisjointRanges, Owns, Call, HandsOut, TakesBack, IsCall, HistoriesKeepOwners}
+use Rattle.freemap.specs.History.{HoldsBlock, IsHeld, AreDisjointRanges, Owns, Call, HandsOut, TakesBack, IsTransition, HistoriesKeepOwners}
 
 -- a range holds a block, or the block is beside it
 beside : (at count block : ℕ) → HoldsBlock (at, count) block ⊎ ((block < at) ⊎ (at + count ≤ block))
@@ -132,7 +132,7 @@ taken_back old new at count is inside same = (
 )
 
 -- one call
-call_keeps : (call : Call) (used after : List Bool) (live left : List (ℕ × ℕ)) → Owns used live → IsCall call used live after left → Owns after left
+call_keeps : (call : Call) (used after : List Bool) (live left : List (ℕ × ℕ)) → Owns used live → IsTransition call used live after left → Owns after left
 call_keeps (HandsOut at count) used after live left owns is = subst (Owns after) (sym is.2) (owned_more used after at count is.1 is.0 live owns)
 call_keeps (TakesBack at count) used after live left owns is =
     let before = is.2.0 in

@@ -13,11 +13,11 @@ map_span blocks = record { word = pos 0; head = 0; len = blocks }
 abbrev pub stored_blocks : (ℕ → ℕ) → ℕ → List ℕ → List Bool
 stored_blocks at blocks words = list_of 64 at (map_span blocks) words
 
--- how many words have so many bits, 64 each: the bits by 64, rounded up
+-- how many words have `bits` bits, 64 each: the bits by 64, rounded up
 abbrev pub word_count : ℕ → ℕ
 word_count bits = (bits + 63) / 64
 
--- so many words have room for the map of so many blocks, and a map can have as many
+-- `words` words have room for the map of `blocks` blocks, and a map can have as many
 abbrev pub HasRoom : ℕ → ℕ → Type 0
 HasRoom words blocks = (blocks ≤ words * 64) × (blocks ≤ region_max_bits)
 

@@ -35,10 +35,10 @@ pub data Call : Type 0 where
   TakesBack : ℕ → ℕ → Call
 
 -- A call takes the blocks and the live ranges to others. What is handed out was free, and becomes a live range; what is
--- taken back is a live range.
-abbrev pub IsCall : Call → List Bool → List (ℕ × ℕ) → List Bool → List (ℕ × ℕ) → Type 0
-IsCall (HandsOut at count) used live after left = AreFree used at count × (after ≡ with_filled used at (at + count) true) × (left ≡ (at, count) ∷ live)
-IsCall (TakesBack at count) used live after left =
+-- taken back was a live range, and is live no more. Every other block stays as it is.
+abbrev pub IsTransition : Call → List Bool → List (ℕ × ℕ) → List Bool → List (ℕ × ℕ) → Type 0
+IsTransition (HandsOut at count) used live after left = AreFree used at count × (after ≡ with_filled used at (at + count) true) × (left ≡ (at, count) ∷ live)
+IsTransition (TakesBack at count) used live after left =
     AreInUse used at count × (after ≡ with_filled used at (at + count) false)
     × ((before : List (ℕ × ℕ)) × (later : List (ℕ × ℕ)) × (live ≡ before ++ (at, count) ∷ later) × (left ≡ before ++ later))
 
@@ -46,7 +46,7 @@ IsCall (TakesBack at count) used live after left =
 abbrev pub IsHistory : List Call → List Bool → List (ℕ × ℕ) → List Bool → List (ℕ × ℕ) → Type 0
 IsHistory [] used live after left = (after ≡ used) × (left ≡ live)
 IsHistory (call ∷ calls) used live after left =
-    (between : List Bool) × (ranges : List (ℕ × ℕ)) × IsCall call used live between ranges × IsHistory calls between ranges after left
+    (between : List Bool) × (ranges : List (ℕ × ℕ)) × IsTransition call used live between ranges × IsHistory calls between ranges after left
 
 -- Over any list of calls the live ranges stay pairwise disjoint, and hold what is in use.
 abbrev pub HistoriesKeepOwners : Type 0

@@ -23,8 +23,8 @@ pub record BecomesBlocks {O : Type 0} {a b : _} (old new : FreeMap O a b) (block
   pub words : BecomesList 64 b.at_of (map_span (length (in_use old))) (map_words old).now (map_words new).now blocks
 
 -- `count` blocks from an answer on are in use afterwards, and all else is as before; after `None` the map is as before
-abbrev pub Takes : {O : Type 0} {a b : _} → (old new : FreeMap O a b) → ℕ → Option ℕ → Type 0
-Takes old new count answer = MatchOption answer (new ≡ old) (λ at. BecomesBlocks old new (with_filled (in_use old) at (at + count) true))
+abbrev pub Allocates : {O : Type 0} {a b : _} → (old new : FreeMap O a b) → ℕ → Option ℕ → Type 0
+Allocates old new count answer = MatchOption answer (new ≡ old) (λ at. BecomesBlocks old new (with_filled (in_use old) at (at + count) true))
 
 -- the loan of its words, with the bits behind those of the blocks
 abbrev pub map_loan : {O : Type 0} {a b : _} → FreeMap O a b → LevelLoan

@@ -19,7 +19,7 @@ pub record IsFirstFreeOf (used : List Bool) (w block : ℕ) : Type 0 where
   pub free : element used block ≡ false
   pub before : (k : ℕ) → w * 64 ≤ k → k < block → element used k ≡ true
 
--- how many words the summary of so many blocks takes: a bit for each word of blocks, and one for each word of those
+-- how many words the summary of `blocks` blocks takes: a bit for each word of blocks, and one for each word of those
 abbrev pub summary_words : ℕ → ℕ
 summary_words blocks = word_count (word_count blocks) + word_count (word_count (word_count blocks))
 

@@ -12,7 +12,7 @@ use crate::map::{FreeMap, words_for};
 use bitvec::order::BitOrder;
 
 impl<'a, O: BitOrder<u64>> FreeMap<'a, O> {
-    ghost use Rattle.freemap.specs.Map.{in_use, BecomesBlocks, Takes};
+    ghost use Rattle.freemap.specs.Map.{in_use, BecomesBlocks, Allocates};
 
     // Hands out `count` free blocks from block `at` on.
     pub(crate) fn take(&mut self, at: usize, count: usize)
@@ -34,7 +34,7 @@ impl<'a, O: BitOrder<u64>> FreeMap<'a, O> {
     /// up to that of the block.
     pub fn alloc(&mut self) -> Option<usize>
         ensures answer { IsLowest (λ at. AreFree (in_use self.old) at 1) result }
-        ensures taken { Takes self.old self.new 1 result }
+        ensures taken { Allocates self.old self.new 1 result }
         ensures handed { IfSome result (λ at. AreInUse (in_use self.new) at 1) }
         ensures owned { OwnsMore (in_use self.old) (in_use self.new) 1 result }
     {
@@ -48,7 +48,7 @@ impl<'a, O: BitOrder<u64>> FreeMap<'a, O> {
     /// word of `block` on.
     pub fn alloc_at_or_after(&mut self, block: usize) -> Option<usize>
         ensures answer { IsLowest (λ at. (block ≤ at) × AreFree (in_use self.old) at 1) result }
-        ensures taken { Takes self.old self.new 1 result }
+        ensures taken { Allocates self.old self.new 1 result }
         ensures handed { IfSome result (λ at. AreInUse (in_use self.new) at 1) }
         ensures owned { OwnsMore (in_use self.old) (in_use self.new) 1 result }
     {
@@ -67,7 +67,7 @@ impl<'a, O: BitOrder<u64>> FreeMap<'a, O> {
     /// another order, by bits, and words in full use are passed at once.
     pub fn alloc_run(&mut self, count: usize) -> Option<usize>
         ensures answer { IsLowest (λ at. AreFree (in_use self.old) at count) result }
-        ensures taken { Takes self.old self.new count result }
+        ensures taken { Allocates self.old self.new count result }
         ensures handed { IfSome result (λ at. AreInUse (in_use self.new) at count) }
         ensures owned { OwnsMore (in_use self.old) (in_use self.new) count result }
     {
@@ -85,7 +85,7 @@ impl<'a, O: BitOrder<u64>> FreeMap<'a, O> {
     pub fn alloc_run_aligned(&mut self, count: usize, alignment: usize) -> Option<usize>
         requires { 0 < alignment }
         ensures answer { IsLowest (AreFreeFrom (in_use self.old) 0 count alignment) result }
-        ensures taken { Takes self.old self.new count result }
+        ensures taken { Allocates self.old self.new count result }
         ensures handed { IfSome result (λ at. AreInUse (in_use self.new) at count) }
         ensures owned { OwnsMore (in_use self.old) (in_use self.new) count result }
     {

@@ -10,7 +10,7 @@ ghost use Rattle.bitvec_slice.specs.Ranges.{KeepsBeside};
 ghost use Rattle.freemap.specs.Blocks.{word_count, AreInUse, IsLowest};
 ghost use Rattle.freemap.specs.FreeRuns.{IsNextRun};
 ghost use Rattle.freemap.specs.History.{Owns, OwnsMore};
-ghost use Rattle.freemap.specs.Map.{in_use, BecomesBlocks, Takes};
+ghost use Rattle.freemap.specs.Map.{in_use, BecomesBlocks, Allocates};
 ghost use Rattle.freemap.specs.Summary.{summary_words, IsFull, SaysOf, Summarises};
 ghost use Rattle.freemap.specs.Summary.{SummarisesBeside};
 
@@ -316,7 +316,7 @@ impl<'a, O: BitOrder<u64>, S: Level> LeveledMap<'a, O, S> {
     /// that says where, and into one word of each other level.
     pub fn alloc(&mut self) -> Option<usize>
         ensures answer { IsLowest (λ at. AreFree (in_use (map_of self.old)) at 1) result }
-        ensures taken { Takes (map_of self.old) (map_of self.new) 1 result }
+        ensures taken { Allocates (map_of self.old) (map_of self.new) 1 result }
         ensures handed { IfSome result (λ at. AreInUse (in_use (map_of self.new)) at 1) }
         ensures owned { OwnsMore (in_use (map_of self.old)) (in_use (map_of self.new)) 1 result }
         ensures lent { level_loans self.new ≡ level_loans self.old }
@@ -333,7 +333,7 @@ impl<'a, O: BitOrder<u64>, S: Level> LeveledMap<'a, O, S> {
     pub fn alloc_at_or_after(&mut self, block: usize) -> Option<usize>
         ensures answer { let used = in_use (map_of self.old)
             in IsLowest (λ at. (block ≤ at) × AreFree used at 1) result }
-        ensures taken { Takes (map_of self.old) (map_of self.new) 1 result }
+        ensures taken { Allocates (map_of self.old) (map_of self.new) 1 result }
         ensures handed { IfSome result (λ at. AreInUse (in_use (map_of self.new)) at 1) }
         ensures owned { OwnsMore (in_use (map_of self.old)) (in_use (map_of self.new)) 1 result }
         ensures lent { level_loans self.new ≡ level_loans self.old }
@@ -352,7 +352,7 @@ impl<'a, O: BitOrder<u64>, S: Level> LeveledMap<'a, O, S> {
     /// does, and then the levels say where the next free block is.
     pub fn alloc_run(&mut self, count: usize) -> Option<usize>
         ensures answer { IsLowest (λ at. AreFree (in_use (map_of self.old)) at count) result }
-        ensures taken { Takes (map_of self.old) (map_of self.new) count result }
+        ensures taken { Allocates (map_of self.old) (map_of self.new) count result }
         ensures handed { IfSome result (λ at. AreInUse (in_use (map_of self.new)) at count) }
         ensures owned { OwnsMore (in_use (map_of self.old)) (in_use (map_of self.new)) count
             result }
@@ -373,7 +373,7 @@ impl<'a, O: BitOrder<u64>, S: Level> LeveledMap<'a, O, S> {
         requires { 0 < alignment }
         ensures answer { IsLowest (AreFreeFrom (in_use (map_of self.old)) 0 count alignment)
             result }
-        ensures taken { Takes (map_of self.old) (map_of self.new) count result }
+        ensures taken { Allocates (map_of self.old) (map_of self.new) count result }
         ensures handed { IfSome result (λ at. AreInUse (in_use (map_of self.new)) at count) }
         ensures owned { OwnsMore (in_use (map_of self.old)) (in_use (map_of self.new)) count
             result }

@@ -5,7 +5,7 @@ ghost use Rattle.std.specs.Prelude.{MatchOption, Some, length, replicate};
 ghost use Rattle.bitvec.specs.Place.{region_max_bits};
 ghost use Rattle.bitvec.specs.Span.{KeepsOthers, BecomesList, element, with_filled};
 ghost use Rattle.bitvec_slice.specs.Bits.{AreFree, zeros_in};
-ghost use Rattle.bitvec_slice.specs.BitSlice.{bits_of};
+ghost use Rattle.bitvec_slice.specs.BitSlice.{slice_bits};
 ghost use Rattle.freemap.specs.Blocks.{map_span, stored_blocks, word_count, HasRoom};
 ghost use Rattle.freemap.specs.Blocks.{AreInUse, IsLowest};
 ghost use Rattle.freemap.specs.Summary.{IsFull, IsFullFrom, IsFirstFreeOf};
@@ -112,7 +112,7 @@ impl<'a, O: BitOrder<u64>> FreeMap<'a, O> {
 
     // Its bits, for reading.
     pub(crate) fn bits(&self) -> BitSlice<'_, u64, O>
-        ensures { bits_of result ≡ in_use self.now }
+        ensures { slice_bits result ≡ in_use self.now }
     {
         BitSlice::new(BitSpan::at_unchecked(0, self.blocks), &*self.words).unwrap()
     }

@@ -2,7 +2,7 @@
 
 ghost use Rattle.std.specs.Prelude.{◌≡◌, ⊤, ◌<◌, ◌≤◌, true, false, MatchOption, length};
 ghost use Rattle.bitvec.specs.Span.{element};
-ghost use Rattle.bitvec_slice.specs.BitSlice.{bits_of};
+ghost use Rattle.bitvec_slice.specs.BitSlice.{slice_bits};
 ghost use Rattle.bitvec_slice.specs.Bits.{AllBetween, AreFree};
 ghost use Rattle.freemap.specs.Blocks.{IsLargestRun};
 ghost use Rattle.freemap.specs.FreeRuns.{IsEnd, IsNextRun, free_runs};
@@ -32,9 +32,9 @@ use std::iter::FusedIterator;
 pub struct FreeRuns<'a, O: BitOrder<u64>> {
     bits: BitSlice<'a, u64, O>,
     next: usize,
-    pub ghost inside: { next ≤ length (bits_of bits) },
-    pub ghost edge: { 0 < next → next < length (bits_of bits)
-        → element (bits_of bits) next ≡ true },
+    pub ghost inside: { next ≤ length (slice_bits bits) },
+    pub ghost edge: { 0 < next → next < length (slice_bits bits)
+        → element (slice_bits bits) next ≡ true },
 }
 
 impl<'a, O: BitOrder<u64>> Clone for FreeRuns<'a, O> {
@@ -72,7 +72,7 @@ impl<'a, O: BitOrder<u64>> FusedIterator for FreeRuns<'a, O> {}
 
 // The first run of free blocks from block `from` on, by the bits of a map.
 fn run_after<O: BitOrder<u64>>(bits: &BitSlice<'_, u64, O>, from: usize) -> Option<(usize, usize)>
-    ensures { let used = bits_of bits.now
+    ensures { let used = slice_bits bits.now
         in MatchOption result (AllBetween true used from (length used))
         (λ run. IsNextRun used from run.0 run.1) }
 {
@@ -82,9 +82,9 @@ fn run_after<O: BitOrder<u64>>(bits: &BitSlice<'_, u64, O>, from: usize) -> Opti
 
 // One past the free blocks in a row from a free one on.
 fn end_of_free<O: BitOrder<u64>>(bits: &BitSlice<'_, u64, O>, at: usize) -> usize
-    requires inside { at < length (bits_of bits.now) }
-    requires free { element (bits_of bits.now) at ≡ false }
-    ensures { IsEnd (bits_of bits.now) at result }
+    requires inside { at < length (slice_bits bits.now) }
+    requires free { element (slice_bits bits.now) at ≡ false }
+    ensures { IsEnd (slice_bits bits.now) at result }
 {
     match bits.next_one(at) {
         Some(end) => end,

@@ -8,7 +8,7 @@ ghost use Rattle.std.specs.Cmp.Lexicographic.{slice_cmp};
 ghost use Rattle.std.specs.Ordering.{bool_cmp};
 ghost use Rattle.bitvec.specs.Digit.{exclusive_or};
 ghost use Rattle.bitvec.specs.Memory.{zip_with};
-ghost use Rattle.bitvec_slice.specs.BitSlice.{bits_of};
+ghost use Rattle.bitvec_slice.specs.BitSlice.{slice_bits};
 ghost use Rattle.bitvec_array.specs.Array.{array_len};
 ghost use Rattle.bitvec_array.specs.BitArray.{array_bits};
 
@@ -39,7 +39,7 @@ fn hash_of_a_slice<O: BitOrder<usize>, H: Hasher, const N: usize>(
     here: &mut H,
     there: &mut H,
 )
-    requires same { array_bits array.now ≡ bits_of slice }
+    requires same { array_bits array.now ≡ slice_bits slice }
     requires state { here.old ≡ there.old }
     ensures { here.new ≡ there.new }
 {

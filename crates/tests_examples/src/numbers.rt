@@ -1,7 +1,7 @@
 //! Numbers in a row: the length of a packet, put into its header and taken from it.
 
 ghost use Rattle.std.specs.Prelude.{◌≡◌, ◌↔◌, ◌≤◌, IsOk, IfOk, length, take, drop};
-ghost use Rattle.bitvec_slice.specs.BitSlice.{bits_of};
+ghost use Rattle.bitvec_slice.specs.BitSlice.{slice_bits};
 ghost use Rattle.bitvec_stream.specs.Numbers.{number_be};
 
 use bitvec::mem::BitRegister;
@@ -25,8 +25,8 @@ pub fn write_header<R: BitRegister, O: BitOrder<R>>(
 pub fn length_of<R: BitRegister, O: BitOrder<R>>(
     header: BitSlice<'_, R, O>,
 ) -> Result<u16, ReadError>
-    ensures whole { IsOk result ↔ (32 ≤ length (bits_of header.entry)) }
-    ensures value { IfOk result (λ n. n ≡ number_be (take 16 (drop 16 (bits_of header.entry)))) }
+    ensures whole { IsOk result ↔ (32 ≤ length (slice_bits header.entry)) }
+    ensures value { IfOk result (λ n. n ≡ number_be (take 16 (drop 16 (slice_bits header.entry)))) }
 {
     let mut reader = BitReader::new(header);
     reader.skip(16)?;

@@ -2,7 +2,7 @@
 
 ghost use Rattle.std.specs.Prelude.{◌≡◌, ◌↔◌, ◌≤◌, IsSome, IfSome, MatchOption};
 ghost use Rattle.std.specs.Prelude.{take, drop, length};
-ghost use Rattle.bitvec_slice.specs.BitSlice.{slice_len, bits_of};
+ghost use Rattle.bitvec_slice.specs.BitSlice.{slice_len, slice_bits};
 
 use bitvec::mem::BitRegister;
 use bitvec::order::BitOrder;
@@ -17,27 +17,27 @@ struct Cursor<'a, R: BitRegister, O: BitOrder<R>> {
 }
 
 impl<'a, R: BitRegister, O: BitOrder<R>> Cursor<'a, R, O> {
-    ghost use Rattle.tests_slice.specs.Cursor.{rest};
+    ghost use Rattle.tests_slice.specs.Cursor.{cursor_left};
 
     fn new(slice: BitSlice<'a, R, O>) -> Self
-        ensures { rest result ≡ bits_of slice.entry }
+        ensures { cursor_left result ≡ slice_bits slice.entry }
     {
         Cursor { slice, position: 0 }
     }
 
     /// How many bits are left.
     fn left(&self) -> usize
-        ensures { result ≡ length (rest self.now) }
+        ensures { result ≡ length (cursor_left self.now) }
     {
         self.slice.len() - self.position
     }
 
     /// The next `count` bits, and `None` where fewer are left, and then the cursor stays.
     fn take(&mut self, count: usize) -> Option<BitSlice<'a, R, O>>
-        ensures some { IsSome result ↔ (count ≤ length (rest self.old)) }
-        ensures taken { IfSome result (λ part. bits_of part ≡ take count (rest self.old)) }
+        ensures some { IsSome result ↔ (count ≤ length (cursor_left self.old)) }
+        ensures taken { IfSome result (λ part. slice_bits part ≡ take count (cursor_left self.old)) }
         ensures left { MatchOption result (self.new ≡ self.old)
-            (λ _. rest self.new ≡ drop count (rest self.old)) }
+            (λ _. cursor_left self.new ≡ drop count (cursor_left self.old)) }
     {
         if self.slice.len() - self.position < count {
             return None;
@@ -49,7 +49,7 @@ impl<'a, R: BitRegister, O: BitOrder<R>> Cursor<'a, R, O> {
 
     /// What is left, as a slice.
     fn rest(&self) -> BitSlice<'a, R, O>
-        ensures { bits_of result ≡ rest self.now }
+        ensures { slice_bits result ≡ cursor_left self.now }
     {
         let (_, rest) = self.slice.split_at(self.position);
         rest

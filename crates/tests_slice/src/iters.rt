@@ -6,8 +6,8 @@
 
 ghost use Rattle.std.specs.Prelude.{◌≡◌};
 ghost use Rattle.std.specs.Iterator.{YieldsFirst, YieldsLast};
-ghost use Rattle.bitvec_slice.specs.BitSlice.{slice_memory, slice_span, bits_of};
-ghost use Rattle.bitvec_slice.specs.Iter.{rest_memory, rest_span, rest_of};
+ghost use Rattle.bitvec_slice.specs.BitSlice.{slice_memory, slice_span, slice_bits};
+ghost use Rattle.bitvec_slice.specs.Iter.{iter_memory, iter_span, iter_left};
 ghost use Rattle.bitvec_slice.specs.Ones.{ones_left, zeros_left};
 ghost use Rattle.bitvec_slice.specs.Runs.{runs_left};
 
@@ -19,13 +19,13 @@ use bitvec_slice::slice::{BitSlice, Iter, IterOnes, IterRuns, IterZeros};
 // left, and then the iterator has none. The same of the last.
 
 fn next_bit<'a, R: BitRegister, O: BitOrder<R>>(bits: &mut Iter<'a, R, O>) -> Option<bool>
-    ensures { YieldsFirst rest_of bits.old result bits.new }
+    ensures { YieldsFirst iter_left bits.old result bits.new }
 {
     bits.next()
 }
 
 fn next_bit_back<'a, R: BitRegister, O: BitOrder<R>>(bits: &mut Iter<'a, R, O>) -> Option<bool>
-    ensures { YieldsLast rest_of bits.old result bits.new }
+    ensures { YieldsLast iter_left bits.old result bits.new }
 {
     bits.next_back()
 }
@@ -67,9 +67,9 @@ fn next_run<'a, R: BitRegister, O: BitOrder<R>>(
 // A `for` over a slice goes over its bits, where they lie.
 
 fn bits_of_a_loop<'a, R: BitRegister, O: BitOrder<R>>(slice: BitSlice<'a, R, O>) -> Iter<'a, R, O>
-    ensures bits { rest_of result ≡ bits_of slice.entry }
-    ensures memory { rest_memory result ≡ slice_memory slice.entry }
-    ensures span { rest_span result ≡ slice_span slice.entry }
+    ensures bits { iter_left result ≡ slice_bits slice.entry }
+    ensures memory { iter_memory result ≡ slice_memory slice.entry }
+    ensures span { iter_span result ≡ slice_span slice.entry }
 {
     slice.into_iter()
 }

@@ -6,11 +6,11 @@
 ghost use Rattle.std.specs.Prelude.{◌≡◌, ◌-◌, ◌<◌, ◌≤◌, ◌&&◌, ◌||◌, ◌%◌, ℕ, ℤ, not, false};
 ghost use Rattle.std.specs.Prelude.{length, take, IfErr};
 ghost use Rattle.bitvec.specs.Digit.{digit, exclusive_or};
-ghost use Rattle.bitvec_slice.specs.BitSlice.{slice_memory, slice_span, slice_len, bits_of};
+ghost use Rattle.bitvec_slice.specs.BitSlice.{slice_memory, slice_span, slice_len, slice_bits};
 ghost use Rattle.bitvec_slice.specs.BitSliceMut.{lent_span, lent_len, lent_bits};
 ghost use Rattle.bitvec_slice.specs.Bits.{ones_between, zeros_between};
 ghost use Rattle.bitvec_slice.specs.Field.{field_number};
-ghost use Rattle.bitvec_slice.specs.Iter.{rest_of};
+ghost use Rattle.bitvec_slice.specs.Iter.{iter_left};
 ghost use Rattle.bitvec_slice.specs.Ones.{ones_left, zeros_left};
 ghost use Rattle.bitvec_slice.specs.PieceIters.{windows_left, chunks_left, chunks_exact_left};
 ghost use Rattle.bitvec_slice.specs.PieceIters.{rchunks_left};
@@ -85,39 +85,39 @@ fn slice_of<'a, R: BitRegister, O: BitOrder<R>>(
 }
 
 fn bits_left<'a, R: BitRegister, O: BitOrder<R>>(slice: BitSlice<'a, R, O>) -> Iter<'a, R, O>
-    ensures { rest_of result ≡ bits_of slice.entry }
+    ensures { iter_left result ≡ slice_bits slice.entry }
 {
     slice.iter()
 }
 
 fn ones_of<'a, R: BitRegister, O: BitOrder<R>>(slice: BitSlice<'a, R, O>) -> IterOnes<'a, R, O>
-    ensures { let bits = bits_of slice.entry
+    ensures { let bits = slice_bits slice.entry
         in ones_left result ≡ ones_between bits 0 (length bits) }
 {
     slice.iter_ones()
 }
 
 fn zeros_of<'a, R: BitRegister, O: BitOrder<R>>(slice: BitSlice<'a, R, O>) -> IterZeros<'a, R, O>
-    ensures { let bits = bits_of slice.entry
+    ensures { let bits = slice_bits slice.entry
         in zeros_left result ≡ zeros_between bits 0 (length bits) }
 {
     slice.iter_zeros()
 }
 
 fn runs_of<'a, R: BitRegister, O: BitOrder<R>>(slice: BitSlice<'a, R, O>) -> IterRuns<'a, R, O>
-    ensures { runs_left result ≡ runs_from (bits_of slice.entry) 0 }
+    ensures { runs_left result ≡ runs_from (slice_bits slice.entry) 0 }
 {
     slice.iter_runs()
 }
 
 fn pairs<'a, R: BitRegister, O: BitOrder<R>>(slice: BitSlice<'a, R, O>) -> Windows<'a, R, O>
-    ensures { windows_left result ≡ windows_of 2 (bits_of slice.entry) }
+    ensures { windows_left result ≡ windows_of 2 (slice_bits slice.entry) }
 {
     slice.windows(2)
 }
 
 fn threes<'a, R: BitRegister, O: BitOrder<R>>(slice: BitSlice<'a, R, O>) -> Chunks<'a, R, O>
-    ensures { chunks_left result ≡ chunks_of 3 (bits_of slice.entry) }
+    ensures { chunks_left result ≡ chunks_of 3 (slice_bits slice.entry) }
 {
     slice.chunks(3)
 }
@@ -125,7 +125,7 @@ fn threes<'a, R: BitRegister, O: BitOrder<R>>(slice: BitSlice<'a, R, O>) -> Chun
 fn whole_threes<'a, R: BitRegister, O: BitOrder<R>>(
     slice: BitSlice<'a, R, O>,
 ) -> ChunksExact<'a, R, O>
-    ensures { let bits = bits_of slice.entry in chunks_exact_left result
+    ensures { let bits = slice_bits slice.entry in chunks_exact_left result
         ≡ chunks_of 3 (take (length bits - length bits % 3) bits) }
 {
     slice.chunks_exact(3)
@@ -134,7 +134,7 @@ fn whole_threes<'a, R: BitRegister, O: BitOrder<R>>(
 fn threes_from_the_end<'a, R: BitRegister, O: BitOrder<R>>(
     slice: BitSlice<'a, R, O>,
 ) -> RChunks<'a, R, O>
-    ensures { rchunks_left result ≡ rchunks_of 3 (bits_of slice.entry) }
+    ensures { rchunks_left result ≡ rchunks_of 3 (slice_bits slice.entry) }
 {
     slice.rchunks(3)
 }
@@ -162,14 +162,14 @@ fn refusal<'a, R: BitRegister, O: BitOrder<R>>(
 fn number_in<R: BitRegister, O: Sequential<R>, N: BitRegister>(slice: BitSlice<'_, R, O>) -> N
     requires { slice_len slice ≤ N.BITS }
     ensures { N.number result
-        ≡ field_number false R.BITS O.RISES (slice_span slice.entry).head (bits_of slice.entry) }
+        ≡ field_number false R.BITS O.RISES (slice_span slice.entry).head (slice_bits slice.entry) }
 {
     slice.load_le()
 }
 
 fn signed_in<R: BitRegister, O: Sequential<R>, N: SignedNumber>(slice: BitSlice<'_, R, O>) -> N
     requires { slice_len slice ≤ N.BITS }
-    ensures { let bits = bits_of slice.entry in N.number result ≡ signed_of (length bits)
+    ensures { let bits = slice_bits slice.entry in N.number result ≡ signed_of (length bits)
         (field_number false R.BITS O.RISES (slice_span slice.entry).head bits) }
 {
     slice.load_signed_le()

@@ -5,7 +5,7 @@
 //! is the value, at each of the six types.
 
 ghost use Rattle.std.specs.Prelude.{◌≡◌, ◌↔◌, IsSome, IfSome};
-ghost use Rattle.bitvec_slice.specs.Signed.{HasDigits};
+ghost use Rattle.bitvec_slice.specs.Signed.{FitsSignedDigits};
 
 use bitvec_slice::field::SignedNumber;
 
@@ -69,42 +69,42 @@ fn number_of_i128(value: i128) -> i128
 // A number of no more digits than the type has is its own value, and another one has none.
 
 fn i8_of_number(n: i128) -> Option<i8>
-    ensures accepted { IsSome result ↔ HasDigits 8 n }
+    ensures accepted { IsSome result ↔ FitsSignedDigits 8 n }
     ensures made { IfSome result (λ value. value ≡ n) }
 {
     i8::from_i128(n)
 }
 
 fn i16_of_number(n: i128) -> Option<i16>
-    ensures accepted { IsSome result ↔ HasDigits 16 n }
+    ensures accepted { IsSome result ↔ FitsSignedDigits 16 n }
     ensures made { IfSome result (λ value. value ≡ n) }
 {
     i16::from_i128(n)
 }
 
 fn i32_of_number(n: i128) -> Option<i32>
-    ensures accepted { IsSome result ↔ HasDigits 32 n }
+    ensures accepted { IsSome result ↔ FitsSignedDigits 32 n }
     ensures made { IfSome result (λ value. value ≡ n) }
 {
     i32::from_i128(n)
 }
 
 fn i64_of_number(n: i128) -> Option<i64>
-    ensures accepted { IsSome result ↔ HasDigits 64 n }
+    ensures accepted { IsSome result ↔ FitsSignedDigits 64 n }
     ensures made { IfSome result (λ value. value ≡ n) }
 {
     i64::from_i128(n)
 }
 
 fn isize_of_number(n: i128) -> Option<isize>
-    ensures accepted { IsSome result ↔ HasDigits 64 n }
+    ensures accepted { IsSome result ↔ FitsSignedDigits 64 n }
     ensures made { IfSome result (λ value. value ≡ n) }
 {
     isize::from_i128(n)
 }
 
 fn i128_of_number(n: i128) -> Option<i128>
-    ensures accepted { IsSome result ↔ HasDigits 128 n }
+    ensures accepted { IsSome result ↔ FitsSignedDigits 128 n }
     ensures made { IfSome result (λ value. value ≡ n) }
 {
     i128::from_i128(n)

@@ -9,7 +9,7 @@ ghost use Rattle.std.specs.Cmp.Lexicographic.{slice_cmp};
 ghost use Rattle.std.specs.Ordering.{bool_cmp, is_lt};
 ghost use Rattle.bitvec.specs.Digit.{exclusive_or};
 ghost use Rattle.bitvec.specs.Memory.{zip_with};
-ghost use Rattle.bitvec_slice.specs.BitSlice.{bits_of};
+ghost use Rattle.bitvec_slice.specs.BitSlice.{slice_bits};
 ghost use Rattle.bitvec_slice.specs.BitSliceMut.{lent_bits, BecomesBits};
 
 use bitvec::mem::BitRegister;
@@ -27,7 +27,7 @@ fn equal_slices<R: BitRegister, O: BitOrder<R>>(
     here: BitSlice<'_, R, O>,
     there: BitSlice<'_, R, O>,
 ) -> bool
-    ensures { IsTrue result ↔ (bits_of here.entry ≡ bits_of there.entry) }
+    ensures { IsTrue result ↔ (slice_bits here.entry ≡ slice_bits there.entry) }
 {
     here == there
 }
@@ -36,7 +36,7 @@ fn is_before<R: BitRegister, O: BitOrder<R>>(
     here: BitSlice<'_, R, O>,
     there: BitSlice<'_, R, O>,
 ) -> bool
-    ensures { result ≡ is_lt (slice_cmp bool_cmp (bits_of here.entry) (bits_of there.entry)) }
+    ensures { result ≡ is_lt (slice_cmp bool_cmp (slice_bits here.entry) (slice_bits there.entry)) }
 {
     here < there
 }
@@ -50,7 +50,7 @@ fn hash_of_a_list<R: BitRegister, O: BitOrder<R>, H: Hasher>(
     here: &mut H,
     there: &mut H,
 )
-    requires same { bits_of slice ≡ list.now }
+    requires same { slice_bits slice ≡ list.now }
     requires state { here.old ≡ there.old }
     ensures { here.new ≡ there.new }
 {
@@ -64,7 +64,7 @@ fn hash_of_two_slices<R: BitRegister, O: BitOrder<R>, R2: BitRegister, O2: BitOr
     here: &mut H,
     there: &mut H,
 )
-    requires same { bits_of slice ≡ bits_of other }
+    requires same { slice_bits slice ≡ slice_bits other }
     requires state { here.old ≡ there.old }
     ensures { here.new ≡ there.new }
 {
@@ -86,7 +86,7 @@ fn keep_common<'a, R: BitRegister, O: BitOrder<R>, R2: BitRegister, O2: BitOrder
     slice: &mut BitSliceMut<'a, R, O>,
     other: BitSlice<'_, R2, O2>,
 )
-    ensures { let xs = lent_bits slice.old in let ys = bits_of other.entry
+    ensures { let xs = lent_bits slice.old in let ys = slice_bits other.entry
         in BecomesBits slice.old slice.new
         (zip_with (λ t s. t && s) xs ys ++ replicate (length xs - length ys) false) }
 {
@@ -97,7 +97,7 @@ fn add_ones<'a, R: BitRegister, O: BitOrder<R>, R2: BitRegister, O2: BitOrder<R2
     slice: &mut BitSliceMut<'a, R, O>,
     other: BitSlice<'_, R2, O2>,
 )
-    ensures { let xs = lent_bits slice.old in let ys = bits_of other.entry
+    ensures { let xs = lent_bits slice.old in let ys = slice_bits other.entry
         in BecomesBits slice.old slice.new (zip_with (λ t s. t || s) xs ys ++ drop (length ys) xs) }
 {
     *slice |= other;
@@ -107,7 +107,7 @@ fn turn_over_ones<'a, R: BitRegister, O: BitOrder<R>, R2: BitRegister, O2: BitOr
     slice: &mut BitSliceMut<'a, R, O>,
     other: BitSlice<'_, R2, O2>,
 )
-    ensures { let xs = lent_bits slice.old in let ys = bits_of other.entry
+    ensures { let xs = lent_bits slice.old in let ys = slice_bits other.entry
         in BecomesBits slice.old slice.new (zip_with exclusive_or xs ys ++ drop (length ys) xs) }
 {
     *slice ^= other;

@@ -3,7 +3,7 @@
 
 ghost use Rattle.std.specs.Prelude.{◌≡◌, ◌||◌, ◌&&◌, IsTrue};
 ghost use Rattle.bitvec.specs.Memory.{zip_with};
-ghost use Rattle.bitvec_slice.specs.BitSlice.{slice_len, bits_of};
+ghost use Rattle.bitvec_slice.specs.BitSlice.{slice_len, slice_bits};
 ghost use Rattle.bitvec_slice.specs.BitSliceMut.{lent_len, lent_bits, BecomesBits};
 
 use bitvec::mem::BitRegister;
@@ -17,7 +17,7 @@ fn unite<'a, R: BitRegister, O: BitOrder<R>, R2: BitRegister, O2: BitOrder<R2>>(
 ) -> bool
     requires { slice_len other ≡ lent_len set.old }
     ensures united { BecomesBits set.old set.new
-        (zip_with (λ a b. a || b) (lent_bits set.old) (bits_of other.entry)) }
+        (zip_with (λ a b. a || b) (lent_bits set.old) (slice_bits other.entry)) }
     ensures subset { IsTrue result }
 {
     set.or_from(other);
@@ -31,7 +31,7 @@ fn intersect<'a, R: BitRegister, O: BitOrder<R>, R2: BitRegister, O2: BitOrder<R
 ) -> bool
     requires { slice_len other ≡ lent_len set.old }
     ensures common { BecomesBits set.old set.new
-        (zip_with (λ a b. a && b) (lent_bits set.old) (bits_of other.entry)) }
+        (zip_with (λ a b. a && b) (lent_bits set.old) (slice_bits other.entry)) }
     ensures subset { IsTrue result }
 {
     set.and_from(other);

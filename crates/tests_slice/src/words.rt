@@ -4,7 +4,7 @@ ghost use Rattle.std.specs.Prelude.{◌≡◌, ℕ, ◌+◌, ◌/◌, ◌%◌, �
 ghost use Rattle.std.specs.Prelude.{IsTrue, IsFalse, MatchOption};
 ghost use Rattle.bitvec.specs.Digit.{digit};
 ghost use Rattle.bitvec.specs.Span.{element};
-ghost use Rattle.bitvec_slice.specs.BitSlice.{slice_span, slice_len, bits_of};
+ghost use Rattle.bitvec_slice.specs.BitSlice.{slice_span, slice_len, slice_bits};
 ghost use Rattle.bitvec_slice.specs.BitSliceMut.{lent_span, lent_len, lent_bits, BecomesBits};
 ghost use Rattle.bitvec_slice.specs.Words.{HasWord, with_digits};
 
@@ -32,7 +32,7 @@ fn word_of<R: BitRegister, O: BitOrder<R>>(bits: BitSlice<'_, R, O>, k: usize) -
     ensures { MatchOption result (¬ HasWord R.BITS (slice_span bits.entry) k) (λ word.
         (j : ℕ) → j < slice_len bits.entry → ((slice_span bits.entry).head + j) / R.BITS ≡ k
         → digit (R.number word) (O.at_of (((slice_span bits.entry).head + j) % R.BITS))
-        ≡ element (bits_of bits.entry) j) }
+        ≡ element (slice_bits bits.entry) j) }
 {
     if bits.has_word(k) {
         Some(bits.whole_word(k))

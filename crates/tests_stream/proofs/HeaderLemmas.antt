@@ -6,7 +6,7 @@ use Rattle.std.specs.Result.{IsErr}
 use Rattle.std.specs.List.{All}
 use Rattle.std.proofs.lemmas.List.{append-nil}
 use Rattle.std.proofs.lemmas.List.Elements.{All-from_recursion}
-use Rattle.bitvec_slice.specs.Signed.{complement_of, HasDigits}
+use Rattle.bitvec_slice.specs.Signed.{complement_of, FitsSignedDigits}
 use Rattle.bitvec_stream.specs.Golomb.{golomb, signed_place, StartsWith, IsSignedLacking}
 use Rattle.bitvec_stream.specs.Items.{Way, highest_first, lowest_first, signed_highest_first, exp_golomb, signed_exp_golomb, IsBelow, CanBeWritten, AreRead, items_bits}
 use Rattle.bitvec_stream.specs.Numbers.{digits_le, digits_be}
@@ -39,17 +39,17 @@ module _ (v k l : ℕ) (o d : ℤ) where
       fifth ∙ five w1 (digits_be 4 (complement_of 4 (pos v))) (digits_le 12 (complement_of 12 (pos k))) (digits_be 6 (complement_of 6 o)) (golomb l) (golomb (signed_place d))
 
   -- each can be written
-  pub items_can : IsBelow (2 ^ 4) (pos v) → IsBelow (2 ^ 12) (pos k) → HasDigits 6 o → All (λ it. CanBeWritten it.0 it.1) items
+  pub items_can : IsBelow (2 ^ 4) (pos v) → IsBelow (2 ^ 12) (pos k) → FitsSignedDigits 6 o → All (λ it. CanBeWritten it.0 it.1) items
   items_can a b c = All-from_recursion (λ it. CanBeWritten it.0 it.1) items (a, (b, (c, (tt, (tt, tt)))))
 
   total : length (items_bits items) ≡ 22 + (length (golomb l) + length (golomb (signed_place d)))
   total = omega (arith, length-append (golomb l) (golomb (signed_place d) ++ []), length-append (golomb (signed_place d)) [])
 
   -- that they can, and have room, number by number
-  pub parts_put : (room : ℕ) → CanBePut room items → IsBelow (2 ^ 4) (pos v) × IsBelow (2 ^ 12) (pos k) × HasDigits 6 o × (22 + (length (golomb l) + length (golomb (signed_place d))) ≤ room)
+  pub parts_put : (room : ℕ) → CanBePut room items → IsBelow (2 ^ 4) (pos v) × IsBelow (2 ^ 12) (pos k) × FitsSignedDigits 6 o × (22 + (length (golomb l) + length (golomb (signed_place d))) ≤ room)
   parts_put room put = (put.0 0 (highest_first 4, pos v) (omega arith), put.0 1 (highest_first 4, pos v) (omega arith), put.0 2 (highest_first 4, pos v) (omega arith), subst (λ n. n ≤ room) total put.1)
 
-  pub put_parts : (room : ℕ) → IsBelow (2 ^ 4) (pos v) → IsBelow (2 ^ 12) (pos k) → HasDigits 6 o → 22 + (length (golomb l) + length (golomb (signed_place d))) ≤ room → CanBePut room items
+  pub put_parts : (room : ℕ) → IsBelow (2 ^ 4) (pos v) → IsBelow (2 ^ 12) (pos k) → FitsSignedDigits 6 o → 22 + (length (golomb l) + length (golomb (signed_place d))) ≤ room → CanBePut room items
   put_parts room a b c h = (items_can a b c, subst (λ n. n ≤ room) (sym total) h)
 
 -- the room that a write leaves
@@ -60,7 +60,7 @@ pub none_true : false ≡ true → ⊥
 none_true e = absurd (cc)
 
 -- a number of 16 digits has them
-pub fits_digits : (z : ℤ) → FitsSigned w16 z → HasDigits 16 z
+pub fits_digits : (z : ℤ) → FitsSigned w16 z → FitsSignedDigits 16 z
 fits_digits (pos n) h = omega (arith, h)
 fits_digits (negsuc n) h = omega (arith, h)
 
@@ -91,7 +91,7 @@ module _ (xs zs : List Bool) (behind : zs ≡ drop 6 (drop 12 (drop 4 xs))) (err
       let same : it.length ≡ v = one_code zs it.length v code starts in
       let last : read.2.2.2.0 ≡ ys = read.2.2.2.1.1.1 ∙ ap (λ us. drop (length (golomb it.length)) us) there ∙ ap (λ k. drop (length (golomb k)) zs) same ∙ sym is in
       let drift = subst (λ us. StartsWith us (golomb (signed_place it.drift))) last read.2.2.2.2.1.0 in
-      no_code ys error (signed_place it.drift) (IsSignedLacking 16) (λ lacks. lacks.2 (subst (HasDigits 16) (one_signed it.drift lacks.0 lacks.1) types.1)) refusal drift
+      no_code ys error (signed_place it.drift) (IsSignedLacking 16) (λ lacks. lacks.2 (subst (FitsSignedDigits 16) (one_signed it.drift lacks.0 lacks.1) types.1)) refusal drift
 
 -- a header is known by its numbers
 pub same_header : (a b : Header) → header_values a ≡ header_values b → a ≡ b

@@ -1,7 +1,7 @@
 -- A header of five numbers, each in a way of its own.
 use Rattle.std.specs.Prelude.{◌≡◌, ℕ, ◌^◌, ◌<◌, ◌≤◌, ℤ, pos, List, [], ◌∷◌, length}
 use Rattle.std.specs.List.{All}
-use Rattle.bitvec_slice.specs.Signed.{HasDigits}
+use Rattle.bitvec_slice.specs.Signed.{FitsSignedDigits}
 use Rattle.bitvec_stream.specs.Items.{Way, highest_first, lowest_first, signed_highest_first, exp_golomb, signed_exp_golomb, CanBeWritten, items_bits}
 use Rattle.tests_stream.specs.declared.header.Header.{Header}
 
@@ -21,7 +21,7 @@ header_values header = pos header.version ∷ pos header.kind ∷ header.offset 
 
 -- the numbers that are written as codes are those of their types
 abbrev pub HasItsTypes : Header → Type 0
-HasItsTypes header = (header.length < 2 ^ 32) × HasDigits 16 header.drift
+HasItsTypes header = (header.length < 2 ^ 32) × FitsSignedDigits 16 header.drift
 
 -- numbers can be written, and there is room for them
 abbrev pub CanBePut : ℕ → List (Way × ℤ) → Type 0

@@ -7,13 +7,13 @@ ghost use Rattle.bitvec.specs.Memory.{memory_bits};
 ghost use Rattle.bitvec.specs.Place.{region_max_bits};
 ghost use Rattle.bitvec.specs.Span.{Fits};
 ghost use Rattle.bitvec.specs.Truths.{AllAre};
-ghost use Rattle.bitvec_slice.specs.BitSlice.{bits_of};
+ghost use Rattle.bitvec_slice.specs.BitSlice.{slice_bits};
 ghost use Rattle.bitvec_slice.specs.BitSliceMut.{lent_memory, lent_span, lent_bits};
 ghost use Rattle.bitvec_slice.specs.Bits.{BeginsWith};
 ghost use Rattle.bitvec_stream.specs.Golomb.{golomb, signed_place, StartsWith};
 ghost use Rattle.bitvec_stream.specs.Golomb.{IsSignedLacking};
 ghost use Rattle.bitvec_stream.specs.Numbers.{digits_be};
-ghost use Rattle.bitvec_stream.specs.Reader.{rest};
+ghost use Rattle.bitvec_stream.specs.Reader.{unread};
 ghost use Rattle.bitvec_stream.specs.Refusals.{IsCodeRefusal};
 ghost use Rattle.bitvec_stream.specs.Writer.{written, room};
 
@@ -29,8 +29,8 @@ use bitvec_stream::writer::BitWriter;
 fn read_code<R: BitRegister, O: BitOrder<R>>(
     reader: &mut BitReader<'_, R, O>,
 ) -> Result<u32, ReadError>
-    ensures { MatchResult result (λ n. StartsWith (rest reader.old) (golomb n))
-        (IsCodeRefusal (λ n. 2 ^ 32 ≤ n) (rest reader.old)) }
+    ensures { MatchResult result (λ n. StartsWith (unread reader.old) (golomb n))
+        (IsCodeRefusal (λ n. 2 ^ 32 ≤ n) (unread reader.old)) }
 {
     reader.read_exp_golomb()
 }
@@ -39,8 +39,8 @@ fn read_code<R: BitRegister, O: BitOrder<R>>(
 fn read_signed_code<R: BitRegister, O: BitOrder<R>>(
     reader: &mut BitReader<'_, R, O>,
 ) -> Result<i32, ReadError>
-    ensures { MatchResult result (λ z. StartsWith (rest reader.old) (golomb (signed_place z)))
-        (IsCodeRefusal (IsSignedLacking 32) (rest reader.old)) }
+    ensures { MatchResult result (λ z. StartsWith (unread reader.old) (golomb (signed_place z)))
+        (IsCodeRefusal (IsSignedLacking 32) (unread reader.old)) }
 {
     reader.read_signed_exp_golomb()
 }
@@ -49,7 +49,7 @@ fn read_signed_code<R: BitRegister, O: BitOrder<R>>(
 fn code_length<R: BitRegister, O: BitOrder<R>>(
     reader: &mut BitReader<'_, R, O>,
 ) -> Result<usize, ReadError>
-    ensures { IfOk result (λ count. rest reader.new ≡ drop count (rest reader.old)) }
+    ensures { IfOk result (λ count. unread reader.new ≡ drop count (unread reader.old)) }
 {
     let before = reader.position();
     let _: u64 = reader.read_exp_golomb()?;
@@ -61,8 +61,8 @@ fn first_unary<R: BitRegister, O: BitOrder<R>>(
     slice: BitSlice<'_, R, O>,
     bit: bool,
 ) -> Option<usize>
-    ensures { MatchOption result (AllAre bit (bits_of slice.entry))
-        (λ count. BeginsWith bit (bits_of slice.entry) count) }
+    ensures { MatchOption result (AllAre bit (slice_bits slice.entry))
+        (λ count. BeginsWith bit (slice_bits slice.entry) count) }
 {
     let mut reader = BitReader::new(slice);
     match reader.read_unary(bit) {

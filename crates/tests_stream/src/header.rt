@@ -5,7 +5,7 @@ ghost use Rattle.std.specs.Prelude.{Bool, List, length};
 ghost use Rattle.bitvec.specs.BitSpan.{span_of};
 ghost use Rattle.bitvec.specs.Span.{Fits};
 ghost use Rattle.bitvec_stream.specs.Items.{AreRead, items_bits};
-ghost use Rattle.bitvec_stream.specs.Reader.{rest};
+ghost use Rattle.bitvec_stream.specs.Reader.{unread};
 ghost use Rattle.bitvec_stream.specs.Writer.{written, room};
 ghost use Rattle.tests_stream.specs.Header.{header_ways, header_values, header_items};
 ghost use Rattle.tests_stream.specs.Header.{HasItsTypes, CanBePut};
@@ -57,9 +57,9 @@ fn read_header<R: BitRegister, O: BitOrder<R>>(
     reader: &mut BitReader<'_, R, O>,
 ) -> Result<Header, ReadError>
     ensures { MatchResult result
-        (λ it. AreRead header_ways (rest reader.old) (header_values it) (rest reader.new))
+        (λ it. AreRead header_ways (unread reader.old) (header_values it) (unread reader.new))
         (λ _. (it : Header) (left : List Bool) → HasItsTypes it
-        → ¬ AreRead header_ways (rest reader.old) (header_values it) left) }
+        → ¬ AreRead header_ways (unread reader.old) (header_values it) left) }
 {
     let version = reader.read_be(4)?;
     let kind = reader.read_le(12)?;

@@ -4,11 +4,11 @@
 ghost use Rattle.std.specs.Prelude.{◌≡◌, ◌%◌, ◌<◌, ◌≤◌, ◌++◌, ◌∷◌, [], IfOk, MatchResult};
 ghost use Rattle.std.specs.Prelude.{◌↔◌, IsOk};
 ghost use Rattle.std.specs.Prelude.{true, false, take, drop, length, replicate};
-ghost use Rattle.bitvec_slice.specs.BitSlice.{bits_of};
+ghost use Rattle.bitvec_slice.specs.BitSlice.{slice_bits};
 ghost use Rattle.bitvec_slice.specs.Signed.{signed_of, complement_of};
 ghost use Rattle.bitvec_stream.specs.Multiples.{to_multiple};
 ghost use Rattle.bitvec_stream.specs.Numbers.{number_le, number_be, digits_le, digits_be};
-ghost use Rattle.bitvec_stream.specs.Reader.{bits_read, rest, Passes};
+ghost use Rattle.bitvec_stream.specs.Reader.{bits_read, unread, Passes};
 ghost use Rattle.bitvec_stream.specs.Writer.{bits_written, written, room};
 
 use bitvec::mem::BitRegister;
@@ -24,7 +24,7 @@ fn both_ways<R: BitRegister, O: BitOrder<R>>(
     count: usize,
 ) -> Result<(u64, u64), ReadError>
     requires { count ≤ 64 }
-    ensures numbers { let bits = take count (rest reader.old)
+    ensures numbers { let bits = take count (unread reader.old)
         in IfOk result (λ it. (it.0 ≡ number_be bits) × (it.1 ≡ number_le bits)) }
     ensures moved { MatchResult result (λ _. Passes reader.old reader.new count)
         (λ error. (error ≡ ReadError.TooFew) × (reader.new ≡ reader.old)) }
@@ -38,8 +38,8 @@ fn both_ways<R: BitRegister, O: BitOrder<R>>(
 fn two_signed<R: BitRegister, O: BitOrder<R>>(
     reader: &mut BitReader<'_, R, O>,
 ) -> Result<(i8, i8), ReadError>
-    ensures accepted { IsOk result ↔ (16 ≤ length (rest reader.old)) }
-    ensures numbers { let bits = rest reader.old
+    ensures accepted { IsOk result ↔ (16 ≤ length (unread reader.old)) }
+    ensures numbers { let bits = unread reader.old
         in IfOk result (λ it. (it.0 ≡ signed_of 8 (number_be (take 8 bits)))
         × (it.1 ≡ signed_of 8 (number_le (take 8 (drop 8 bits))))) }
 {
@@ -60,8 +60,8 @@ fn next_byte<R: BitRegister, O: BitOrder<R>>(
 
 /// Passes over bits where as many are left, and else does nothing.
 fn skip_if_there<R: BitRegister, O: BitOrder<R>>(reader: &mut BitReader<'_, R, O>, count: usize)
-    ensures there { count ≤ length (rest reader.old) → Passes reader.old reader.new count }
-    ensures else_same { length (rest reader.old) < count → reader.new ≡ reader.old }
+    ensures there { count ≤ length (unread reader.old) → Passes reader.old reader.new count }
+    ensures else_same { length (unread reader.old) < count → reader.new ≡ reader.old }
 {
     let _ = reader.skip(count);
 }
@@ -98,7 +98,7 @@ fn write_marked<R: BitRegister, O: BitOrder<R>, R2: BitRegister, O2: BitOrder<R2
     part: BitSlice<'_, R2, O2>,
 ) -> Result<(), WriteError>
     ensures { IfOk result (λ _. written writer.new ≡ written writer.old ++ (true ∷ [])
-        ++ (replicate count true ++ (false ∷ [])) ++ bits_of part.entry) }
+        ++ (replicate count true ++ (false ∷ [])) ++ slice_bits part.entry) }
 {
     writer.write_bit(true)?;
     writer.write_unary(true, count)?;

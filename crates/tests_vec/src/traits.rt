@@ -6,7 +6,7 @@
 ghost use Rattle.std.specs.Prelude.{◌≡◌, ◌↔◌, IsTrue, IfOk, IsOk, Ok, []};
 ghost use Rattle.std.specs.Cmp.Lexicographic.{slice_cmp};
 ghost use Rattle.std.specs.Ordering.{bool_cmp};
-ghost use Rattle.bitvec_slice.specs.BitSlice.{bits_of};
+ghost use Rattle.bitvec_slice.specs.BitSlice.{slice_bits};
 ghost use Rattle.bitvec_vec.specs.BitVec.{vec_bits, bit_allocator};
 
 use bitvec::mem::BitRegister;
@@ -37,7 +37,7 @@ fn hash_of_a_slice<R: BitRegister, O: BitOrder<R>, A: Allocator, H: Hasher>(
     here: &mut H,
     there: &mut H,
 )
-    requires same { vec_bits vec.now ≡ bits_of slice }
+    requires same { vec_bits vec.now ≡ slice_bits slice }
     requires state { here.old ≡ there.old }
     ensures { here.new ≡ there.new }
 {

@@ -68,10 +68,10 @@ impl<O: BitOrder<usize>, const N: usize> Clone for BitArray<O, N> {
 impl<O: BitOrder<usize>, const N: usize> Copy for BitArray<O, N> {}
 
 impl<O: BitOrder<usize>, const N: usize> BitArray<O, N> {
-    ghost use Rattle.bitvec_slice.specs.BitSlice.{slice_span, bits_of};
+    ghost use Rattle.bitvec_slice.specs.BitSlice.{slice_span, slice_bits};
     ghost use Rattle.bitvec_slice.specs.BitSliceMut.{lent_span, lent_bits};
     ghost use Rattle.bitvec_array.specs.BitArray.{array_bits};
-    ghost use Rattle.bitvec_array.specs.Lends.{lends_bits};
+    ghost use Rattle.bitvec_array.specs.Lends.{array_follows};
 
     /// Every bit zero: [`ZERO`](crate::array::ZeroArray::ZERO), as a call. Costs by words.
     pub fn zeros() -> Self
@@ -136,7 +136,7 @@ impl<O: BitOrder<usize>, const N: usize> BitArray<O, N> {
     /// time.
     pub fn as_bitslice(&self) -> BitSlice<'_, usize, O>
         ensures span { slice_span result ≡ array_span N }
-        ensures bits { bits_of result ≡ array_bits self.now }
+        ensures bits { slice_bits result ≡ array_bits self.now }
     {
         BitSlice::new(span_of_all::<O, N>(), &self.words).unwrap()
     }
@@ -156,7 +156,7 @@ impl<O: BitOrder<usize>, const N: usize> BitArray<O, N> {
     /// assert_eq!(rt; bits.into_words(), [0xF0]);
     /// ```
     pub fn as_mut_bitslice(&mut self) -> BitSliceMut<'_, usize, O>
-        ensures* writes_back { sem 𝓛 (lends_bits O.row N.row self.entry result) }
+        ensures* writes_back { sem 𝓛 (array_follows O.row N.row self.entry result) }
         ensures span { lent_span result ≡ array_span N }
         ensures bits { lent_bits result ≡ array_bits self.old }
     {

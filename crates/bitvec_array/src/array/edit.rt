@@ -4,7 +4,7 @@ ghost use Rattle.std.specs.Prelude.{◌≡◌, ◌≤◌, ◌<◌, ◌+◌, ◌-
 ghost use Rattle.std.specs.List.{swap};
 ghost use Rattle.bitvec.specs.Memory.{list_with_copy};
 ghost use Rattle.bitvec.specs.Span.{element, with_filled};
-ghost use Rattle.bitvec_slice.specs.BitSlice.{slice_len, bits_of};
+ghost use Rattle.bitvec_slice.specs.BitSlice.{slice_len, slice_bits};
 ghost use Rattle.bitvec_slice.specs.Ranges.{with_range};
 ghost use Rattle.bitvec_array.specs.Array.{array_len, bits_in};
 
@@ -95,7 +95,7 @@ impl<O: BitOrder<usize>, const N: usize> BitArray<O, N> {
     )
         requires { from + slice_len source ≤ array_len N }
         ensures { array_bits self.new ≡ with_range (array_bits self.old) from
-            (from + slice_len source.entry) (bits_of source.entry) }
+            (from + slice_len source.entry) (slice_bits source.entry) }
     {
         put_slice::<O, N, R2, O2>(&mut self.words, from, source);
     }
@@ -110,7 +110,7 @@ fn put_slice<O: BitOrder<usize>, const N: usize, R2: BitRegister, O2: BitOrder<R
     requires many { length words.old ≡ N }
     requires inside { from + slice_len source ≤ array_len N }
     ensures { bits_in O.at_of N words.new ≡ with_range (bits_in O.at_of N words.old) from
-        (from + slice_len source.entry) (bits_of source.entry) }
+        (from + slice_len source.entry) (slice_bits source.entry) }
 {
     let mut bits = BitSliceMut::new_unchecked(span_of_all::<O, N>(), words);
     bits.copy_from_range(from, source);

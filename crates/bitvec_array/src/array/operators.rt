@@ -3,7 +3,7 @@
 ghost use Rattle.std.specs.Prelude.{◌≡◌, ◌&&◌, ◌||◌, not, map, length};
 ghost use Rattle.bitvec.specs.Digit.{exclusive_or};
 ghost use Rattle.bitvec.specs.Memory.{zip_with};
-ghost use Rattle.bitvec_slice.specs.BitSlice.{slice_len, bits_of};
+ghost use Rattle.bitvec_slice.specs.BitSlice.{slice_len, slice_bits};
 ghost use Rattle.bitvec_array.specs.Array.{array_len, bits_in};
 
 use crate::array::BitArray;
@@ -22,7 +22,7 @@ fn combine_slice<C: Combine, O: BitOrder<usize>, const N: usize, R2: BitRegister
     requires many { length words.old ≡ N }
     requires same { slice_len source ≡ array_len N }
     ensures { bits_in O.at_of N words.new
-        ≡ zip_with C.of (bits_in O.at_of N words.old) (bits_of source.entry) }
+        ≡ zip_with C.of (bits_in O.at_of N words.old) (slice_bits source.entry) }
 {
     let mut bits = BitSliceMut::new_unchecked(span_of_all::<O, N>(), words);
     bits.combine_from::<C, R2, O2>(source);
@@ -52,7 +52,7 @@ impl<O: BitOrder<usize>, const N: usize> BitArray<O, N> {
     )
         requires { slice_len source ≡ array_len N }
         ensures { array_bits self.new
-            ≡ zip_with C.of (array_bits self.old) (bits_of source.entry) }
+            ≡ zip_with C.of (array_bits self.old) (slice_bits source.entry) }
     {
         combine_slice::<C, O, N, R2, O2>(&mut self.words, source);
     }

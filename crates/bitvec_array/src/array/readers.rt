@@ -5,7 +5,7 @@ ghost use Rattle.std.specs.Prelude.{true, false, length};
 ghost use Rattle.bitvec.specs.Span.{element};
 ghost use Rattle.bitvec.specs.Truths.{ones_in, AllAre, IsFirst};
 ghost use Rattle.bitvec_slice.specs.Bits.{zeros_in, IsLast, ones_between, zeros_between};
-ghost use Rattle.bitvec_slice.specs.BitSlice.{bits_of};
+ghost use Rattle.bitvec_slice.specs.BitSlice.{slice_bits};
 ghost use Rattle.bitvec_slice.specs.SameBits.{AreSameBits};
 ghost use Rattle.bitvec_array.specs.Array.{array_span};
 
@@ -15,7 +15,7 @@ use bitvec::order::BitOrder;
 use bitvec_slice::slice::{BitSlice, Iter, IterOnes, IterZeros};
 
 impl<O: BitOrder<usize>, const N: usize> BitArray<O, N> {
-    ghost use Rattle.bitvec_slice.specs.Iter.{rest_span, rest_of};
+    ghost use Rattle.bitvec_slice.specs.Iter.{iter_span, iter_left};
     ghost use Rattle.bitvec_slice.specs.Iter.{GivesBitsInOrder, GivesBitsInReverse};
     ghost use Rattle.bitvec_slice.specs.Ones.{ones_left, zeros_left};
     ghost use Rattle.bitvec_array.specs.BitArray.{array_bits};
@@ -117,9 +117,9 @@ impl<O: BitOrder<usize>, const N: usize> BitArray<O, N> {
     /// Its bits as truth values, in order or from the back. Constant time, and so is each call of
     /// `next`.
     pub fn iter(&self) -> Iter<'_, usize, O>
-        ensures rest { rest_of result ≡ array_bits self.now }
-        ensures bound { length (rest_of result) < 2 ^ 64 }
-        ensures span { rest_span result ≡ array_span N }
+        ensures rest { iter_left result ≡ array_bits self.now }
+        ensures bound { length (iter_left result) < 2 ^ 64 }
+        ensures span { iter_span result ≡ array_span N }
 
         // Facts of the type, as of the iterator of a slice for reading.
         ensures runs { GivesBitsInOrder result }
@@ -147,8 +147,8 @@ impl<O: BitOrder<usize>, const N: usize> BitArray<O, N> {
     /// Whether a slice has the same bits, whatever its register and order are. Costs as
     /// [`equals`](BitSlice::equals) of a [`BitSlice`] does.
     pub fn equals<R2: BitRegister, O2: BitOrder<R2>>(&self, other: &BitSlice<'_, R2, O2>) -> bool
-        ensures list { IsTrue result ↔ (array_bits self.now ≡ bits_of other.now) }
-        ensures each { IsTrue result ↔ AreSameBits (array_bits self.now) (bits_of other.now) }
+        ensures list { IsTrue result ↔ (array_bits self.now ≡ slice_bits other.now) }
+        ensures each { IsTrue result ↔ AreSameBits (array_bits self.now) (slice_bits other.now) }
     {
         self.as_bitslice().equals(other)
     }

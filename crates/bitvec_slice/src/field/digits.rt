@@ -5,7 +5,7 @@ ghost use Rattle.std.specs.Prelude.{◌≡◌, ◌-◌, ◌%◌, ◌^◌, ◌≤
 ghost use Rattle.bitvec.specs.BitSpan.{span_of, list_by, Becomes};
 ghost use Rattle.bitvec.specs.Order.{Rises, Falls};
 ghost use Rattle.bitvec.specs.Span.{Fits};
-ghost use Rattle.bitvec_slice.specs.BitSlice.{slice_len, bits_of};
+ghost use Rattle.bitvec_slice.specs.BitSlice.{slice_len, slice_bits};
 ghost use Rattle.bitvec_slice.specs.Numbers.{number_le, number_be, digits_le, digits_be};
 ghost use Rattle.bitvec_slice.specs.Ranges.{with_range, KeepsStretches};
 
@@ -93,7 +93,7 @@ fn store_falling<R: BitRegister, O: BitOrder<R>, N: BitRegister>(
 #[inline(never)]
 fn load_copied_le<R: BitRegister, O: BitOrder<R>, N: BitRegister>(part: BitSlice<'_, R, O>) -> N
     requires { slice_len part ≤ N.BITS }
-    ensures { N.number result ≡ number_le (bits_of part.entry) }
+    ensures { N.number result ≡ number_le (slice_bits part.entry) }
 {
     let mut words = [0u128];
     let places: BitSpan<u128, Lsb0> = BitSpan::at_unchecked(0, part.len());
@@ -106,7 +106,7 @@ fn load_copied_le<R: BitRegister, O: BitOrder<R>, N: BitRegister>(part: BitSlice
 #[inline(never)]
 fn load_copied_be<R: BitRegister, O: BitOrder<R>, N: BitRegister>(part: BitSlice<'_, R, O>) -> N
     requires { slice_len part ≤ N.BITS }
-    ensures { N.number result ≡ number_be (bits_of part.entry) }
+    ensures { N.number result ≡ number_be (slice_bits part.entry) }
 {
     let mut words = [0u128];
     let places: BitSpan<u128, Msb0> = BitSpan::at_unchecked(0, part.len());
@@ -121,7 +121,7 @@ impl<'a, R: BitRegister, O: BitOrder<R>> BitSlice<'a, R, O> {
     fn bits_between(&self, from: usize, to: usize) -> Self
         requires ordered { from ≤ to }
         requires inside { to ≤ slice_len self.now }
-        ensures bits { bits_of result ≡ slice_range (bits_of self.now) from to }
+        ensures bits { slice_bits result ≡ slice_range (slice_bits self.now) from to }
         ensures len { slice_len result ≡ to - from }
     {
         BitSlice {
@@ -150,7 +150,7 @@ impl<'a, R: BitRegister, O: BitOrder<R>> BitSlice<'a, R, O> {
         requires ordered { from ≤ to }
         requires inside { to ≤ slice_len self.now }
         requires small { to - from ≤ N.BITS }
-        ensures { N.number result ≡ number_le (slice_range (bits_of self.now) from to) }
+        ensures { N.number result ≡ number_le (slice_range (slice_bits self.now) from to) }
     {
         let part = self.bits_between(from, to);
         match direction_of::<R, O>() {
@@ -170,7 +170,7 @@ impl<'a, R: BitRegister, O: BitOrder<R>> BitSlice<'a, R, O> {
         requires ordered { from ≤ to }
         requires inside { to ≤ slice_len self.now }
         requires small { to - from ≤ N.BITS }
-        ensures { N.number result ≡ number_be (slice_range (bits_of self.now) from to) }
+        ensures { N.number result ≡ number_be (slice_range (slice_bits self.now) from to) }
     {
         let part = self.bits_between(from, to);
         match direction_of::<R, O>() {

@@ -4,7 +4,7 @@ ghost use Rattle.std.specs.Prelude.{◌≡◌, ℕ, ℤ, ◌^◌, ◌<◌, ◌�
 ghost use Rattle.std.specs.Prelude.{length};
 ghost use Rattle.std.proofs.Common.{lit≤};
 ghost use Rattle.bitvec_slice.specs.Field.{field_number, field_list};
-ghost use Rattle.bitvec_slice.specs.Signed.{signed_of, complement_of, HasDigits};
+ghost use Rattle.bitvec_slice.specs.Signed.{signed_of, complement_of, FitsSignedDigits};
 
 use crate::field::Sequential;
 use crate::slice::{BitSlice, BitSliceMut};
@@ -28,11 +28,11 @@ pub trait SignedNumber: Copy {
     /// The number of the value.
     fn to_i128(self) -> i128
         ensures number { result ≡ number self }
-        ensures digits { HasDigits BITS (number self) };
+        ensures digits { FitsSignedDigits BITS (number self) };
 
     /// The value of the number; `None` where it has more than `BITS` digits.
     fn from_i128(n: i128) -> Option<Self>
-        ensures accepted { IsSome result ↔ HasDigits BITS n }
+        ensures accepted { IsSome result ↔ FitsSignedDigits BITS n }
         ensures made { IfSome result (λ value. number value ≡ n) };
 
     ghost width_at_most_128: { BITS ≤ 128 };
@@ -164,7 +164,7 @@ fn signed_number(digits: u128, len: usize) -> i128
     requires short { len ≤ 128 }
     requires below { digits < 2 ^ len }
     ensures value { result ≡ signed_of len digits }
-    ensures fits { HasDigits len (signed_of len digits) }
+    ensures fits { FitsSignedDigits len (signed_of len digits) }
 {
     if len == 0 {
         return 0;
@@ -188,7 +188,7 @@ fn signed_value<N: SignedNumber>(digits: u128, len: usize) -> N
 }
 
 impl<'a, R: BitRegister, O: Sequential<R>> BitSlice<'a, R, O> {
-    ghost use Rattle.bitvec_slice.specs.BitSlice.{slice_span, slice_len, bits_of};
+    ghost use Rattle.bitvec_slice.specs.BitSlice.{slice_span, slice_len, slice_bits};
 
     /// The signed number whose two's complement the bits are, in the order of
     /// [`load_le`](BitSlice::load_le): that call's number, less two to the length where the
@@ -208,7 +208,7 @@ impl<'a, R: BitRegister, O: Sequential<R>> BitSlice<'a, R, O> {
     /// ```
     pub fn load_signed_le<N: SignedNumber>(&self) -> N
         requires { slice_len self.now ≤ N.BITS }
-        ensures { let bits = bits_of self.now in N.number result ≡ signed_of (length bits)
+        ensures { let bits = slice_bits self.now in N.number result ≡ signed_of (length bits)
             (field_number false R.BITS O.RISES (slice_span self.now).head bits) }
     {
         signed_value(self.load_le(), self.len())
@@ -222,7 +222,7 @@ impl<'a, R: BitRegister, O: Sequential<R>> BitSlice<'a, R, O> {
     /// call of the unsigned numbers.
     pub fn load_signed_be<N: SignedNumber>(&self) -> N
         requires { slice_len self.now ≤ N.BITS }
-        ensures { let bits = bits_of self.now in N.number result ≡ signed_of (length bits)
+        ensures { let bits = slice_bits self.now in N.number result ≡ signed_of (length bits)
             (field_number true R.BITS O.RISES (slice_span self.now).head bits) }
     {
         signed_value(self.load_be(), self.len())
@@ -278,7 +278,7 @@ impl<'a, R: BitRegister, O: Sequential<R>> BitSliceMut<'a, R, O> {
             in BecomesBits self.old self.new (field_list false R.BITS O.RISES
             (lent_span self.old).head count (complement_of count (N.number value))) }
         ensures loaded { let count = length (lent_bits self.old)
-            in HasDigits count (N.number value) → signed_of count (field_number false R.BITS O.RISES
+            in FitsSignedDigits count (N.number value) → signed_of count (field_number false R.BITS O.RISES
             (lent_span self.new).head (lent_bits self.new)) ≡ N.number value }
     {
         self.store_le(value.to_i128().cast_unsigned());
@@ -296,7 +296,7 @@ impl<'a, R: BitRegister, O: Sequential<R>> BitSliceMut<'a, R, O> {
             in BecomesBits self.old self.new (field_list true R.BITS O.RISES
             (lent_span self.old).head count (complement_of count (N.number value))) }
         ensures loaded { let count = length (lent_bits self.old)
-            in HasDigits count (N.number value) → signed_of count (field_number true R.BITS O.RISES
+            in FitsSignedDigits count (N.number value) → signed_of count (field_number true R.BITS O.RISES
             (lent_span self.new).head (lent_bits self.new)) ≡ N.number value }
     {
         self.store_be(value.to_i128().cast_unsigned());

@@ -3,7 +3,7 @@
 ghost use Rattle.std.specs.Prelude.{◌≡◌, ℕ, ◌+◌, ◌^◌, ◌<◌, ◌≤◌, MatchOption, not};
 ghost use Rattle.bitvec.specs.Digit.{digit, exclusive_or};
 ghost use Rattle.bitvec.specs.Span.{element};
-ghost use Rattle.bitvec_slice.specs.BitSlice.{slice_span, slice_len, bits_of};
+ghost use Rattle.bitvec_slice.specs.BitSlice.{slice_span, slice_len, slice_bits};
 ghost use Rattle.bitvec_slice.specs.Bits.{AllBetween, IsFirstBetween};
 ghost use Rattle.bitvec_slice.specs.Field.{stretch_end};
 ghost use Rattle.bitvec_slice.specs.Chosen.{IsChosen, IsFound};
@@ -35,7 +35,7 @@ pub(super) struct Ahead<'a, R: BitRegister, O: BitOrder<R>> {
     left: R,
     pub ghost ordered: { next
         ≤ stretch_end R.BITS (slice_span slice).head (slice_len slice) word },
-    pub ghost chosen: { IsChosen R.BITS O.at_of (slice_span slice).head (bits_of slice) word next
+    pub ghost chosen: { IsChosen R.BITS O.at_of (slice_span slice).head (slice_bits slice) word next
         (stretch_end R.BITS (slice_span slice).head (slice_len slice) word) bit (R.number left) },
 }
 
@@ -82,8 +82,8 @@ impl<'a, R: BitRegister, O: BitOrder<R>> Ahead<'a, R, O> {
         ensures { let upto = stretch_end R.BITS (slice_span self.now.slice).head
             (slice_len self.now.slice)
             in MatchOption result
-            (AllBetween (not self.now.bit) (bits_of self.now.slice) self.now.next end)
-            (λ it. IsFound R.BITS O.at_of (slice_span self.now.slice).head (bits_of self.now.slice)
+            (AllBetween (not self.now.bit) (slice_bits self.now.slice) self.now.next end)
+            (λ it. IsFound R.BITS O.at_of (slice_span self.now.slice).head (slice_bits self.now.slice)
             self.now.bit self.now.next (upto it.0) it.0 (R.number it.1) it.2) }
     {
         match first_index::<R, O>(self.left) {
@@ -99,8 +99,8 @@ impl<'a, R: BitRegister, O: BitOrder<R>> Ahead<'a, R, O> {
         ensures slice { self.new.slice ≡ self.old.slice }
         ensures bit { self.new.bit ≡ self.old.bit }
         ensures first { MatchOption result
-            (AllBetween (not self.old.bit) (bits_of self.old.slice) self.old.next end)
-            (IsFirstBetween self.old.bit (bits_of self.old.slice) self.old.next end) }
+            (AllBetween (not self.old.bit) (slice_bits self.old.slice) self.old.next end)
+            (IsFirstBetween self.old.bit (slice_bits self.old.slice) self.old.next end) }
         ensures next { MatchOption result (self.new.next ≡ self.old.next)
             (λ i. self.new.next ≡ i + 1) }
     {

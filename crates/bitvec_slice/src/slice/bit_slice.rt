@@ -56,7 +56,7 @@ impl<'a, R: BitRegister, O: BitOrder<R>> Clone for BitSlice<'a, R, O> {
 impl<'a, R: BitRegister, O: BitOrder<R>> Copy for BitSlice<'a, R, O> {}
 
 impl<'a, R: BitRegister, O: BitOrder<R>> BitSlice<'a, R, O> {
-    ghost use Rattle.bitvec_slice.specs.BitSlice.{slice_memory, slice_span, slice_len, bits_of};
+    ghost use Rattle.bitvec_slice.specs.BitSlice.{slice_memory, slice_span, slice_len, slice_bits};
 
     /// The bits of a span in a memory. Requires that the span lies in it: [`fits`](BitSpan::fits)
     /// is the test. Constant time. Not in the Rust crate.
@@ -64,7 +64,7 @@ impl<'a, R: BitRegister, O: BitOrder<R>> BitSlice<'a, R, O> {
         requires { Fits R.BITS (span_of span) (length memory.now) }
         ensures memory { slice_memory result ≡ memory.now }
         ensures span { slice_span result ≡ span_of span }
-        ensures bits { bits_of result ≡ list_by span O.at_of memory.now }
+        ensures bits { slice_bits result ≡ list_by span O.at_of memory.now }
     {
         BitSlice { memory, span }
     }
@@ -75,7 +75,7 @@ impl<'a, R: BitRegister, O: BitOrder<R>> BitSlice<'a, R, O> {
         ensures accepted { IsSome result ↔ Fits R.BITS (span_of span) (length memory.now) }
         ensures memory { IfSome result (λ slice. slice_memory slice ≡ memory.now) }
         ensures span { IfSome result (λ slice. slice_span slice ≡ span_of span) }
-        ensures bits { IfSome result (λ slice. bits_of slice
+        ensures bits { IfSome result (λ slice. slice_bits slice
             ≡ list_by span O.at_of memory.now) }
     {
         if span.fits(memory.len()) {
@@ -88,7 +88,7 @@ impl<'a, R: BitRegister, O: BitOrder<R>> BitSlice<'a, R, O> {
     /// How many bits there are. Constant time.
     pub fn len(&self) -> usize
         ensures value { result ≡ slice_len self.now }
-        ensures list { result ≡ length (bits_of self.now) }
+        ensures list { result ≡ length (slice_bits self.now) }
     {
         self.span.len()
     }
@@ -102,7 +102,7 @@ impl<'a, R: BitRegister, O: BitOrder<R>> BitSlice<'a, R, O> {
 
     /// Bit `i`, and `None` where there are no more than `i` bits. Constant time.
     pub fn get(&self, i: usize) -> Option<bool>
-        ensures { result ≡ slice_get (bits_of self.now) i }
+        ensures { result ≡ slice_get (slice_bits self.now) i }
     {
         if i < self.len() {
             Some(self.get_unchecked(i))
@@ -114,7 +114,7 @@ impl<'a, R: BitRegister, O: BitOrder<R>> BitSlice<'a, R, O> {
     /// Bit `i`. Requires that there is one: [`len`](BitSlice::len) is the test. Constant time.
     pub fn get_unchecked(&self, i: usize) -> bool
         requires { i < slice_len self.now }
-        ensures { result ≡ element (bits_of self.now) i }
+        ensures { result ≡ element (slice_bits self.now) i }
     {
         let width = mem::bits_of::<R>();
         let place = self.head() + i;
@@ -124,17 +124,17 @@ impl<'a, R: BitRegister, O: BitOrder<R>> BitSlice<'a, R, O> {
 
     /// The first bit, and `None` where there are no bits. Constant time.
     pub fn first(&self) -> Option<bool>
-        ensures { MatchOption result (length (bits_of self.now) ≡ 0)
-            (λ bit. (0 < length (bits_of self.now)) × (bit ≡ element (bits_of self.now) 0)) }
+        ensures { MatchOption result (length (slice_bits self.now) ≡ 0)
+            (λ bit. (0 < length (slice_bits self.now)) × (bit ≡ element (slice_bits self.now) 0)) }
     {
         self.get(0)
     }
 
     /// The last bit, and `None` where there are no bits. Constant time.
     pub fn last(&self) -> Option<bool>
-        ensures { MatchOption result (length (bits_of self.now) ≡ 0)
-            (λ bit. (0 < length (bits_of self.now))
-            × (bit ≡ element (bits_of self.now) (length (bits_of self.now) - 1))) }
+        ensures { MatchOption result (length (slice_bits self.now) ≡ 0)
+            (λ bit. (0 < length (slice_bits self.now))
+            × (bit ≡ element (slice_bits self.now) (length (slice_bits self.now) - 1))) }
     {
         let count = self.len();
         if count == 0 {

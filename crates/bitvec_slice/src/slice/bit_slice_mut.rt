@@ -49,7 +49,7 @@ pub struct BitSliceMut<'a, R: BitRegister, O: BitOrder<R>> {
 impl<'a, R: BitRegister, O: BitOrder<R>> BitSliceMut<'a, R, O> {
     ghost use Rattle.bitvec_slice.specs.BitSliceMut.{lent_memory, lent_span, lent_len, lent_bits};
     ghost use Rattle.bitvec_slice.specs.BitSliceMut.{BecomesBits};
-    ghost use Rattle.bitvec_slice.specs.BitSlice.{slice_memory, slice_span, bits_of};
+    ghost use Rattle.bitvec_slice.specs.BitSlice.{slice_memory, slice_span, slice_bits};
 
     // The index of the first word.
     fn word(&self) -> isize
@@ -106,7 +106,7 @@ impl<'a, R: BitRegister, O: BitOrder<R>> BitSliceMut<'a, R, O> {
     pub fn as_bitslice(&self) -> BitSlice<'_, R, O>
         ensures memory { slice_memory result ≡ (lent_memory self.now).now }
         ensures span { slice_span result ≡ lent_span self.now }
-        ensures bits { bits_of result ≡ lent_bits self.now }
+        ensures bits { slice_bits result ≡ lent_bits self.now }
     {
         BitSlice::new_unchecked(self.span(), &*self.memory)
     }

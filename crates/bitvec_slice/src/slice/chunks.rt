@@ -5,7 +5,7 @@ ghost use Rattle.std.specs.Iterator.{YieldsFirstBy, YieldsLastBy, item_count, at
 ghost use Rattle.std.specs.Iterator.{MakesProgress};
 ghost use Rattle.std.specs.Iterator.SizeHint.{IsWithinCount};
 ghost use Rattle.std.specs.Slice.Iter.{chunk_count};
-ghost use Rattle.bitvec_slice.specs.BitSlice.{slice_len, bits_of};
+ghost use Rattle.bitvec_slice.specs.BitSlice.{slice_len, slice_bits};
 ghost use Rattle.bitvec_slice.specs.Pieces.{chunks_of, rchunks_of, last_start};
 
 use crate::slice::BitSlice;
@@ -137,7 +137,7 @@ impl<'a, R: BitRegister, O: BitOrder<R>> ChunksExact<'a, R, O> {
 
     /// The bits behind the last whole piece. Constant time. As in the Rust crate.
     pub fn remainder(&self) -> BitSlice<'a, R, O>
-        ensures bits { bits_of result ≡ chunks_remainder self.now }
+        ensures bits { slice_bits result ≡ chunks_remainder self.now }
         ensures place { result ≡ remainder_of self.now }
     {
         self.remainder
@@ -155,7 +155,7 @@ impl<'a, R: BitRegister, O: BitOrder<R>> BitSlice<'a, R, O> {
     /// that `n` is not 0. Constant time, and so is each call of `next`. As in the Rust crate.
     pub fn chunks(&self, n: usize) -> Chunks<'a, R, O>
         requires { 0 < n }
-        ensures pieces { chunks_left result ≡ chunks_of n (bits_of self.now) }
+        ensures pieces { chunks_left result ≡ chunks_of n (slice_bits self.now) }
 
         // They lie where the slice lies.
         ensures rest { chunks_rest result ≡ self.now }
@@ -172,9 +172,9 @@ impl<'a, R: BitRegister, O: BitOrder<R>> BitSlice<'a, R, O> {
     /// Constant time, and so is each call of `next`. As in the Rust crate.
     pub fn chunks_exact(&self, n: usize) -> ChunksExact<'a, R, O>
         requires { 0 < n }
-        ensures pieces { let xs = bits_of self.now
+        ensures pieces { let xs = slice_bits self.now
             in chunks_exact_left result ≡ chunks_of n (take (length xs - length xs % n) xs) }
-        ensures remainder { let xs = bits_of self.now
+        ensures remainder { let xs = slice_bits self.now
             in chunks_remainder result ≡ drop (length xs - length xs % n) xs }
 
         // They lie where the slice lies, and the remainder behind them.
@@ -197,7 +197,7 @@ impl<'a, R: BitRegister, O: BitOrder<R>> BitSlice<'a, R, O> {
     /// `next`. As in the Rust crate.
     pub fn rchunks(&self, n: usize) -> RChunks<'a, R, O>
         requires { 0 < n }
-        ensures pieces { rchunks_left result ≡ rchunks_of n (bits_of self.now) }
+        ensures pieces { rchunks_left result ≡ rchunks_of n (slice_bits self.now) }
 
         // They lie where the slice lies.
         ensures rest { rchunks_rest result ≡ self.now }
@@ -216,13 +216,13 @@ impl<'a, R: BitRegister, O: BitOrder<R>> Iterator for Chunks<'a, R, O> {
     ghost use Rattle.bitvec_slice.specs.PieceIters.{chunks_left, chunks_rest, chunks_size};
     ghost use Rattle.bitvec_slice.specs.PieceIters.{TakesFirst};
 
-    ghost next_gives = { YieldsFirstBy bits_of chunks_left };
+    ghost next_gives = { YieldsFirstBy slice_bits chunks_left };
 
     ghost remaining = { item_count chunks_left };
 
     /// Takes the first of the pieces that are left.
     fn next(&mut self) -> Option<BitSlice<'a, R, O>>
-        ensures steps { YieldsFirstBy bits_of chunks_left self.old result self.new }
+        ensures steps { YieldsFirstBy slice_bits chunks_left self.old result self.new }
         ensures goes { MakesProgress (λ _. ⊤) (item_count chunks_left)
             self.old result self.new }
 
@@ -255,11 +255,11 @@ impl<'a, R: BitRegister, O: BitOrder<R>> DoubleEndedIterator for Chunks<'a, R, O
     ghost use Rattle.bitvec_slice.specs.PieceIters.{chunks_left, chunks_rest, chunks_size};
     ghost use Rattle.bitvec_slice.specs.PieceIters.{TakesLast};
 
-    ghost next_back_gives = { YieldsLastBy bits_of chunks_left };
+    ghost next_back_gives = { YieldsLastBy slice_bits chunks_left };
 
     /// Takes the last of the pieces that are left.
     fn next_back(&mut self) -> Option<BitSlice<'a, R, O>>
-        ensures steps { YieldsLastBy bits_of chunks_left self.old result self.new }
+        ensures steps { YieldsLastBy slice_bits chunks_left self.old result self.new }
         ensures goes { MakesProgress (λ _. ⊤) (item_count chunks_left)
             self.old result self.new }
 
@@ -294,13 +294,13 @@ impl<'a, R: BitRegister, O: BitOrder<R>> Iterator for RChunks<'a, R, O> {
     ghost use Rattle.bitvec_slice.specs.PieceIters.{rchunks_left, rchunks_rest, rchunks_size};
     ghost use Rattle.bitvec_slice.specs.PieceIters.{TakesLast};
 
-    ghost next_gives = { YieldsFirstBy bits_of rchunks_left };
+    ghost next_gives = { YieldsFirstBy slice_bits rchunks_left };
 
     ghost remaining = { item_count rchunks_left };
 
     /// Takes the first of the pieces that are left.
     fn next(&mut self) -> Option<BitSlice<'a, R, O>>
-        ensures steps { YieldsFirstBy bits_of rchunks_left self.old result self.new }
+        ensures steps { YieldsFirstBy slice_bits rchunks_left self.old result self.new }
         ensures goes { MakesProgress (λ _. ⊤) (item_count rchunks_left)
             self.old result self.new }
 
@@ -333,11 +333,11 @@ impl<'a, R: BitRegister, O: BitOrder<R>> DoubleEndedIterator for RChunks<'a, R, 
     ghost use Rattle.bitvec_slice.specs.PieceIters.{rchunks_left, rchunks_rest, rchunks_size};
     ghost use Rattle.bitvec_slice.specs.PieceIters.{TakesFirst};
 
-    ghost next_back_gives = { YieldsLastBy bits_of rchunks_left };
+    ghost next_back_gives = { YieldsLastBy slice_bits rchunks_left };
 
     /// Takes the last of the pieces that are left.
     fn next_back(&mut self) -> Option<BitSlice<'a, R, O>>
-        ensures steps { YieldsLastBy bits_of rchunks_left self.old result self.new }
+        ensures steps { YieldsLastBy slice_bits rchunks_left self.old result self.new }
         ensures goes { MakesProgress (λ _. ⊤) (item_count rchunks_left)
             self.old result self.new }
 
@@ -373,13 +373,13 @@ impl<'a, R: BitRegister, O: BitOrder<R>> Iterator for ChunksExact<'a, R, O> {
     ghost use Rattle.bitvec_slice.specs.PieceIters.{chunks_exact_size, remainder_of};
     ghost use Rattle.bitvec_slice.specs.PieceIters.{TakesFirst};
 
-    ghost next_gives = { YieldsFirstBy bits_of chunks_exact_left };
+    ghost next_gives = { YieldsFirstBy slice_bits chunks_exact_left };
 
     ghost remaining = { item_count chunks_exact_left };
 
     /// Takes the first of the pieces that are left.
     fn next(&mut self) -> Option<BitSlice<'a, R, O>>
-        ensures steps { YieldsFirstBy bits_of chunks_exact_left self.old result self.new }
+        ensures steps { YieldsFirstBy slice_bits chunks_exact_left self.old result self.new }
         ensures goes { MakesProgress (λ _. ⊤) (item_count chunks_exact_left)
             self.old result self.new }
 
@@ -409,11 +409,11 @@ impl<'a, R: BitRegister, O: BitOrder<R>> DoubleEndedIterator for ChunksExact<'a,
     ghost use Rattle.bitvec_slice.specs.PieceIters.{chunks_exact_size, remainder_of};
     ghost use Rattle.bitvec_slice.specs.PieceIters.{TakesLast};
 
-    ghost next_back_gives = { YieldsLastBy bits_of chunks_exact_left };
+    ghost next_back_gives = { YieldsLastBy slice_bits chunks_exact_left };
 
     /// Takes the last of the pieces that are left.
     fn next_back(&mut self) -> Option<BitSlice<'a, R, O>>
-        ensures steps { YieldsLastBy bits_of chunks_exact_left self.old result self.new }
+        ensures steps { YieldsLastBy slice_bits chunks_exact_left self.old result self.new }
         ensures goes { MakesProgress (λ _. ⊤) (item_count chunks_exact_left)
             self.old result self.new }
 

@@ -13,7 +13,7 @@ use bitvec::ptr::combine::{And, AndNot, Combine, Or, Xor};
 use std::ops::Range;
 
 impl<'a, R: BitRegister, O: BitOrder<R>> BitSliceMut<'a, R, O> {
-    ghost use Rattle.bitvec_slice.specs.BitSlice.{slice_len, bits_of};
+    ghost use Rattle.bitvec_slice.specs.BitSlice.{slice_len, slice_bits};
     ghost use Rattle.bitvec_slice.specs.BitSliceMut.{lent_len, lent_bits, BecomesBits};
 
     /// Combines the bits of another slice, of any register and order, with the slice's: each bit
@@ -41,8 +41,8 @@ impl<'a, R: BitRegister, O: BitOrder<R>> BitSliceMut<'a, R, O> {
     )
         requires { slice_len source ≡ lent_len self.old }
         ensures bits { BecomesBits self.old self.new
-            (zip_with C.of (lent_bits self.old) (bits_of source.entry)) }
-        ensures each { IsEach C.of (lent_bits self.old) (bits_of source.entry)
+            (zip_with C.of (lent_bits self.old) (slice_bits source.entry)) }
+        ensures each { IsEach C.of (lent_bits self.old) (slice_bits source.entry)
             (lent_bits self.new) }
     {
         let span = self.span();
@@ -58,8 +58,8 @@ impl<'a, R: BitRegister, O: BitOrder<R>> BitSliceMut<'a, R, O> {
     pub fn and_from<R2: BitRegister, O2: BitOrder<R2>>(&mut self, source: BitSlice<'_, R2, O2>)
         requires { slice_len source ≡ lent_len self.old }
         ensures bits { BecomesBits self.old self.new
-            (zip_with (λ t s. t && s) (lent_bits self.old) (bits_of source.entry)) }
-        ensures each { IsEach (λ t s. t && s) (lent_bits self.old) (bits_of source.entry)
+            (zip_with (λ t s. t && s) (lent_bits self.old) (slice_bits source.entry)) }
+        ensures each { IsEach (λ t s. t && s) (lent_bits self.old) (slice_bits source.entry)
             (lent_bits self.new) }
     {
         self.combine_from::<And, R2, O2>(source);
@@ -73,8 +73,8 @@ impl<'a, R: BitRegister, O: BitOrder<R>> BitSliceMut<'a, R, O> {
     pub fn or_from<R2: BitRegister, O2: BitOrder<R2>>(&mut self, source: BitSlice<'_, R2, O2>)
         requires { slice_len source ≡ lent_len self.old }
         ensures bits { BecomesBits self.old self.new
-            (zip_with (λ t s. t || s) (lent_bits self.old) (bits_of source.entry)) }
-        ensures each { IsEach (λ t s. t || s) (lent_bits self.old) (bits_of source.entry)
+            (zip_with (λ t s. t || s) (lent_bits self.old) (slice_bits source.entry)) }
+        ensures each { IsEach (λ t s. t || s) (lent_bits self.old) (slice_bits source.entry)
             (lent_bits self.new) }
     {
         self.combine_from::<Or, R2, O2>(source);
@@ -89,8 +89,8 @@ impl<'a, R: BitRegister, O: BitOrder<R>> BitSliceMut<'a, R, O> {
     pub fn xor_from<R2: BitRegister, O2: BitOrder<R2>>(&mut self, source: BitSlice<'_, R2, O2>)
         requires { slice_len source ≡ lent_len self.old }
         ensures bits { BecomesBits self.old self.new
-            (zip_with exclusive_or (lent_bits self.old) (bits_of source.entry)) }
-        ensures each { IsEach exclusive_or (lent_bits self.old) (bits_of source.entry)
+            (zip_with exclusive_or (lent_bits self.old) (slice_bits source.entry)) }
+        ensures each { IsEach exclusive_or (lent_bits self.old) (slice_bits source.entry)
             (lent_bits self.new) }
     {
         self.combine_from::<Xor, R2, O2>(source);
@@ -104,8 +104,8 @@ impl<'a, R: BitRegister, O: BitOrder<R>> BitSliceMut<'a, R, O> {
     pub fn and_not_from<R2: BitRegister, O2: BitOrder<R2>>(&mut self, source: BitSlice<'_, R2, O2>)
         requires { slice_len source ≡ lent_len self.old }
         ensures bits { BecomesBits self.old self.new
-            (zip_with (λ t s. t && not s) (lent_bits self.old) (bits_of source.entry)) }
-        ensures each { IsEach (λ t s. t && not s) (lent_bits self.old) (bits_of source.entry)
+            (zip_with (λ t s. t && not s) (lent_bits self.old) (slice_bits source.entry)) }
+        ensures each { IsEach (λ t s. t && not s) (lent_bits self.old) (slice_bits source.entry)
             (lent_bits self.new) }
     {
         self.combine_from::<AndNot, R2, O2>(source);

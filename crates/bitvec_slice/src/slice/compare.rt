@@ -3,7 +3,7 @@
 ghost use Rattle.std.specs.Prelude.{◌≡◌};
 ghost use Rattle.std.specs.Cmp.Lexicographic.{slice_cmp};
 ghost use Rattle.std.specs.Ordering.{bool_cmp};
-ghost use Rattle.bitvec_slice.specs.BitSlice.{bits_of};
+ghost use Rattle.bitvec_slice.specs.BitSlice.{slice_bits};
 
 use crate::slice::BitSlice;
 use bitvec::mem::BitRegister;
@@ -36,7 +36,7 @@ impl<'a, R: BitRegister, O: BitOrder<R>> BitSlice<'a, R, O> {
         &self,
         other: &BitSlice<'_, R2, O2>,
     ) -> Ordering
-        ensures { result ≡ slice_cmp bool_cmp (bits_of self.now) (bits_of other.now) }
+        ensures { result ≡ slice_cmp bool_cmp (slice_bits self.now) (slice_bits other.now) }
     {
         match self.first_difference(other) {
             Some(i) => self.get_unchecked(i).cmp(&other.get_unchecked(i)),
@@ -52,9 +52,9 @@ impl<'a, R: BitRegister, O: BitOrder<R>> PartialOrd for BitSlice<'a, R, O> {
     ghost use Rattle.std.specs.Cmp.Lexicographic.{lists_total, lists_ties};
     ghost use Rattle.bitvec_slice.specs.CompareLemmas.{bools_tied};
 
-    ghost partial_cmp = { λ slice other. Some (slice_cmp bool_cmp (bits_of slice) (bits_of other)) };
+    ghost partial_cmp = { λ slice other. Some (slice_cmp bool_cmp (slice_bits slice) (slice_bits other)) };
 
-    ghost laws = { on_po bits_of (partial_order_from_agreeing_total (slice_cmp bool_cmp)
+    ghost laws = { on_po slice_bits (partial_order_from_agreeing_total (slice_cmp bool_cmp)
         (lists_total bool_cmp_total) (λ _ _. refl) (lists_ties bool_cmp bools_tied)) };
 
     fn partial_cmp(&self, other: &Self) -> Option<Ordering> {
@@ -70,14 +70,14 @@ impl<'a, R: BitRegister, O: BitOrder<R>> Ord for BitSlice<'a, R, O> {
     ghost use Rattle.std.specs.Cmp.Lexicographic.{lists_total, lists_ties};
     ghost use Rattle.bitvec_slice.specs.CompareLemmas.{bools_tied};
 
-    ghost cmp = { λ slice other. slice_cmp bool_cmp (bits_of slice) (bits_of other) };
+    ghost cmp = { λ slice other. slice_cmp bool_cmp (slice_bits slice) (slice_bits other) };
 
-    ghost total = { on_total bits_of (lists_total bool_cmp_total) };
+    ghost total = { on_total slice_bits (lists_total bool_cmp_total) };
 
     ghost matches_partial_cmp = { λ _ _. refl };
 
     ghost matches_eq = { λ slice other. lists_ties bool_cmp bools_tied
-        (bits_of slice) (bits_of other) };
+        (slice_bits slice) (slice_bits other) };
 
     fn cmp(&self, other: &Self) -> Ordering {
         self.compare(other)

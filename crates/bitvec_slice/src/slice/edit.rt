@@ -15,7 +15,7 @@ use bitvec::order::BitOrder;
 use std::ops::Range;
 
 impl<'a, R: BitRegister, O: BitOrder<R>> BitSliceMut<'a, R, O> {
-    ghost use Rattle.bitvec_slice.specs.BitSlice.{slice_len, bits_of};
+    ghost use Rattle.bitvec_slice.specs.BitSlice.{slice_len, slice_bits};
     ghost use Rattle.bitvec_slice.specs.BitSliceMut.{lent_len, lent_bits, BecomesBits};
 
     /// Writes bit `i`, and returns the bit that was there. Requires that there is one:
@@ -90,7 +90,7 @@ impl<'a, R: BitRegister, O: BitOrder<R>> BitSliceMut<'a, R, O> {
         source: BitSlice<'_, R2, O2>,
     )
         requires { slice_len source ≡ lent_len self.old }
-        ensures { BecomesBits self.old self.new (bits_of source.entry) }
+        ensures { BecomesBits self.old self.new (slice_bits source.entry) }
     {
         let span = self.span();
         let memory = &mut *self.memory;

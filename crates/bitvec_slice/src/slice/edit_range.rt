@@ -18,7 +18,7 @@ use bitvec::ptr::combine::Combine;
 use bitvec::ptr::span::BitSpan;
 
 impl<'a, R: BitRegister, O: BitOrder<R>> BitSliceMut<'a, R, O> {
-    ghost use Rattle.bitvec_slice.specs.BitSlice.{slice_len, bits_of};
+    ghost use Rattle.bitvec_slice.specs.BitSlice.{slice_len, slice_bits};
     ghost use Rattle.bitvec_slice.specs.BitSliceMut.{lent_memory, lent_span, lent_words, lent_len};
     ghost use Rattle.bitvec_slice.specs.BitSliceMut.{lent_bits, BecomesBits};
 
@@ -112,7 +112,7 @@ impl<'a, R: BitRegister, O: BitOrder<R>> BitSliceMut<'a, R, O> {
         requires { from + slice_len source ≤ lent_len self.old }
         ensures bits { BecomesBits self.old self.new
             (with_range (lent_bits self.old) from (from + slice_len source.entry)
-            (bits_of source.entry)) }
+            (slice_bits source.entry)) }
         ensures beside { KeepsStretches from (from + slice_len source.entry) (lent_bits self.old)
             (lent_bits self.new) }
     {
@@ -134,7 +134,7 @@ impl<'a, R: BitRegister, O: BitOrder<R>> BitSliceMut<'a, R, O> {
         requires { from + slice_len source ≤ lent_len self.old }
         ensures bits { let xs = lent_bits self.old in let to = from + slice_len source.entry
             in BecomesBits self.old self.new (with_range xs from to
-            (zip_with C.of (slice_range xs from to) (bits_of source.entry))) }
+            (zip_with C.of (slice_range xs from to) (slice_bits source.entry))) }
         ensures beside { KeepsStretches from (from + slice_len source.entry) (lent_bits self.old)
             (lent_bits self.new) }
     {

@@ -2,7 +2,7 @@
 //! are hashed as.
 
 ghost use Rattle.std.specs.Prelude.{◌≡◌, ◌↔◌, IsTrue};
-ghost use Rattle.bitvec_slice.specs.BitSlice.{bits_of};
+ghost use Rattle.bitvec_slice.specs.BitSlice.{slice_bits};
 ghost use Rattle.bitvec_slice.specs.SameBits.{AreSameBits};
 
 use crate::slice::BitSlice;
@@ -14,7 +14,7 @@ use std::hash::{Hash, Hasher};
 impl<'a, R: BitRegister, O: BitOrder<R>> BitSlice<'a, R, O> {
     // Whether another slice has the same bits, whatever its register and order are.
     fn has_bits<R2: BitRegister, O2: BitOrder<R2>>(&self, other: &BitSlice<'_, R2, O2>) -> bool
-        ensures { IsTrue result ↔ (bits_of self.now ≡ bits_of other.now) }
+        ensures { IsTrue result ↔ (slice_bits self.now ≡ slice_bits other.now) }
     {
         if self.len() != other.len() {
             return false;
@@ -28,8 +28,8 @@ impl<'a, R: BitRegister, O: BitOrder<R>> BitSlice<'a, R, O> {
     /// the positions of both orders rise or those of both fall, else by bits; it stops at the first
     /// word that differs. Not in the Rust crate, which has `==` between slices of two types.
     pub fn equals<R2: BitRegister, O2: BitOrder<R2>>(&self, other: &BitSlice<'_, R2, O2>) -> bool
-        ensures list { IsTrue result ↔ (bits_of self.now ≡ bits_of other.now) }
-        ensures each { IsTrue result ↔ AreSameBits (bits_of self.now) (bits_of other.now) }
+        ensures list { IsTrue result ↔ (slice_bits self.now ≡ slice_bits other.now) }
+        ensures each { IsTrue result ↔ AreSameBits (slice_bits self.now) (slice_bits other.now) }
     {
         self.has_bits(other)
     }
@@ -41,14 +41,14 @@ impl<'a, R: BitRegister, O: BitOrder<R>> PartialEq for BitSlice<'a, R, O> {
     ghost use Rattle.std.specs.Cmp.{booleans_Decides, decided, on_per, partial_equiv_from_equiv};
     ghost use Rattle.std.specs.Cmp.Lexicographic.{lists_equiv, pointwise};
 
-    ghost eq = { λ slice other. pointwise beq (bits_of slice) (bits_of other) };
+    ghost eq = { λ slice other. pointwise beq (slice_bits slice) (slice_bits other) };
 
-    ghost laws = { on_per bits_of
+    ghost laws = { on_per slice_bits
         (partial_equiv_from_equiv (lists_equiv (decided beq booleans_Decides))) };
 
     fn eq(&self, other: &Self) -> bool
-        ensures value { result ≡ pointwise beq (bits_of self.now) (bits_of other.now) }
-        ensures same { IsTrue result ↔ (bits_of self.now ≡ bits_of other.now) }
+        ensures value { result ≡ pointwise beq (slice_bits self.now) (slice_bits other.now) }
+        ensures same { IsTrue result ↔ (slice_bits self.now ≡ slice_bits other.now) }
     {
         self.equals(other)
     }
@@ -59,7 +59,7 @@ impl<'a, R: BitRegister, O: BitOrder<R>> Eq for BitSlice<'a, R, O> {
     ghost use Rattle.std.specs.Cmp.{booleans_Decides, decided, on_equiv};
     ghost use Rattle.std.specs.Cmp.Lexicographic.{lists_equiv};
 
-    ghost laws = { on_equiv bits_of (lists_equiv (decided beq booleans_Decides)) };
+    ghost laws = { on_equiv slice_bits (lists_equiv (decided beq booleans_Decides)) };
 }
 
 /// A slice is hashed as a `&[bool]` of its bits is, so slices that
@@ -71,9 +71,9 @@ impl<'a, R: BitRegister, O: BitOrder<R>> Hash for BitSlice<'a, R, O> {
     ghost use Rattle.std.specs.Hash as fed;
     ghost use Rattle.std.specs.Hash.{items_Alike, on_Alike, same_Alike};
 
-    ghost hash_input = { λ it. fed.slice fed.bool (bits_of it) };
+    ghost hash_input = { λ it. fed.slice fed.bool (slice_bits it) };
 
-    ghost respects_eq = { (on_Alike bits_of (items_Alike (same_Alike fed.bool booleans_Decides))).fed };
+    ghost respects_eq = { (on_Alike slice_bits (items_Alike (same_Alike fed.bool booleans_Decides))).fed };
 
     fn hash<H: Hasher>(&self, state: &mut H) {
         state.write_usize(self.len());

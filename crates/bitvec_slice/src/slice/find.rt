@@ -14,7 +14,7 @@ use bitvec::order::{BitOrder, first_index, last_index};
 
 impl<'a, R: BitRegister, O: BitOrder<R>> BitSlice<'a, R, O> {
     ghost use Rattle.bitvec_slice.specs.BitSlice.{slice_memory, slice_span, slice_len, slice_word};
-    ghost use Rattle.bitvec_slice.specs.BitSlice.{bits_of};
+    ghost use Rattle.bitvec_slice.specs.BitSlice.{slice_bits};
     ghost use Rattle.bitvec.specs.Truths.{ones_in, AllAre, IsFirst};
     ghost use Rattle.bitvec_slice.specs.Bits.{zeros_in, IsLast};
     ghost use Rattle.bitvec_slice.specs.Bits.{BeginsWith, EndsWith};
@@ -46,7 +46,7 @@ impl<'a, R: BitRegister, O: BitOrder<R>> BitSlice<'a, R, O> {
 
     /// How many bits are one. Costs by words.
     pub fn count_ones(&self) -> usize
-        ensures { result ≡ ones_in (bits_of self.now) }
+        ensures { result ≡ ones_in (slice_bits self.now) }
     {
         let met = self.span.elements();
         if met == 0 {
@@ -66,7 +66,7 @@ impl<'a, R: BitRegister, O: BitOrder<R>> BitSlice<'a, R, O> {
 
     /// How many bits are zero. Costs by words.
     pub fn count_zeros(&self) -> usize
-        ensures { result ≡ zeros_in (bits_of self.now) }
+        ensures { result ≡ zeros_in (slice_bits self.now) }
     {
         self.len() - self.count_ones()
     }
@@ -165,7 +165,7 @@ impl<'a, R: BitRegister, O: BitOrder<R>> BitSlice<'a, R, O> {
         requires inside { upto ≤ slice_len self.now }
         ensures start { from ≤ result }
         ensures end { result ≤ upto }
-        ensures lacking { AllBetween (not bit) (bits_of self.now) from result }
+        ensures lacking { AllBetween (not bit) (slice_bits self.now) from result }
     {
         let head = self.head();
         let width = mem::bits_of::<R>();
@@ -199,7 +199,7 @@ impl<'a, R: BitRegister, O: BitOrder<R>> BitSlice<'a, R, O> {
         requires start { k * R.BITS ≤ (slice_span self.now).head + from }
         requires end { (slice_span self.now).head + upto ≤ (k + 1) * R.BITS }
         requires inside { upto ≤ slice_len self.now }
-        ensures { IsChosen R.BITS O.at_of (slice_span self.now).head (bits_of self.now) k from upto
+        ensures { IsChosen R.BITS O.at_of (slice_span self.now).head (slice_bits self.now) k from upto
             bit (R.number result) }
     {
         let start = k * mem::bits_of::<R>();
@@ -218,8 +218,8 @@ impl<'a, R: BitRegister, O: BitOrder<R>> BitSlice<'a, R, O> {
     pub(super) fn chosen_later(&self, word: usize, end: usize, bit: bool) -> Option<(usize, R, u8)>
         requires { end ≤ slice_len self.now }
         ensures { let upto = stretch_end R.BITS (slice_span self.now).head (slice_len self.now)
-            in MatchOption result (AllBetween (not bit) (bits_of self.now) (upto word) end)
-            (λ it. IsFound R.BITS O.at_of (slice_span self.now).head (bits_of self.now) bit
+            in MatchOption result (AllBetween (not bit) (slice_bits self.now) (upto word) end)
+            (λ it. IsFound R.BITS O.at_of (slice_span self.now).head (slice_bits self.now) bit
             (upto word) (upto it.0) it.0 (R.number it.1) it.2) }
     {
         let head = self.head();
@@ -255,8 +255,8 @@ impl<'a, R: BitRegister, O: BitOrder<R>> BitSlice<'a, R, O> {
         requires start { k * R.BITS ≤ (slice_span self.now).head + from }
         requires end { (slice_span self.now).head + upto ≤ (k + 1) * R.BITS }
         requires inside { upto ≤ slice_len self.now }
-        ensures { MatchOption result (AllBetween (not bit) (bits_of self.now) from upto)
-            (IsFirstBetween bit (bits_of self.now) from upto) }
+        ensures { MatchOption result (AllBetween (not bit) (slice_bits self.now) from upto)
+            (IsFirstBetween bit (slice_bits self.now) from upto) }
     {
         let word = self.chosen(k, from, upto, bit);
         match first_index::<R, O>(word) {
@@ -272,7 +272,7 @@ impl<'a, R: BitRegister, O: BitOrder<R>> BitSlice<'a, R, O> {
         requires inside { upto ≤ slice_len self.now }
         ensures start { from ≤ result }
         ensures end { result ≤ upto }
-        ensures lacking { AllBetween (not bit) (bits_of self.now) result upto }
+        ensures lacking { AllBetween (not bit) (slice_bits self.now) result upto }
     {
         let head = self.head();
         let width = mem::bits_of::<R>();
@@ -288,8 +288,8 @@ impl<'a, R: BitRegister, O: BitOrder<R>> BitSlice<'a, R, O> {
     // The first that is `bit`, of the bits from index `from` to before index `upto`.
     pub(super) fn first_between(&self, from: usize, upto: usize, bit: bool) -> Option<usize>
         requires { upto ≤ slice_len self.now }
-        ensures { MatchOption result (AllBetween (not bit) (bits_of self.now) from upto)
-            (IsFirstBetween bit (bits_of self.now) from upto) }
+        ensures { MatchOption result (AllBetween (not bit) (slice_bits self.now) from upto)
+            (IsFirstBetween bit (slice_bits self.now) from upto) }
     {
         let head = self.head();
         let width = mem::bits_of::<R>();
@@ -314,8 +314,8 @@ impl<'a, R: BitRegister, O: BitOrder<R>> BitSlice<'a, R, O> {
         requires start { k * R.BITS ≤ (slice_span self.now).head + from }
         requires end { (slice_span self.now).head + upto ≤ (k + 1) * R.BITS }
         requires inside { upto ≤ slice_len self.now }
-        ensures { MatchOption result (AllBetween (not bit) (bits_of self.now) from upto)
-            (IsLastBetween bit (bits_of self.now) from upto) }
+        ensures { MatchOption result (AllBetween (not bit) (slice_bits self.now) from upto)
+            (IsLastBetween bit (slice_bits self.now) from upto) }
     {
         let word = self.chosen(k, from, upto, bit);
         match last_index::<R, O>(word) {
@@ -327,8 +327,8 @@ impl<'a, R: BitRegister, O: BitOrder<R>> BitSlice<'a, R, O> {
     // The last that is `bit`, of the bits from index `from` to before index `upto`.
     pub(super) fn last_between(&self, from: usize, upto: usize, bit: bool) -> Option<usize>
         requires { upto ≤ slice_len self.now }
-        ensures { MatchOption result (AllBetween (not bit) (bits_of self.now) from upto)
-            (IsLastBetween bit (bits_of self.now) from upto) }
+        ensures { MatchOption result (AllBetween (not bit) (slice_bits self.now) from upto)
+            (IsLastBetween bit (slice_bits self.now) from upto) }
     {
         let head = self.head();
         let width = mem::bits_of::<R>();
@@ -349,8 +349,8 @@ impl<'a, R: BitRegister, O: BitOrder<R>> BitSlice<'a, R, O> {
     /// By words. In an order that neither rises nor falls the first word, the last and the one that
     /// has the bit go bit by bit.
     pub fn first_one(&self) -> Option<usize>
-        ensures { MatchOption result (AllAre false (bits_of self.now))
-            (IsFirst true (bits_of self.now)) }
+        ensures { MatchOption result (AllAre false (slice_bits self.now))
+            (IsFirst true (slice_bits self.now)) }
     {
         self.first_between(0, self.len(), true)
     }
@@ -360,8 +360,8 @@ impl<'a, R: BitRegister, O: BitOrder<R>> BitSlice<'a, R, O> {
     /// By words. In an order that neither rises nor falls the first word, the last and the one that
     /// has the bit go bit by bit.
     pub fn first_zero(&self) -> Option<usize>
-        ensures { MatchOption result (AllAre true (bits_of self.now))
-            (IsFirst false (bits_of self.now)) }
+        ensures { MatchOption result (AllAre true (slice_bits self.now))
+            (IsFirst false (slice_bits self.now)) }
     {
         self.first_between(0, self.len(), false)
     }
@@ -371,8 +371,8 @@ impl<'a, R: BitRegister, O: BitOrder<R>> BitSlice<'a, R, O> {
     /// By words. In an order that neither rises nor falls the first word, the last and the one that
     /// has the bit go bit by bit.
     pub fn last_one(&self) -> Option<usize>
-        ensures { MatchOption result (AllAre false (bits_of self.now))
-            (IsLast true (bits_of self.now)) }
+        ensures { MatchOption result (AllAre false (slice_bits self.now))
+            (IsLast true (slice_bits self.now)) }
     {
         self.last_between(0, self.len(), true)
     }
@@ -382,8 +382,8 @@ impl<'a, R: BitRegister, O: BitOrder<R>> BitSlice<'a, R, O> {
     /// By words. In an order that neither rises nor falls the first word, the last and the one that
     /// has the bit go bit by bit.
     pub fn last_zero(&self) -> Option<usize>
-        ensures { MatchOption result (AllAre true (bits_of self.now))
-            (IsLast false (bits_of self.now)) }
+        ensures { MatchOption result (AllAre true (slice_bits self.now))
+            (IsLast false (slice_bits self.now)) }
     {
         self.last_between(0, self.len(), false)
     }
@@ -391,7 +391,7 @@ impl<'a, R: BitRegister, O: BitOrder<R>> BitSlice<'a, R, O> {
     /// How many bits are zero before the first that is one; all, where none is. Costs as
     /// [`first_one`](BitSlice::first_one) does.
     pub fn leading_zeros(&self) -> usize
-        ensures { BeginsWith false (bits_of self.now) result }
+        ensures { BeginsWith false (slice_bits self.now) result }
     {
         self.first_one().unwrap_or(self.len())
     }
@@ -399,7 +399,7 @@ impl<'a, R: BitRegister, O: BitOrder<R>> BitSlice<'a, R, O> {
     /// How many bits are one before the first that is zero; all, where none is. Costs as
     /// [`first_zero`](BitSlice::first_zero) does.
     pub fn leading_ones(&self) -> usize
-        ensures { BeginsWith true (bits_of self.now) result }
+        ensures { BeginsWith true (slice_bits self.now) result }
     {
         self.first_zero().unwrap_or(self.len())
     }
@@ -407,7 +407,7 @@ impl<'a, R: BitRegister, O: BitOrder<R>> BitSlice<'a, R, O> {
     /// How many bits are zero behind the last that is one; all, where none is. Costs as
     /// [`last_one`](BitSlice::last_one) does.
     pub fn trailing_zeros(&self) -> usize
-        ensures { EndsWith false (bits_of self.now) result }
+        ensures { EndsWith false (slice_bits self.now) result }
     {
         match self.last_one() {
             Some(i) => self.len() - (i + 1),
@@ -418,7 +418,7 @@ impl<'a, R: BitRegister, O: BitOrder<R>> BitSlice<'a, R, O> {
     /// How many bits are one behind the last that is zero; all, where none is. Costs as
     /// [`last_zero`](BitSlice::last_zero) does.
     pub fn trailing_ones(&self) -> usize
-        ensures { EndsWith true (bits_of self.now) result }
+        ensures { EndsWith true (slice_bits self.now) result }
     {
         match self.last_zero() {
             Some(i) => self.len() - (i + 1),
@@ -428,28 +428,28 @@ impl<'a, R: BitRegister, O: BitOrder<R>> BitSlice<'a, R, O> {
 
     /// Whether some bit is one. Costs as [`first_one`](BitSlice::first_one) does.
     pub fn any(&self) -> bool
-        ensures { (result ≡ false) ↔ AllAre false (bits_of self.now) }
+        ensures { (result ≡ false) ↔ AllAre false (slice_bits self.now) }
     {
         self.first_one().is_some()
     }
 
     /// Whether no bit is one. Costs as [`first_one`](BitSlice::first_one) does.
     pub fn not_any(&self) -> bool
-        ensures { IsTrue result ↔ AllAre false (bits_of self.now) }
+        ensures { IsTrue result ↔ AllAre false (slice_bits self.now) }
     {
         self.first_one().is_none()
     }
 
     /// Whether every bit is one. Costs as [`first_zero`](BitSlice::first_zero) does.
     pub fn all_ones(&self) -> bool
-        ensures { IsTrue result ↔ AllAre true (bits_of self.now) }
+        ensures { IsTrue result ↔ AllAre true (slice_bits self.now) }
     {
         self.first_zero().is_none()
     }
 
     /// Whether some bit is zero. Costs as [`first_zero`](BitSlice::first_zero) does.
     pub fn not_all(&self) -> bool
-        ensures { (result ≡ false) ↔ AllAre true (bits_of self.now) }
+        ensures { (result ≡ false) ↔ AllAre true (slice_bits self.now) }
     {
         self.first_zero().is_some()
     }

@@ -9,12 +9,12 @@ use bitvec::mem::BitRegister;
 use bitvec::order::BitOrder;
 
 impl<'a, R: BitRegister, O: BitOrder<R>> BitSlice<'a, R, O> {
-    ghost use Rattle.bitvec_slice.specs.BitSlice.{slice_len, bits_of};
+    ghost use Rattle.bitvec_slice.specs.BitSlice.{slice_len, slice_bits};
 
     // The first index from index `from` on from which on `count` bits are zero.
     fn zeros_after(&self, from: usize, count: usize) -> Option<usize>
         requires { from ≤ slice_len self.now }
-        ensures { let xs = bits_of self.now
+        ensures { let xs = slice_bits self.now
             in MatchOption result ((i : ℕ) → from ≤ i → ¬ AreFree xs i count)
             (λ i. (from ≤ i) × AreFree xs i count
             × ((k : ℕ) → from ≤ k → k < i → ¬ AreFree xs k count)) }
@@ -45,7 +45,7 @@ impl<'a, R: BitRegister, O: BitOrder<R>> BitSlice<'a, R, O> {
     /// ```
     pub fn find_zeros_from(&self, start: usize, count: usize, multiple_of: usize) -> Option<usize>
         requires { 0 < multiple_of }
-        ensures { let IsRun = AreFreeFrom (bits_of self.now) start count multiple_of
+        ensures { let IsRun = AreFreeFrom (slice_bits self.now) start count multiple_of
             in MatchOption result ((i : ℕ) → ¬ IsRun i) (IsLeast IsRun) }
     {
         let len = self.len();

@@ -128,7 +128,7 @@ fn first_run<R: BitRegister>(word: R, before: u8, count: u8, rises: bool) -> Opt
 }
 
 impl<'a, R: BitRegister, O: BitOrder<R>> BitSlice<'a, R, O> {
-    ghost use Rattle.bitvec_slice.specs.BitSlice.{slice_span, bits_of};
+    ghost use Rattle.bitvec_slice.specs.BitSlice.{slice_span, slice_bits};
     ghost use Rattle.bitvec_slice.specs.Bits.{AreFree};
     ghost use Rattle.bitvec_slice.specs.Field.{IsSequential};
     ghost use Rattle.bitvec_slice.specs.FreeRuns.{is_free};
@@ -140,7 +140,7 @@ impl<'a, R: BitRegister, O: BitOrder<R>> BitSlice<'a, R, O> {
         requires inside { k < met }
         ensures below { R.number result < 2 ^ R.BITS }
         ensures digits { (i : ℕ) → i < R.BITS → digit (R.number result) (O.at_of i)
-            ≡ is_free (slice_span self.now).head (bits_of self.now) (k * R.BITS + i) }
+            ≡ is_free (slice_span self.now).head (slice_bits self.now) (k * R.BITS + i) }
     {
         if k == 0 || k + 1 == met {
             let part = self.span.part(self.memory, k);
@@ -157,9 +157,9 @@ impl<'a, R: BitRegister, O: BitOrder<R>> BitSlice<'a, R, O> {
         requires some { 0 < count }
         requires most { count ≤ R.BITS }
         requires order { IsSequential R.BITS rises O.at_of }
-        ensures { MatchOption result ((i : ℕ) → ¬ AreFree (bits_of self.now) i count)
-            (λ i. AreFree (bits_of self.now) i count
-            × ((k : ℕ) → k < i → ¬ AreFree (bits_of self.now) k count)) }
+        ensures { MatchOption result ((i : ℕ) → ¬ AreFree (slice_bits self.now) i count)
+            (λ i. AreFree (slice_bits self.now) i count
+            × ((k : ℕ) → k < i → ¬ AreFree (slice_bits self.now) k count)) }
     {
         let head = usize::from(self.span.head().into_inner());
         let width = mem::bits_of::<R>();
@@ -181,9 +181,9 @@ impl<'a, R: BitRegister, O: BitOrder<R>> BitSlice<'a, R, O> {
 
     // The answer of `find_zeros`, for any run and order.
     fn find_zeros_by_last(&self, count: usize) -> Option<usize>
-        ensures { MatchOption result ((i : ℕ) → ¬ AreFree (bits_of self.now) i count)
-            (λ i. AreFree (bits_of self.now) i count
-            × ((k : ℕ) → k < i → ¬ AreFree (bits_of self.now) k count)) }
+        ensures { MatchOption result ((i : ℕ) → ¬ AreFree (slice_bits self.now) i count)
+            (λ i. AreFree (slice_bits self.now) i count
+            × ((k : ℕ) → k < i → ¬ AreFree (slice_bits self.now) k count)) }
     {
         let len = self.len();
         let mut start = 0;
@@ -203,9 +203,9 @@ impl<'a, R: BitRegister, O: BitOrder<R>> BitSlice<'a, R, O> {
     /// By words, where positions rise or fall with the index and the run is no longer than a word;
     /// else by bits, and whole words without a one are passed at once.
     pub fn find_zeros(&self, count: usize) -> Option<usize>
-        ensures { MatchOption result ((i : ℕ) → ¬ AreFree (bits_of self.now) i count)
-            (λ i. AreFree (bits_of self.now) i count
-            × ((k : ℕ) → k < i → ¬ AreFree (bits_of self.now) k count)) }
+        ensures { MatchOption result ((i : ℕ) → ¬ AreFree (slice_bits self.now) i count)
+            (λ i. AreFree (slice_bits self.now) i count
+            × ((k : ℕ) → k < i → ¬ AreFree (slice_bits self.now) k count)) }
     {
         if 0 < count && count <= mem::bits_of::<R>() {
             match direction_of::<R, O>() {

@@ -50,14 +50,14 @@ impl<'a, R: BitRegister, O: BitOrder<R>> Clone for Iter<'a, R, O> {
 }
 
 impl<'a, R: BitRegister, O: BitOrder<R>> Iter<'a, R, O> {
-    ghost use Rattle.bitvec_slice.specs.BitSlice.{slice_memory, slice_span, bits_of};
-    ghost use Rattle.bitvec_slice.specs.Iter.{rest_memory, rest_span, rest_of};
+    ghost use Rattle.bitvec_slice.specs.BitSlice.{slice_memory, slice_span, slice_bits};
+    ghost use Rattle.bitvec_slice.specs.Iter.{iter_memory, iter_span, iter_left};
 
     /// The bits that are still to come, where they lie. Constant time.
     pub fn as_bitslice(&self) -> BitSlice<'a, R, O>
-        ensures memory { slice_memory result ≡ rest_memory self.now }
-        ensures span { slice_span result ≡ rest_span self.now }
-        ensures bits { bits_of result ≡ rest_of self.now }
+        ensures memory { slice_memory result ≡ iter_memory self.now }
+        ensures span { slice_span result ≡ iter_span self.now }
+        ensures bits { slice_bits result ≡ iter_left self.now }
     {
         BitSlice {
             memory: self.slice.memory,
@@ -69,22 +69,22 @@ impl<'a, R: BitRegister, O: BitOrder<R>> Iter<'a, R, O> {
 impl<'a, R: BitRegister, O: BitOrder<R>> Iterator for Iter<'a, R, O> {
     type Item = bool;
 
-    ghost use Rattle.bitvec_slice.specs.Iter.{rest_memory, rest_span, rest_of};
+    ghost use Rattle.bitvec_slice.specs.Iter.{iter_memory, iter_span, iter_left};
 
-    ghost next_gives = { YieldsFirst rest_of };
+    ghost next_gives = { YieldsFirst iter_left };
 
-    ghost remaining = { item_count rest_of };
+    ghost remaining = { item_count iter_left };
 
     /// Takes the first of the bits that are left.
     fn next(&mut self) -> Option<bool>
-        ensures steps { YieldsFirst rest_of self.old result self.new }
-        ensures goes { MakesProgress (λ _. ⊤) (item_count rest_of) self.old result self.new }
+        ensures steps { YieldsFirst iter_left self.old result self.new }
+        ensures goes { MakesProgress (λ _. ⊤) (item_count iter_left) self.old result self.new }
 
         // What is left lies in the same memory, one bit further on.
-        ensures memory { rest_memory self.new ≡ rest_memory self.old }
-        ensures span { let left = rest_span self.old
-            in MatchOption result (rest_span self.new ≡ left)
-            (λ _. rest_span self.new ≡ span_from R.BITS left 1) }
+        ensures memory { iter_memory self.new ≡ iter_memory self.old }
+        ensures span { let left = iter_span self.old
+            in MatchOption result (iter_span self.new ≡ left)
+            (λ _. iter_span self.new ≡ span_from R.BITS left 1) }
     {
         if self.next == self.end {
             return None;
@@ -95,9 +95,9 @@ impl<'a, R: BitRegister, O: BitOrder<R>> Iterator for Iter<'a, R, O> {
     }
 
     fn size_hint(&self) -> (usize, Option<usize>)
-        ensures lower { IsWithinCount result.0 (at_most (length (rest_of self.now))) }
-        ensures upper { IfSome result.1 (UpTo (at_most (length (rest_of self.now)))) }
-        ensures exact { (result.0 ≡ length (rest_of self.now)) × (result.1 ≡ Some result.0) }
+        ensures lower { IsWithinCount result.0 (at_most (length (iter_left self.now))) }
+        ensures upper { IfSome result.1 (UpTo (at_most (length (iter_left self.now)))) }
+        ensures exact { (result.0 ≡ length (iter_left self.now)) × (result.1 ≡ Some result.0) }
     {
         let left = self.end - self.next;
         (left, Some(left))
@@ -105,20 +105,20 @@ impl<'a, R: BitRegister, O: BitOrder<R>> Iterator for Iter<'a, R, O> {
 }
 
 impl<'a, R: BitRegister, O: BitOrder<R>> DoubleEndedIterator for Iter<'a, R, O> {
-    ghost use Rattle.bitvec_slice.specs.Iter.{rest_memory, rest_span, rest_of};
+    ghost use Rattle.bitvec_slice.specs.Iter.{iter_memory, iter_span, iter_left};
 
-    ghost next_back_gives = { YieldsLast rest_of };
+    ghost next_back_gives = { YieldsLast iter_left };
 
     /// Takes the last of the bits that are left.
     fn next_back(&mut self) -> Option<bool>
-        ensures steps { YieldsLast rest_of self.old result self.new }
-        ensures goes { MakesProgress (λ _. ⊤) (item_count rest_of) self.old result self.new }
+        ensures steps { YieldsLast iter_left self.old result self.new }
+        ensures goes { MakesProgress (λ _. ⊤) (item_count iter_left) self.old result self.new }
 
         // What is left lies in the same memory, from the same bit on.
-        ensures memory { rest_memory self.new ≡ rest_memory self.old }
-        ensures span { let left = rest_span self.old
-            in MatchOption result (rest_span self.new ≡ left)
-            (λ _. rest_span self.new ≡ record left { len = left.len - 1 }) }
+        ensures memory { iter_memory self.new ≡ iter_memory self.old }
+        ensures span { let left = iter_span self.old
+            in MatchOption result (iter_span self.new ≡ left)
+            (λ _. iter_span self.new ≡ record left { len = left.len - 1 }) }
     {
         if self.next == self.end {
             return None;
@@ -138,18 +138,18 @@ impl<'a, R: BitRegister, O: BitOrder<R>> ExactSizeIterator for Iter<'a, R, O> {
 impl<'a, R: BitRegister, O: BitOrder<R>> FusedIterator for Iter<'a, R, O> {}
 
 impl<'a, R: BitRegister, O: BitOrder<R>> BitSlice<'a, R, O> {
-    ghost use Rattle.bitvec_slice.specs.BitSlice.{slice_memory, slice_span, bits_of};
-    ghost use Rattle.bitvec_slice.specs.Iter.{rest_memory, rest_span, rest_of};
+    ghost use Rattle.bitvec_slice.specs.BitSlice.{slice_memory, slice_span, slice_bits};
+    ghost use Rattle.bitvec_slice.specs.Iter.{iter_memory, iter_span, iter_left};
     ghost use Rattle.bitvec_slice.specs.Iter.{GivesBitsInOrder, GivesBitsInReverse};
 
     /// Its bits as truth values, in order or from the back. Constant time, and so is each call of
     /// `next`.
     pub fn iter(&self) -> Iter<'a, R, O>
         // All the bits are still to come, where they lie.
-        ensures rest { rest_of result ≡ bits_of self.now }
-        ensures bound { length (rest_of result) < 2 ^ 64 }
-        ensures memory { rest_memory result ≡ slice_memory self.now }
-        ensures span { rest_span result ≡ slice_span self.now }
+        ensures rest { iter_left result ≡ slice_bits self.now }
+        ensures bound { length (iter_left result) < 2 ^ 64 }
+        ensures memory { iter_memory result ≡ slice_memory self.now }
+        ensures span { iter_span result ≡ slice_span self.now }
 
         // Facts of the type, and not of this iterator alone: whichever one a run of calls begins
         // with, the run gives the bits that it had left, in order, or from the back.
@@ -169,13 +169,13 @@ impl<'a, R: BitRegister, O: BitOrder<R>> IntoIterator for BitSlice<'a, R, O> {
 
     type IntoIter = Iter<'a, R, O>;
 
-    ghost use Rattle.bitvec_slice.specs.BitSlice.{slice_memory, slice_span, bits_of};
-    ghost use Rattle.bitvec_slice.specs.Iter.{rest_memory, rest_span, rest_of};
+    ghost use Rattle.bitvec_slice.specs.BitSlice.{slice_memory, slice_span, slice_bits};
+    ghost use Rattle.bitvec_slice.specs.Iter.{iter_memory, iter_span, iter_left};
     ghost use Rattle.bitvec_slice.specs.Iter.{GivesBitsInOrder, GivesBitsInReverse};
 
-    ghost into_iter_gives = { λ slice it. (rest_of it ≡ bits_of slice)
-        × (length (rest_of it) < 2 ^ 64) × GivesBitsInOrder it × GivesBitsInReverse it
-        × (rest_memory it ≡ slice_memory slice) × (rest_span it ≡ slice_span slice) };
+    ghost into_iter_gives = { λ slice it. (iter_left it ≡ slice_bits slice)
+        × (length (iter_left it) < 2 ^ 64) × GivesBitsInOrder it × GivesBitsInReverse it
+        × (iter_memory it ≡ slice_memory slice) × (iter_span it ≡ slice_span slice) };
 
     fn into_iter(self) -> Iter<'a, R, O> {
         self.iter()

@@ -7,7 +7,7 @@ use bitvec::mem::BitRegister;
 use bitvec::order::BitOrder;
 
 impl<'a, R: BitRegister, O: BitOrder<R>> BitSlice<'a, R, O> {
-    ghost use Rattle.bitvec_slice.specs.BitSlice.{bits_of};
+    ghost use Rattle.bitvec_slice.specs.BitSlice.{slice_bits};
     ghost use Rattle.bitvec_slice.specs.Bits.{AllBetween, IsFirstBetween, IsLastBetween};
 
     /// The index of the first bit that is one, from index `from` on, and `None` where none is: also
@@ -29,7 +29,7 @@ impl<'a, R: BitRegister, O: BitOrder<R>> BitSlice<'a, R, O> {
     /// assert_eq!(rt; slice.previous_one(2), None);
     /// ```
     pub fn next_one(&self, from: usize) -> Option<usize>
-        ensures { let xs = bits_of self.now
+        ensures { let xs = slice_bits self.now
             in MatchOption result (AllBetween false xs from (length xs))
             (IsFirstBetween true xs from (length xs)) }
     {
@@ -40,7 +40,7 @@ impl<'a, R: BitRegister, O: BitOrder<R>> BitSlice<'a, R, O> {
     /// also where there are no bits from `from` on. Costs as [`next_one`](BitSlice::next_one) does.
     /// Not in the Rust crate.
     pub fn next_zero(&self, from: usize) -> Option<usize>
-        ensures { let xs = bits_of self.now
+        ensures { let xs = slice_bits self.now
             in MatchOption result (AllBetween true xs from (length xs))
             (IsFirstBetween false xs from (length xs)) }
     {
@@ -51,7 +51,7 @@ impl<'a, R: BitRegister, O: BitOrder<R>> BitSlice<'a, R, O> {
     /// is. A `before` past the length is taken as the length. Costs as
     /// [`next_one`](BitSlice::next_one) does. Not in the Rust crate.
     pub fn previous_one(&self, before: usize) -> Option<usize>
-        ensures { let xs = bits_of self.now
+        ensures { let xs = slice_bits self.now
             in MatchOption result (AllBetween false xs 0 (min before (length xs)))
             (IsLastBetween true xs 0 (min before (length xs))) }
     {
@@ -62,7 +62,7 @@ impl<'a, R: BitRegister, O: BitOrder<R>> BitSlice<'a, R, O> {
     /// none is. A `before` past the length is taken as the length. Costs as
     /// [`next_one`](BitSlice::next_one) does. Not in the Rust crate.
     pub fn previous_zero(&self, before: usize) -> Option<usize>
-        ensures { let xs = bits_of self.now
+        ensures { let xs = slice_bits self.now
             in MatchOption result (AllBetween true xs 0 (min before (length xs)))
             (IsLastBetween false xs 0 (min before (length xs))) }
     {
@@ -84,7 +84,7 @@ impl<'a, R: BitRegister, O: BitOrder<R>> BitSlice<'a, R, O> {
     /// assert!(rt; !slice.any_in(6, 20));
     /// ```
     pub fn all_in(&self, from: usize, to: usize) -> bool
-        ensures { IsTrue result ↔ AllBetween true (bits_of self.now) from to }
+        ensures { IsTrue result ↔ AllBetween true (slice_bits self.now) from to }
     {
         if self.len() < to {
             return to <= from;
@@ -95,7 +95,7 @@ impl<'a, R: BitRegister, O: BitOrder<R>> BitSlice<'a, R, O> {
     /// Whether some bit from index `from` to before index `to` is there and one. Costs as
     /// [`next_one`](BitSlice::next_one) does. Not in the Rust crate.
     pub fn any_in(&self, from: usize, to: usize) -> bool
-        ensures { (result ≡ false) ↔ AllBetween false (bits_of self.now) from to }
+        ensures { (result ≡ false) ↔ AllBetween false (slice_bits self.now) from to }
     {
         self.first_between(from, to.min(self.len()), true).is_some()
     }

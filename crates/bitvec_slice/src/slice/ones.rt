@@ -4,7 +4,7 @@
 //! from both ends in any mixture it gives each index once, and then `None` for good.
 
 ghost use Rattle.std.specs.Prelude.{◌≡◌, ⊤, ◌≤◌, true, false, length};
-ghost use Rattle.bitvec_slice.specs.BitSlice.{slice_len, bits_of};
+ghost use Rattle.bitvec_slice.specs.BitSlice.{slice_len, slice_bits};
 ghost use Rattle.bitvec_slice.specs.Bits.{ones_between, zeros_between};
 
 use crate::slice::BitSlice;
@@ -88,7 +88,7 @@ impl<'a, R: BitRegister, O: BitOrder<R>> BitSlice<'a, R, O> {
     /// Constant time. All calls of `next` together go by words, and by the indices that they give.
     pub fn iter_ones(&self) -> IterOnes<'a, R, O>
         ensures { ones_left result
-            ≡ ones_between (bits_of self.now) 0 (length (bits_of self.now)) }
+            ≡ ones_between (slice_bits self.now) 0 (length (slice_bits self.now)) }
     {
         IterOnes {
             ahead: Ahead::new(*self, true),
@@ -101,7 +101,7 @@ impl<'a, R: BitRegister, O: BitOrder<R>> BitSlice<'a, R, O> {
     /// Constant time. All calls of `next` together go by words, and by the indices that they give.
     pub fn iter_zeros(&self) -> IterZeros<'a, R, O>
         ensures { zeros_left result
-            ≡ zeros_between (bits_of self.now) 0 (length (bits_of self.now)) }
+            ≡ zeros_between (slice_bits self.now) 0 (length (slice_bits self.now)) }
     {
         IterZeros {
             ahead: Ahead::new(*self, false),

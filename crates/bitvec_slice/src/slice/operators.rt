@@ -6,7 +6,7 @@ ghost use Rattle.bitvec.specs.BitSpan.{span_of, list_by, Becomes};
 ghost use Rattle.bitvec.specs.Digit.{exclusive_or};
 ghost use Rattle.bitvec.specs.Memory.{zip_with};
 ghost use Rattle.bitvec.specs.Span.{Fits};
-ghost use Rattle.bitvec_slice.specs.BitSlice.{bits_of};
+ghost use Rattle.bitvec_slice.specs.BitSlice.{slice_bits};
 
 use crate::slice::{BitSlice, BitSliceMut};
 use bitvec::mem::BitRegister;
@@ -22,7 +22,7 @@ fn combine_common<C: Combine, R: BitRegister, O: BitOrder<R>, R2: BitRegister, O
     source: BitSlice<'_, R2, O2>,
 )
     requires fits { Fits R.BITS (span_of span) (length memory.old) }
-    ensures { let xs = list_by span O.at_of memory.old in let ys = bits_of source.entry
+    ensures { let xs = list_by span O.at_of memory.old in let ys = slice_bits source.entry
         in Becomes span O.at_of memory.old memory.new (zip_with C.of xs ys ++ drop (length ys) xs) }
 {
     let count = span.len().min(source.len());
@@ -38,7 +38,7 @@ fn and_common<R: BitRegister, O: BitOrder<R>, R2: BitRegister, O2: BitOrder<R2>>
     source: BitSlice<'_, R2, O2>,
 )
     requires fits { Fits R.BITS (span_of span) (length memory.old) }
-    ensures { let xs = list_by span O.at_of memory.old in let ys = bits_of source.entry
+    ensures { let xs = list_by span O.at_of memory.old in let ys = slice_bits source.entry
         in Becomes span O.at_of memory.old memory.new
         (zip_with (λ t s. t && s) xs ys ++ replicate (length xs - length ys) false) }
 {
@@ -57,7 +57,7 @@ impl<'a, R: BitRegister, O: BitOrder<R>> BitSliceMut<'a, R, O> {
         &mut self,
         source: BitSlice<'_, R2, O2>,
     )
-        ensures { let xs = lent_bits self.old in let ys = bits_of source.entry
+        ensures { let xs = lent_bits self.old in let ys = slice_bits source.entry
             in BecomesBits self.old self.new (zip_with C.of xs ys ++ drop (length ys) xs) }
     {
         let span = self.span();
@@ -91,8 +91,8 @@ impl<'a, 'b, R: BitRegister, O: BitOrder<R>, R2: BitRegister, O2: BitOrder<R2>> 
     ghost use Rattle.bitvec_slice.specs.BitSliceMut.{lent_bits, BecomesBits};
 
     ghost bitand_assign_gives = { λ old source new. BecomesBits old new
-        (zip_with (λ t s. t && s) (lent_bits old) (bits_of source)
-        ++ replicate (length (lent_bits old) - length (bits_of source)) false) };
+        (zip_with (λ t s. t && s) (lent_bits old) (slice_bits source)
+        ++ replicate (length (lent_bits old) - length (slice_bits source)) false) };
 
     fn bitand_assign(&mut self, rhs: BitSlice<'b, R2, O2>) {
         let span = self.span();
@@ -126,8 +126,8 @@ impl<'a, 'b, R: BitRegister, O: BitOrder<R>, R2: BitRegister, O2: BitOrder<R2>> 
     ghost use Rattle.bitvec_slice.specs.BitSliceMut.{lent_bits, BecomesBits};
 
     ghost bitor_assign_gives = { λ old source new. BecomesBits old new
-        (zip_with (λ t s. t || s) (lent_bits old) (bits_of source)
-        ++ drop (length (bits_of source)) (lent_bits old)) };
+        (zip_with (λ t s. t || s) (lent_bits old) (slice_bits source)
+        ++ drop (length (slice_bits source)) (lent_bits old)) };
 
     fn bitor_assign(&mut self, rhs: BitSlice<'b, R2, O2>) {
         self.combine_as_far::<Or, R2, O2>(rhs);
@@ -145,8 +145,8 @@ impl<'a, 'b, R: BitRegister, O: BitOrder<R>, R2: BitRegister, O2: BitOrder<R2>> 
     ghost use Rattle.bitvec_slice.specs.BitSliceMut.{lent_bits, BecomesBits};
 
     ghost bitxor_assign_gives = { λ old source new. BecomesBits old new
-        (zip_with exclusive_or (lent_bits old) (bits_of source)
-        ++ drop (length (bits_of source)) (lent_bits old)) };
+        (zip_with exclusive_or (lent_bits old) (slice_bits source)
+        ++ drop (length (slice_bits source)) (lent_bits old)) };
 
     fn bitxor_assign(&mut self, rhs: BitSlice<'b, R2, O2>) {
         self.combine_as_far::<Xor, R2, O2>(rhs);

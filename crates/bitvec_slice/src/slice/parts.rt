@@ -9,7 +9,7 @@ use bitvec::mem::BitRegister;
 use bitvec::order::BitOrder;
 
 impl<'a, R: BitRegister, O: BitOrder<R>> BitSlice<'a, R, O> {
-    ghost use Rattle.bitvec_slice.specs.BitSlice.{slice_memory, slice_span, slice_len, bits_of};
+    ghost use Rattle.bitvec_slice.specs.BitSlice.{slice_memory, slice_span, slice_len, slice_bits};
 
     /// The first `mid` bits, and those behind them. Requires that `mid` is at most the length.
     /// Constant time.
@@ -17,8 +17,8 @@ impl<'a, R: BitRegister, O: BitOrder<R>> BitSlice<'a, R, O> {
         requires { mid ≤ slice_len self.now }
         ensures front_len { slice_len result.0 ≡ mid }
         ensures back_len { slice_len result.1 ≡ slice_len self.now - mid }
-        ensures front { bits_of result.0 ≡ take mid (bits_of self.now) }
-        ensures back { bits_of result.1 ≡ drop mid (bits_of self.now) }
+        ensures front { slice_bits result.0 ≡ take mid (slice_bits self.now) }
+        ensures back { slice_bits result.1 ≡ drop mid (slice_bits self.now) }
 
         // Both lie in the same memory, one behind the other.
         ensures front_memory { slice_memory result.0 ≡ slice_memory self.now }
@@ -43,9 +43,9 @@ impl<'a, R: BitRegister, O: BitOrder<R>> BitSlice<'a, R, O> {
     /// The bits from number `from` to before number `to`, and `None` exactly where these are not in
     /// order or `to` passes the length. Constant time.
     pub fn get_range(&self, from: usize, to: usize) -> Option<Self>
-        ensures accepted { IsSome result ↔ ((from ≤ to) × (to ≤ length (bits_of self.now))) }
-        ensures bits { IfSome result (λ part. bits_of part
-            ≡ slice_range (bits_of self.now) from to) }
+        ensures accepted { IsSome result ↔ ((from ≤ to) × (to ≤ length (slice_bits self.now))) }
+        ensures bits { IfSome result (λ part. slice_bits part
+            ≡ slice_range (slice_bits self.now) from to) }
         ensures len { IfSome result (λ part. slice_len part ≡ to - from) }
         ensures memory { IfSome result (λ part. slice_memory part ≡ slice_memory self.now) }
         ensures span { IfSome result (λ part. slice_span part

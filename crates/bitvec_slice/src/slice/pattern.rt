@@ -10,7 +10,7 @@ use bitvec::order::BitOrder;
 
 impl<'a, R: BitRegister, O: BitOrder<R>> BitSlice<'a, R, O> {
     ghost use Rattle.bitvec.specs.Span.{span_from, span_upto};
-    ghost use Rattle.bitvec_slice.specs.BitSlice.{slice_memory, slice_span, slice_len, bits_of};
+    ghost use Rattle.bitvec_slice.specs.BitSlice.{slice_memory, slice_span, slice_len, slice_bits};
 
     /// The first bit and the bits behind it, and `None` where there are no bits. Constant time. As
     /// in the Rust crate.
@@ -26,8 +26,8 @@ impl<'a, R: BitRegister, O: BitOrder<R>> BitSlice<'a, R, O> {
     /// assert_eq!(rt; rest.first_one(), Some(1));
     /// ```
     pub fn split_first(&self) -> Option<(bool, Self)>
-        ensures bits { MatchOption result (length (bits_of self.now) ≡ 0)
-            (λ it. bits_of self.now ≡ it.0 ∷ bits_of it.1) }
+        ensures bits { MatchOption result (length (slice_bits self.now) ≡ 0)
+            (λ it. slice_bits self.now ≡ it.0 ∷ slice_bits it.1) }
         ensures memory { IfSome result (λ it. slice_memory it.1 ≡ slice_memory self.now) }
         ensures span { IfSome result (λ it. slice_span it.1
             ≡ span_from R.BITS (slice_span self.now) 1) }
@@ -40,8 +40,8 @@ impl<'a, R: BitRegister, O: BitOrder<R>> BitSlice<'a, R, O> {
     /// The last bit and the bits before it, and `None` where there are no bits. Constant time. As
     /// in the Rust crate.
     pub fn split_last(&self) -> Option<(bool, Self)>
-        ensures bits { MatchOption result (length (bits_of self.now) ≡ 0)
-            (λ it. bits_of self.now ≡ bits_of it.1 ++ (it.0 ∷ [])) }
+        ensures bits { MatchOption result (length (slice_bits self.now) ≡ 0)
+            (λ it. slice_bits self.now ≡ slice_bits it.1 ++ (it.0 ∷ [])) }
         ensures memory { IfSome result (λ it. slice_memory it.1 ≡ slice_memory self.now) }
         ensures span { IfSome result (λ it. slice_span it.1
             ≡ span_upto (slice_span self.now) (slice_len self.now - 1)) }
@@ -58,7 +58,7 @@ impl<'a, R: BitRegister, O: BitOrder<R>> BitSlice<'a, R, O> {
         i: usize,
     ) -> bool
         requires { i + slice_len pattern.now ≤ slice_len self.now }
-        ensures { IsTrue result ↔ HasAt (bits_of self.now) (bits_of pattern.now) i }
+        ensures { IsTrue result ↔ HasAt (slice_bits self.now) (slice_bits pattern.now) i }
     {
         let (_, rest) = self.split_at(i);
         let (part, _) = rest.split_at(pattern.len());
@@ -87,8 +87,8 @@ impl<'a, R: BitRegister, O: BitOrder<R>> BitSlice<'a, R, O> {
         &self,
         pattern: &BitSlice<'_, R2, O2>,
     ) -> bool
-        ensures { let ys = bits_of pattern.now
-            in IsTrue result ↔ (take (length ys) (bits_of self.now) ≡ ys) }
+        ensures { let ys = slice_bits pattern.now
+            in IsTrue result ↔ (take (length ys) (slice_bits self.now) ≡ ys) }
     {
         let count = pattern.len();
         if self.len() < count {
@@ -104,7 +104,7 @@ impl<'a, R: BitRegister, O: BitOrder<R>> BitSlice<'a, R, O> {
         &self,
         pattern: &BitSlice<'_, R2, O2>,
     ) -> bool
-        ensures { let xs = bits_of self.now in let ys = bits_of pattern.now
+        ensures { let xs = slice_bits self.now in let ys = slice_bits pattern.now
             in IsTrue result ↔ (drop (length xs - length ys) xs ≡ ys) }
     {
         let (len, count) = (self.len(), pattern.len());
@@ -124,7 +124,7 @@ impl<'a, R: BitRegister, O: BitOrder<R>> BitSlice<'a, R, O> {
         &self,
         pattern: &BitSlice<'_, R2, O2>,
     ) -> Option<usize>
-        ensures { let IsHere = HasAt (bits_of self.now) (bits_of pattern.now)
+        ensures { let IsHere = HasAt (slice_bits self.now) (slice_bits pattern.now)
             in MatchOption result ((i : ℕ) → ¬ IsHere i) (IsLeast IsHere) }
     {
         let (len, count) = (self.len(), pattern.len());
@@ -149,7 +149,7 @@ impl<'a, R: BitRegister, O: BitOrder<R>> BitSlice<'a, R, O> {
         pattern: &BitSlice<'_, R2, O2>,
     ) -> bool
         ensures { (result ≡ false)
-            ↔ ((i : ℕ) → ¬ HasAt (bits_of self.now) (bits_of pattern.now) i) }
+            ↔ ((i : ℕ) → ¬ HasAt (slice_bits self.now) (slice_bits pattern.now) i) }
     {
         self.find(pattern).is_some()
     }

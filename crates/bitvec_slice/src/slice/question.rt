@@ -12,7 +12,7 @@ use bitvec::order::BitOrder;
 use bitvec::ptr::combine::{And, AndNot, Xor};
 
 impl<'a, R: BitRegister, O: BitOrder<R>> BitSlice<'a, R, O> {
-    ghost use Rattle.bitvec_slice.specs.BitSlice.{slice_len, bits_of};
+    ghost use Rattle.bitvec_slice.specs.BitSlice.{slice_len, slice_bits};
 
     /// Whether each bit that is set in the slice is set in another: whether the one set is a subset
     /// of the other.
@@ -36,7 +36,7 @@ impl<'a, R: BitRegister, O: BitOrder<R>> BitSlice<'a, R, O> {
     pub fn is_subset<R2: BitRegister, O2: BitOrder<R2>>(&self, other: &BitSlice<'_, R2, O2>) -> bool
         requires { slice_len other.now ≡ slice_len self.now }
         ensures { IsTrue result
-            ↔ AllZip (λ x y. IsTrue x → IsTrue y) (bits_of self.now) (bits_of other.now) }
+            ↔ AllZip (λ x y. IsTrue x → IsTrue y) (slice_bits self.now) (slice_bits other.now) }
     {
         self.first_and_not(other).is_none()
     }
@@ -52,7 +52,7 @@ impl<'a, R: BitRegister, O: BitOrder<R>> BitSlice<'a, R, O> {
     ) -> bool
         requires { slice_len other.now ≡ slice_len self.now }
         ensures { (result ≡ false)
-            ↔ AllAre false (zip_with (λ x y. x && y) (bits_of self.now) (bits_of other.now)) }
+            ↔ AllAre false (zip_with (λ x y. x && y) (slice_bits self.now) (slice_bits other.now)) }
     {
         self.first_and(other).is_some()
     }
@@ -83,7 +83,7 @@ impl<'a, R: BitRegister, O: BitOrder<R>> BitSlice<'a, R, O> {
     ) -> usize
         requires { slice_len other.now ≡ slice_len self.now }
         ensures { result
-            ≡ ones_in (zip_with (λ x y. x && y) (bits_of self.now) (bits_of other.now)) }
+            ≡ ones_in (zip_with (λ x y. x && y) (slice_bits self.now) (slice_bits other.now)) }
     {
         let (here, there) = (self.span, other.span);
         here.count_with::<And, R2, O2>(self.memory, there, other.memory)
@@ -100,7 +100,7 @@ impl<'a, R: BitRegister, O: BitOrder<R>> BitSlice<'a, R, O> {
         other: &BitSlice<'_, R2, O2>,
     ) -> Option<usize>
         requires { slice_len other.now ≡ slice_len self.now }
-        ensures { let both = zip_with (λ x y. x && y) (bits_of self.now) (bits_of other.now)
+        ensures { let both = zip_with (λ x y. x && y) (slice_bits self.now) (slice_bits other.now)
             in MatchOption result (AllAre false both) (IsFirst true both) }
     {
         let (here, there) = (self.span, other.span);
@@ -118,7 +118,7 @@ impl<'a, R: BitRegister, O: BitOrder<R>> BitSlice<'a, R, O> {
         other: &BitSlice<'_, R2, O2>,
     ) -> Option<usize>
         requires { slice_len other.now ≡ slice_len self.now }
-        ensures { let alone = zip_with (λ x y. x && not y) (bits_of self.now) (bits_of other.now)
+        ensures { let alone = zip_with (λ x y. x && not y) (slice_bits self.now) (slice_bits other.now)
             in MatchOption result (AllAre false alone) (IsFirst true alone) }
     {
         let (here, there) = (self.span, other.span);
@@ -149,7 +149,7 @@ impl<'a, R: BitRegister, O: BitOrder<R>> BitSlice<'a, R, O> {
         &self,
         other: &BitSlice<'_, R2, O2>,
     ) -> Option<usize>
-        ensures { let differ = zip_with exclusive_or (bits_of self.now) (bits_of other.now)
+        ensures { let differ = zip_with exclusive_or (slice_bits self.now) (slice_bits other.now)
             in MatchOption result (AllAre false differ) (IsFirst true differ) }
     {
         let count = self.len().min(other.len());

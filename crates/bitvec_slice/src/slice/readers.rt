@@ -15,9 +15,9 @@ use bitvec::mem::BitRegister;
 use bitvec::order::BitOrder;
 
 impl<'a, R: BitRegister, O: BitOrder<R>> BitSliceMut<'a, R, O> {
-    ghost use Rattle.bitvec_slice.specs.BitSlice.{slice_memory, slice_span, slice_len, bits_of};
+    ghost use Rattle.bitvec_slice.specs.BitSlice.{slice_memory, slice_span, slice_len, slice_bits};
     ghost use Rattle.bitvec_slice.specs.BitSliceMut.{lent_memory, lent_span, lent_len, lent_bits};
-    ghost use Rattle.bitvec_slice.specs.Iter.{rest_memory, rest_span, rest_of};
+    ghost use Rattle.bitvec_slice.specs.Iter.{iter_memory, iter_span, iter_left};
     ghost use Rattle.bitvec_slice.specs.Iter.{GivesBitsInOrder, GivesBitsInReverse};
     ghost use Rattle.bitvec_slice.specs.Ones.{ones_left, zeros_left};
 
@@ -43,7 +43,7 @@ impl<'a, R: BitRegister, O: BitOrder<R>> BitSliceMut<'a, R, O> {
     /// these are not in order or `to` passes the length. Constant time.
     pub fn get_range(&self, from: usize, to: usize) -> Option<BitSlice<'_, R, O>>
         ensures accepted { IsSome result ↔ ((from ≤ to) × (to ≤ lent_len self.now)) }
-        ensures bits { IfSome result (λ part. bits_of part
+        ensures bits { IfSome result (λ part. slice_bits part
             ≡ slice_range (lent_bits self.now) from to) }
         ensures len { IfSome result (λ part. slice_len part ≡ to - from) }
         ensures memory { IfSome result (λ part. slice_memory part
@@ -239,10 +239,10 @@ impl<'a, R: BitRegister, O: BitOrder<R>> BitSliceMut<'a, R, O> {
     /// Its bits as truth values, in order or from the back. Constant time, and so is each call of
     /// `next`.
     pub fn iter(&self) -> Iter<'_, R, O>
-        ensures rest { rest_of result ≡ lent_bits self.now }
-        ensures bound { length (rest_of result) < 2 ^ 64 }
-        ensures memory { rest_memory result ≡ (lent_memory self.now).now }
-        ensures span { rest_span result ≡ lent_span self.now }
+        ensures rest { iter_left result ≡ lent_bits self.now }
+        ensures bound { length (iter_left result) < 2 ^ 64 }
+        ensures memory { iter_memory result ≡ (lent_memory self.now).now }
+        ensures span { iter_span result ≡ lent_span self.now }
 
         // Facts of the type, as of the iterator of a slice for reading.
         ensures runs { GivesBitsInOrder result }
@@ -272,8 +272,8 @@ impl<'a, R: BitRegister, O: BitOrder<R>> BitSliceMut<'a, R, O> {
     /// Whether a slice has the same bits, whatever its register and order are. Costs as
     /// [`equals`](BitSlice::equals) of a [`BitSlice`] does.
     pub fn equals<R2: BitRegister, O2: BitOrder<R2>>(&self, other: &BitSlice<'_, R2, O2>) -> bool
-        ensures list { IsTrue result ↔ (lent_bits self.now ≡ bits_of other.now) }
-        ensures each { IsTrue result ↔ AreSameBits (lent_bits self.now) (bits_of other.now) }
+        ensures list { IsTrue result ↔ (lent_bits self.now ≡ slice_bits other.now) }
+        ensures each { IsTrue result ↔ AreSameBits (lent_bits self.now) (slice_bits other.now) }
     {
         self.as_bitslice().equals(other)
     }

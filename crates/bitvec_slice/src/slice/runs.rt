@@ -2,7 +2,7 @@
 
 ghost use Rattle.std.specs.Prelude.{◌≡◌, ⊤, ◌<◌, ◌≤◌, true, false};
 ghost use Rattle.bitvec.specs.Span.{element};
-ghost use Rattle.bitvec_slice.specs.BitSlice.{slice_len, bits_of};
+ghost use Rattle.bitvec_slice.specs.BitSlice.{slice_len, slice_bits};
 ghost use Rattle.bitvec_slice.specs.Bits.{AllBetween};
 ghost use Rattle.bitvec_slice.specs.Stretches.{runs_from};
 
@@ -30,7 +30,7 @@ pub struct IterRuns<'a, R: BitRegister, O: BitOrder<R>> {
     slice: BitSlice<'a, R, O>,
     next: usize,
     pub ghost inside: { next ≤ slice_len slice },
-    pub ghost edge: { 0 < next → element (bits_of slice) next ≡ false },
+    pub ghost edge: { 0 < next → element (slice_bits slice) next ≡ false },
 }
 
 impl<'a, R: BitRegister, O: BitOrder<R>> Clone for IterRuns<'a, R, O> {
@@ -51,12 +51,12 @@ impl<'a, R: BitRegister, O: BitOrder<R>> BitSlice<'a, R, O> {
 
     // The index behind the stretch of ones that index `start` lies in.
     fn end_of_ones(&self, start: usize) -> usize
-        requires one { element (bits_of self.now) start ≡ true }
+        requires one { element (slice_bits self.now) start ≡ true }
         requires inside { start < slice_len self.now }
         ensures some { start < result }
         ensures inside { result ≤ slice_len self.now }
-        ensures ones { AllBetween true (bits_of self.now) start result }
-        ensures end { element (bits_of self.now) result ≡ false }
+        ensures ones { AllBetween true (slice_bits self.now) start result }
+        ensures end { element (slice_bits self.now) result ≡ false }
     {
         let len = self.len();
         self.first_between(start, len, false).unwrap_or(len)
@@ -69,7 +69,7 @@ impl<'a, R: BitRegister, O: BitOrder<R>> BitSlice<'a, R, O> {
     /// Constant time. All calls of `next` together go by words, and by the stretches that they
     /// give.
     pub fn iter_runs(&self) -> IterRuns<'a, R, O>
-        ensures { runs_left result ≡ runs_from (bits_of self.now) 0 }
+        ensures { runs_left result ≡ runs_from (slice_bits self.now) 0 }
     {
         IterRuns {
             slice: *self,

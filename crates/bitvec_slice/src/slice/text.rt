@@ -8,8 +8,8 @@ ghost use Rattle.std.specs.Prelude.{false, map, slice_index};
 ghost use Rattle.std.specs.Fmt.{DisplaysOnOk, WritesOnOk, WritesStyledOnOk};
 ghost use Rattle.bitvec.specs.BitSpan.{span_of, list_by, Becomes};
 ghost use Rattle.bitvec.specs.Span.{Fits};
-ghost use Rattle.bitvec_slice.specs.BitSlice.{bits_of};
-ghost use Rattle.bitvec_slice.specs.Iter.{rest_of};
+ghost use Rattle.bitvec_slice.specs.BitSlice.{slice_bits};
+ghost use Rattle.bitvec_slice.specs.Iter.{iter_left};
 ghost use Rattle.bitvec_slice.specs.SliceText.{digit_text, digits_text, truths_text, text_bits};
 ghost use Rattle.bitvec_slice.specs.SliceText.{digit_value, IsDigit, AreDigits};
 ghost use Rattle.bitvec_slice.specs.SliceText.{not_a_digit_text, other_length_text};
@@ -79,7 +79,7 @@ fn write_digits<'a, R: BitRegister, O: BitOrder<R>, W: fmt::Write>(
     bits: Iter<'a, R, O>,
     f: &mut fmt::Formatter<W>,
 ) -> fmt::Result
-    ensures { WritesStyledOnOk W.write_str_gives f.old result (digits_text (rest_of bits.entry))
+    ensures { WritesStyledOnOk W.write_str_gives f.old result (digits_text (iter_left bits.entry))
         f.new }
 {
     for bit in bits {
@@ -94,9 +94,9 @@ fn write_text<'a, R: BitRegister, O: BitOrder<R>, W: fmt::Write>(
     f: &mut fmt::Formatter<W>,
 ) -> fmt::Result
     ensures styled { WritesStyledOnOk W.write_str_gives f.old result
-        (digits_text (bits_of slice.entry)) f.new }
+        (digits_text (slice_bits slice.entry)) f.new }
     ensures writes { WritesOnOk W.write_str_gives f.old result
-        (digits_text (bits_of slice.entry)) f.new }
+        (digits_text (slice_bits slice.entry)) f.new }
 {
     write_digits(slice.iter(), f)
 }
@@ -107,7 +107,7 @@ fn write_rest<'a, R: BitRegister, O: BitOrder<R>, W: fmt::Write>(
     f: &mut fmt::Formatter<W>,
 ) -> fmt::Result
     ensures { WritesStyledOnOk W.write_str_gives f.old result
-        (rest_text 10 false (map digit_value (rest_of rest.entry))) f.new }
+        (rest_text 10 false (map digit_value (iter_left rest.entry))) f.new }
 {
     for bit in rest {
         f.write_str(", ")?;
@@ -122,9 +122,9 @@ fn write_list<'a, R: BitRegister, O: BitOrder<R>, W: fmt::Write>(
     f: &mut fmt::Formatter<W>,
 ) -> fmt::Result
     ensures styled { WritesStyledOnOk W.write_str_gives f.old result
-        (truths_text (bits_of slice.entry)) f.new }
+        (truths_text (slice_bits slice.entry)) f.new }
     ensures writes { WritesOnOk W.write_str_gives f.old result
-        (truths_text (bits_of slice.entry)) f.new }
+        (truths_text (slice_bits slice.entry)) f.new }
 {
     let mut rest = slice.iter();
     let Some(first) = rest.next() else {
@@ -152,9 +152,9 @@ fn write_list<'a, R: BitRegister, O: BitOrder<R>, W: fmt::Write>(
 /// );
 /// ```
 impl<'a, R: BitRegister, O: BitOrder<R>> fmt::Display for BitSlice<'a, R, O> {
-    ghost output = { λ slice. Some (digits_text (bits_of slice)) };
+    ghost output = { λ slice. Some (digits_text (slice_bits slice)) };
 
-    ghost styled_output = { λ slice _. Some (digits_text (bits_of slice)) };
+    ghost styled_output = { λ slice _. Some (digits_text (slice_bits slice)) };
 
     fn fmt<W: fmt::Write>(&self, f: &mut fmt::Formatter<W>) -> fmt::Result {
         write_text(*self, f)
@@ -166,9 +166,9 @@ impl<'a, R: BitRegister, O: BitOrder<R>> fmt::Display for BitSlice<'a, R, O> {
 impl<'a, R: BitRegister, O: BitOrder<R>> fmt::Binary for BitSlice<'a, R, O> {
     fn fmt<W: fmt::Write>(&self, f: &mut fmt::Formatter<W>) -> fmt::Result
         ensures writes { WritesOnOk W.write_str_gives f.old result
-            (digits_text (bits_of self.now)) f.new }
+            (digits_text (slice_bits self.now)) f.new }
         ensures styled { WritesStyledOnOk W.write_str_gives f.old result
-            (digits_text (bits_of self.now)) f.new }
+            (digits_text (slice_bits self.now)) f.new }
     {
         write_text(*self, f)
     }
@@ -177,13 +177,13 @@ impl<'a, R: BitRegister, O: BitOrder<R>> fmt::Binary for BitSlice<'a, R, O> {
 /// A `1` or a `0` for each bit, in square brackets and with a comma and a space between them,
 /// whatever the caller's flags. Costs by bits. In the Rust crate the span's text stands before it.
 impl<'a, R: BitRegister, O: BitOrder<R>> fmt::Debug for BitSlice<'a, R, O> {
-    ghost debug_output = { λ slice. Some (truths_text (bits_of slice)) };
+    ghost debug_output = { λ slice. Some (truths_text (slice_bits slice)) };
 
     fn fmt<W: fmt::Write>(&self, f: &mut fmt::Formatter<W>) -> fmt::Result
         ensures writes { DisplaysOnOk W.write_str_gives f.old result
-            (Some (truths_text (bits_of self.now))) f.new }
+            (Some (truths_text (slice_bits self.now))) f.new }
         ensures styled { WritesStyledOnOk W.write_str_gives f.old result
-            (truths_text (bits_of self.now)) f.new }
+            (truths_text (slice_bits self.now)) f.new }
     {
         write_list(*self, f)
     }

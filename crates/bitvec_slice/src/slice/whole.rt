@@ -26,7 +26,7 @@ fn span_of_all<R: BitRegister, O>(words: usize) -> Result<BitSpan<R, O>, BitSpan
 }
 
 impl<'a, R: BitRegister, O: BitOrder<R>> BitSlice<'a, R, O> {
-    ghost use Rattle.bitvec_slice.specs.BitSlice.{slice_memory, slice_span, bits_of};
+    ghost use Rattle.bitvec_slice.specs.BitSlice.{slice_memory, slice_span, slice_bits};
 
     /// Every bit of a memory. Requires that there are at most 2305843009213693951. Constant time.
     /// Not in the Rust crate.
@@ -34,7 +34,7 @@ impl<'a, R: BitRegister, O: BitOrder<R>> BitSlice<'a, R, O> {
         requires { length memory.now * R.BITS ≤ region_max_bits }
         ensures memory { slice_memory result ≡ memory.now }
         ensures span { slice_span result ≡ whole_span R.BITS (length memory.now) }
-        ensures bits { bits_of result ≡ memory_bits R.BITS O.at_of (map R.number memory.now) }
+        ensures bits { slice_bits result ≡ memory_bits R.BITS O.at_of (map R.number memory.now) }
         ensures whole { ShowsMemory R.BITS O.at_of (slice_span result) (length memory.now) }
     {
         Self::all(memory).unwrap()
@@ -52,7 +52,7 @@ impl<'a, R: BitRegister, O: BitOrder<R>> BitSlice<'a, R, O> {
         ensures memory { IfOk result (λ slice. slice_memory slice ≡ memory.now) }
         ensures span { IfOk result (λ slice. slice_span slice
             ≡ whole_span R.BITS (length memory.now)) }
-        ensures bits { IfOk result (λ slice. bits_of slice
+        ensures bits { IfOk result (λ slice. slice_bits slice
             ≡ memory_bits R.BITS O.at_of (map R.number memory.now)) }
         ensures whole { IfOk result (λ slice. ShowsMemory R.BITS O.at_of (slice_span slice)
             (length memory.now)) }

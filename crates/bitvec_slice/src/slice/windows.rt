@@ -4,7 +4,7 @@ ghost use Rattle.std.specs.Prelude.{◌≡◌, ⊤, ◌-◌, ◌<◌, Some, leng
 ghost use Rattle.std.specs.Iterator.{YieldsFirstBy, YieldsLastBy, item_count, at_most, UpTo};
 ghost use Rattle.std.specs.Iterator.{MakesProgress};
 ghost use Rattle.std.specs.Iterator.SizeHint.{IsWithinCount};
-ghost use Rattle.bitvec_slice.specs.BitSlice.{slice_len, bits_of};
+ghost use Rattle.bitvec_slice.specs.BitSlice.{slice_len, slice_bits};
 ghost use Rattle.bitvec_slice.specs.Pieces.{windows_of};
 
 use crate::slice::BitSlice;
@@ -55,7 +55,7 @@ impl<'a, R: BitRegister, O: BitOrder<R>> BitSlice<'a, R, O> {
     /// crate.
     pub fn windows(&self, n: usize) -> Windows<'a, R, O>
         requires { 0 < n }
-        ensures pieces { windows_left result ≡ windows_of n (bits_of self.now) }
+        ensures pieces { windows_left result ≡ windows_of n (slice_bits self.now) }
 
         // They lie where the slice lies.
         ensures rest { windows_rest result ≡ self.now }
@@ -74,13 +74,13 @@ impl<'a, R: BitRegister, O: BitOrder<R>> Iterator for Windows<'a, R, O> {
     ghost use Rattle.bitvec_slice.specs.PieceIters.{windows_left, windows_rest, windows_size};
     ghost use Rattle.bitvec_slice.specs.PieceIters.{TakesFirst};
 
-    ghost next_gives = { YieldsFirstBy bits_of windows_left };
+    ghost next_gives = { YieldsFirstBy slice_bits windows_left };
 
     ghost remaining = { item_count windows_left };
 
     /// Takes the first of the windows that are left.
     fn next(&mut self) -> Option<BitSlice<'a, R, O>>
-        ensures steps { YieldsFirstBy bits_of windows_left self.old result self.new }
+        ensures steps { YieldsFirstBy slice_bits windows_left self.old result self.new }
         ensures goes { MakesProgress (λ _. ⊤) (item_count windows_left)
             self.old result self.new }
 
@@ -112,11 +112,11 @@ impl<'a, R: BitRegister, O: BitOrder<R>> DoubleEndedIterator for Windows<'a, R, 
     ghost use Rattle.bitvec_slice.specs.PieceIters.{windows_left, windows_rest, windows_size};
     ghost use Rattle.bitvec_slice.specs.PieceIters.{TakesLast};
 
-    ghost next_back_gives = { YieldsLastBy bits_of windows_left };
+    ghost next_back_gives = { YieldsLastBy slice_bits windows_left };
 
     /// Takes the last of the windows that are left.
     fn next_back(&mut self) -> Option<BitSlice<'a, R, O>>
-        ensures steps { YieldsLastBy bits_of windows_left self.old result self.new }
+        ensures steps { YieldsLastBy slice_bits windows_left self.old result self.new }
         ensures goes { MakesProgress (λ _. ⊤) (item_count windows_left)
             self.old result self.new }
 

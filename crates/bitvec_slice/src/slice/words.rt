@@ -12,7 +12,7 @@ use bitvec::mem::BitRegister;
 use bitvec::order::BitOrder;
 
 impl<'a, R: BitRegister, O: BitOrder<R>> BitSlice<'a, R, O> {
-    ghost use Rattle.bitvec_slice.specs.BitSlice.{slice_span, slice_len, bits_of};
+    ghost use Rattle.bitvec_slice.specs.BitSlice.{slice_span, slice_len, slice_bits};
 
     /// The index of the first bit in its word, from 0 to before the width. Constant time. The Rust
     /// crate has it of a pointer to a slice.
@@ -44,7 +44,7 @@ impl<'a, R: BitRegister, O: BitOrder<R>> BitSlice<'a, R, O> {
         requires { HasWord R.BITS (slice_span self.now) k }
         ensures { (j : ℕ) → j < slice_len self.now → ((slice_span self.now).head + j) / R.BITS ≡ k
             → digit (R.number result) (O.at_of (((slice_span self.now).head + j) % R.BITS))
-            ≡ element (bits_of self.now) j }
+            ≡ element (slice_bits self.now) j }
     {
         word_met(self.span, self.memory, k)
     }

@@ -3,11 +3,11 @@
 ghost use Rattle.std.specs.Prelude.{◌≡◌, ◌+◌, ◌<◌, ◌≤◌, ◌^◌, ℕ, MatchOption, MatchResult};
 ghost use Rattle.std.specs.Prelude.{IsTrue, ◌↔◌, ◌-◌, true, length};
 ghost use Rattle.bitvec.specs.Span.{element};
-ghost use Rattle.bitvec_slice.specs.BitSlice.{bits_of};
+ghost use Rattle.bitvec_slice.specs.BitSlice.{slice_bits};
 ghost use Rattle.bitvec_stream.specs.Golomb.{golomb, StartsWith, IsCode, signed_place};
 ghost use Rattle.bitvec_stream.specs.Golomb.{IsSignedLacking};
 ghost use Rattle.bitvec_stream.specs.Numbers.{number_be};
-ghost use Rattle.bitvec_stream.specs.Reader.{rest};
+ghost use Rattle.bitvec_stream.specs.Reader.{unread};
 ghost use Rattle.bitvec_stream.specs.Refusals.{IsCodeRefusal};
 
 use crate::error::ReadError;
@@ -21,8 +21,8 @@ use bitvec_slice::slice::BitSlice;
 // One less than the number of a slice's bits, the first the highest digit, and `None` where that is
 // no number of 128 digits.
 fn code_number<R: BitRegister, O: BitOrder<R>>(digits: BitSlice<'_, R, O>) -> Option<u128>
-    requires { element (bits_of digits) 0 ≡ true }
-    ensures { let above = number_be (bits_of digits.entry)
+    requires { element (slice_bits digits) 0 ≡ true }
+    ensures { let above = number_be (slice_bits digits.entry)
         in MatchOption result (2 ^ 128 < above) (λ n. (n + 1 ≡ above) × (n < 2 ^ 128)) }
 {
     if digits.len() <= 128 {
@@ -39,8 +39,8 @@ fn code_number<R: BitRegister, O: BitOrder<R>>(digits: BitSlice<'_, R, O>) -> Op
 fn code_value<R: BitRegister, O: BitOrder<R>, N: BitRegister>(
     digits: BitSlice<'_, R, O>,
 ) -> Option<N>
-    requires { element (bits_of digits) 0 ≡ true }
-    ensures { let above = number_be (bits_of digits.entry)
+    requires { element (slice_bits digits) 0 ≡ true }
+    ensures { let above = number_be (slice_bits digits.entry)
         in MatchOption result (2 ^ N.BITS < above) (λ value. N.number value + 1 ≡ above) }
 {
     match code_number(digits) {
@@ -51,8 +51,8 @@ fn code_value<R: BitRegister, O: BitOrder<R>, N: BitRegister>(
 
 // Whether the number of a slice's bits, the first the highest digit, is two to the 128 and one.
 fn is_least<R: BitRegister, O: BitOrder<R>>(digits: BitSlice<'_, R, O>) -> bool
-    requires { element (bits_of digits) 0 ≡ true }
-    ensures { IsTrue result ↔ (number_be (bits_of digits.entry) ≡ 2 ^ 128 + 1) }
+    requires { element (slice_bits digits) 0 ≡ true }
+    ensures { IsTrue result ↔ (number_be (slice_bits digits.entry) ≡ 2 ^ 128 + 1) }
 {
     if digits.len() != 129 {
         return false;
@@ -64,8 +64,8 @@ fn is_least<R: BitRegister, O: BitOrder<R>>(digits: BitSlice<'_, R, O>) -> bool
 // The signed number whose code has these digits, from its first one on, and `None` where it has
 // more than 128 digits.
 fn signed_code_number<R: BitRegister, O: BitOrder<R>>(digits: BitSlice<'_, R, O>) -> Option<i128>
-    requires { element (bits_of digits) 0 ≡ true }
-    ensures { let above = number_be (bits_of digits.entry)
+    requires { element (slice_bits digits) 0 ≡ true }
+    ensures { let above = number_be (slice_bits digits.entry)
         in MatchOption result (IsSignedLacking 128 (above - 1))
         (λ z. signed_place z + 1 ≡ above) }
 {
@@ -82,8 +82,8 @@ fn signed_code_number<R: BitRegister, O: BitOrder<R>>(digits: BitSlice<'_, R, O>
 fn signed_code_value<R: BitRegister, O: BitOrder<R>, N: SignedNumber>(
     digits: BitSlice<'_, R, O>,
 ) -> Option<N>
-    requires { element (bits_of digits) 0 ≡ true }
-    ensures { let above = number_be (bits_of digits.entry)
+    requires { element (slice_bits digits) 0 ≡ true }
+    ensures { let above = number_be (slice_bits digits.entry)
         in MatchOption result (IsSignedLacking N.BITS (above - 1))
         (λ value. signed_place (N.number value) + 1 ≡ above) }
 {
@@ -101,8 +101,8 @@ fn far_code<R: BitRegister, O: BitOrder<R>, N: BitRegister>(
 ) -> Result<(N, usize), ReadError>
     ensures { MatchResult result
         (λ it. let code = golomb (N.number it.0)
-        in StartsWith (rest reader.entry) code × (it.1 ≡ length code))
-        (IsCodeRefusal (λ n. 2 ^ N.BITS ≤ n) (rest reader.entry)) }
+        in StartsWith (unread reader.entry) code × (it.1 ≡ length code))
+        (IsCodeRefusal (λ n. 2 ^ N.BITS ≤ n) (unread reader.entry)) }
 {
     let digits = reader.code()?;
     match code_value(digits) {
@@ -112,13 +112,13 @@ fn far_code<R: BitRegister, O: BitOrder<R>, N: BitRegister>(
 }
 
 impl<'a, R: BitRegister, O: BitOrder<R>> BitReader<'a, R, O> {
-    ghost use Rattle.bitvec_stream.specs.Reader.{rest, Passes};
+    ghost use Rattle.bitvec_stream.specs.Reader.{unread, Passes};
 
     // The digits of the code that the bits that are left begin with, from its first one on.
     fn code(&self) -> Result<BitSlice<'a, R, O>, ReadError>
-        ensures { MatchResult result (λ digits. IsCode (rest self.now) (bits_of digits))
+        ensures { MatchResult result (λ digits. IsCode (unread self.now) (slice_bits digits))
             (λ error. (error ≡ ReadError.Unended)
-            × ((n : ℕ) → ¬ StartsWith (rest self.now) (golomb n))) }
+            × ((n : ℕ) → ¬ StartsWith (unread self.now) (golomb n))) }
     {
         match self.run_of(false) {
             Some(zeros) => {
@@ -155,8 +155,8 @@ impl<'a, R: BitRegister, O: BitOrder<R>> BitReader<'a, R, O> {
     #[inline(always)]
     pub fn read_exp_golomb<N: BitRegister>(&mut self) -> Result<N, ReadError>
         ensures value { MatchResult result
-            (λ value. StartsWith (rest self.old) (golomb (N.number value)))
-            (IsCodeRefusal (λ n. 2 ^ N.BITS ≤ n) (rest self.old)) }
+            (λ value. StartsWith (unread self.old) (golomb (N.number value)))
+            (IsCodeRefusal (λ n. 2 ^ N.BITS ≤ n) (unread self.old)) }
         ensures moved { MatchResult result
             (λ value. Passes self.old self.new (length (golomb (N.number value))))
             (λ _. self.new ≡ self.old) }
@@ -192,8 +192,8 @@ impl<'a, R: BitRegister, O: BitOrder<R>> BitReader<'a, R, O> {
     /// much. Not in the Rust crate.
     pub fn read_signed_exp_golomb<N: SignedNumber>(&mut self) -> Result<N, ReadError>
         ensures value { MatchResult result
-            (λ value. StartsWith (rest self.old) (golomb (signed_place (N.number value))))
-            (IsCodeRefusal (IsSignedLacking N.BITS) (rest self.old)) }
+            (λ value. StartsWith (unread self.old) (golomb (signed_place (N.number value))))
+            (IsCodeRefusal (IsSignedLacking N.BITS) (unread self.old)) }
         ensures moved { MatchResult result
             (λ value. Passes self.old self.new (length (golomb (signed_place (N.number value)))))
             (λ _. self.new ≡ self.old) }

@@ -2,7 +2,7 @@
 
 ghost use Rattle.std.specs.Prelude.{◌≡◌, ◌≤◌, ◌↔◌, IsOk, IfOk, IfErr, MatchResult, length, take};
 ghost use Rattle.bitvec_stream.specs.Numbers.{number_le, number_be};
-ghost use Rattle.bitvec_stream.specs.Reader.{rest};
+ghost use Rattle.bitvec_stream.specs.Reader.{unread};
 
 use crate::error::ReadError;
 use crate::reader::BitReader;
@@ -18,8 +18,8 @@ fn far_be<R: BitRegister, O: BitOrder<R>, N: BitRegister>(
     count: usize,
 ) -> N
     requires small { count ≤ N.BITS }
-    requires inside { count ≤ length (rest reader) }
-    ensures { N.number result ≡ number_be (take count (rest reader.entry)) }
+    requires inside { count ≤ length (unread reader) }
+    ensures { N.number result ≡ number_be (take count (unread reader.entry)) }
 {
     let position = reader.position();
     reader.slice.load_digits_be(position, position + count)
@@ -33,24 +33,24 @@ fn far_le<R: BitRegister, O: BitOrder<R>, N: BitRegister>(
     count: usize,
 ) -> N
     requires small { count ≤ N.BITS }
-    requires inside { count ≤ length (rest reader) }
-    ensures { N.number result ≡ number_le (take count (rest reader.entry)) }
+    requires inside { count ≤ length (unread reader) }
+    ensures { N.number result ≡ number_le (take count (unread reader.entry)) }
 {
     let position = reader.position();
     reader.slice.load_digits_le(position, position + count)
 }
 
 impl<'a, R: BitRegister, O: BitOrder<R>> BitReader<'a, R, O> {
-    ghost use Rattle.bitvec_stream.specs.Reader.{rest, Passes};
+    ghost use Rattle.bitvec_stream.specs.Reader.{unread, Passes};
 
     // What `read_be` does where the bits are neither kept nor those of one more word, or where
     // positions do not fall.
     #[inline(always)]
     fn read_far_be<N: BitRegister>(&mut self, count: usize) -> Result<N, ReadError>
         requires { count ≤ N.BITS }
-        ensures accepted { IsOk result ↔ (count ≤ length (rest self.old)) }
+        ensures accepted { IsOk result ↔ (count ≤ length (unread self.old)) }
         ensures number { IfOk result (λ value. N.number value
-            ≡ number_be (take count (rest self.old))) }
+            ≡ number_be (take count (unread self.old))) }
         ensures moved { MatchResult result (λ _. Passes self.old self.new count)
             (λ error. (error ≡ ReadError.TooFew) × (self.new ≡ self.old)) }
     {
@@ -66,9 +66,9 @@ impl<'a, R: BitRegister, O: BitOrder<R>> BitReader<'a, R, O> {
     #[inline(always)]
     fn read_far_le<N: BitRegister>(&mut self, count: usize) -> Result<N, ReadError>
         requires { count ≤ N.BITS }
-        ensures accepted { IsOk result ↔ (count ≤ length (rest self.old)) }
+        ensures accepted { IsOk result ↔ (count ≤ length (unread self.old)) }
         ensures number { IfOk result (λ value. N.number value
-            ≡ number_le (take count (rest self.old))) }
+            ≡ number_le (take count (unread self.old))) }
         ensures moved { MatchResult result (λ _. Passes self.old self.new count)
             (λ error. (error ≡ ReadError.TooFew) × (self.new ≡ self.old)) }
     {
@@ -88,9 +88,9 @@ impl<'a, R: BitRegister, O: BitOrder<R>> BitReader<'a, R, O> {
     #[inline(always)]
     pub fn read_be<N: BitRegister>(&mut self, count: usize) -> Result<N, ReadError>
         requires { count ≤ N.BITS }
-        ensures accepted { IsOk result ↔ (count ≤ length (rest self.old)) }
+        ensures accepted { IsOk result ↔ (count ≤ length (unread self.old)) }
         ensures number { IfOk result (λ value. N.number value
-            ≡ number_be (take count (rest self.old))) }
+            ≡ number_be (take count (unread self.old))) }
         ensures moved { MatchResult result (λ _. Passes self.old self.new count)
             (λ error. (error ≡ ReadError.TooFew) × (self.new ≡ self.old)) }
     {
@@ -121,9 +121,9 @@ impl<'a, R: BitRegister, O: BitOrder<R>> BitReader<'a, R, O> {
     #[inline(always)]
     pub fn read_le<N: BitRegister>(&mut self, count: usize) -> Result<N, ReadError>
         requires { count ≤ N.BITS }
-        ensures accepted { IsOk result ↔ (count ≤ length (rest self.old)) }
+        ensures accepted { IsOk result ↔ (count ≤ length (unread self.old)) }
         ensures number { IfOk result (λ value. N.number value
-            ≡ number_le (take count (rest self.old))) }
+            ≡ number_le (take count (unread self.old))) }
         ensures moved { MatchResult result (λ _. Passes self.old self.new count)
             (λ error. (error ≡ ReadError.TooFew) × (self.new ≡ self.old)) }
     {
@@ -139,9 +139,9 @@ impl<'a, R: BitRegister, O: BitOrder<R>> BitReader<'a, R, O> {
     /// costs the same. Not in the Rust crate.
     pub fn peek_be<N: BitRegister>(&self, count: usize) -> Result<N, ReadError>
         requires { count ≤ N.BITS }
-        ensures accepted { IsOk result ↔ (count ≤ length (rest self.now)) }
+        ensures accepted { IsOk result ↔ (count ≤ length (unread self.now)) }
         ensures number { IfOk result (λ value. N.number value
-            ≡ number_be (take count (rest self.now))) }
+            ≡ number_be (take count (unread self.now))) }
         ensures refused { IfErr result (λ error. error ≡ ReadError.TooFew) }
     {
         if self.remaining() < count {
@@ -156,9 +156,9 @@ impl<'a, R: BitRegister, O: BitOrder<R>> BitReader<'a, R, O> {
     #[inline(always)]
     pub fn peek_le<N: BitRegister>(&self, count: usize) -> Result<N, ReadError>
         requires { count ≤ N.BITS }
-        ensures accepted { IsOk result ↔ (count ≤ length (rest self.now)) }
+        ensures accepted { IsOk result ↔ (count ≤ length (unread self.now)) }
         ensures number { IfOk result (λ value. N.number value
-            ≡ number_le (take count (rest self.now))) }
+            ≡ number_le (take count (unread self.now))) }
         ensures refused { IfErr result (λ error. error ≡ ReadError.TooFew) }
     {
         if self.remaining() < count {

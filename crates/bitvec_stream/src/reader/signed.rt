@@ -12,7 +12,7 @@ use bitvec::order::BitOrder;
 use bitvec_slice::field::SignedNumber;
 
 impl<'a, R: BitRegister, O: BitOrder<R>> BitReader<'a, R, O> {
-    ghost use Rattle.bitvec_stream.specs.Reader.{rest, Passes};
+    ghost use Rattle.bitvec_stream.specs.Reader.{unread, Passes};
 
     /// The signed number whose two's complement the next `count` bits are, the first the highest
     /// digit. No bits are 0. It refuses with `TooFew` exactly where fewer are left.
@@ -31,9 +31,9 @@ impl<'a, R: BitRegister, O: BitOrder<R>> BitReader<'a, R, O> {
     /// ```
     pub fn read_signed_be<N: SignedNumber>(&mut self, count: usize) -> Result<N, ReadError>
         requires { count ≤ N.BITS }
-        ensures accepted { IsOk result ↔ (count ≤ length (rest self.old)) }
+        ensures accepted { IsOk result ↔ (count ≤ length (unread self.old)) }
         ensures number { IfOk result (λ value. N.number value
-            ≡ signed_of count (number_be (take count (rest self.old)))) }
+            ≡ signed_of count (number_be (take count (unread self.old)))) }
         ensures moved { MatchResult result (λ _. Passes self.old self.new count)
             (λ error. (error ≡ ReadError.TooFew) × (self.new ≡ self.old)) }
     {
@@ -48,9 +48,9 @@ impl<'a, R: BitRegister, O: BitOrder<R>> BitReader<'a, R, O> {
     /// by words where the order's positions rise, else by bits. Not in the Rust crate.
     pub fn read_signed_le<N: SignedNumber>(&mut self, count: usize) -> Result<N, ReadError>
         requires { count ≤ N.BITS }
-        ensures accepted { IsOk result ↔ (count ≤ length (rest self.old)) }
+        ensures accepted { IsOk result ↔ (count ≤ length (unread self.old)) }
         ensures number { IfOk result (λ value. N.number value
-            ≡ signed_of count (number_le (take count (rest self.old)))) }
+            ≡ signed_of count (number_le (take count (unread self.old)))) }
         ensures moved { MatchResult result (λ _. Passes self.old self.new count)
             (λ error. (error ≡ ReadError.TooFew) × (self.new ≡ self.old)) }
     {

@@ -10,13 +10,13 @@ use bitvec::mem::BitRegister;
 use bitvec::order::BitOrder;
 
 impl<'a, R: BitRegister, O: BitOrder<R>> BitReader<'a, R, O> {
-    ghost use Rattle.bitvec_stream.specs.Reader.{rest, Passes};
+    ghost use Rattle.bitvec_stream.specs.Reader.{unread, Passes};
 
     // How many of the bits that are left are `bit` before the first that is not; `None` where all
     // are.
     pub(super) fn run_of(&self, bit: bool) -> Option<usize>
-        ensures { MatchOption result (AllAre bit (rest self.now))
-            (λ count. (count < length (rest self.now)) × BeginsWith bit (rest self.now) count) }
+        ensures { MatchOption result (AllAre bit (unread self.now))
+            (λ count. (count < length (unread self.now)) × BeginsWith bit (unread self.now) count) }
     {
         let position = self.position();
         let found = if bit {
@@ -47,8 +47,8 @@ impl<'a, R: BitRegister, O: BitOrder<R>> BitReader<'a, R, O> {
     /// ```
     pub fn read_unary(&mut self, bit: bool) -> Result<usize, ReadError>
         ensures value { MatchResult result
-            (λ count. (count < length (rest self.old)) × BeginsWith bit (rest self.old) count)
-            (λ error. (error ≡ ReadError.Unended) × AllAre bit (rest self.old)) }
+            (λ count. (count < length (unread self.old)) × BeginsWith bit (unread self.old) count)
+            (λ error. (error ≡ ReadError.Unended) × AllAre bit (unread self.old)) }
         ensures moved { MatchResult result (λ count. Passes self.old self.new (count + 1))
             (λ _. self.new ≡ self.old) }
     {

@@ -4,7 +4,7 @@
 ghost use Rattle.std.specs.Prelude.{◌≡◌, ⊤, ℕ, ◌+◌, ◌-◌, ◌^◌, ◌<◌, ◌≤◌, Bool, List, MatchOption};
 ghost use Rattle.std.specs.Prelude.{length, drop};
 ghost use Rattle.bitvec.specs.Order.{Falls};
-ghost use Rattle.bitvec_slice.specs.BitSlice.{slice_len, bits_of};
+ghost use Rattle.bitvec_slice.specs.BitSlice.{slice_len, slice_bits};
 ghost use Rattle.bitvec_stream.specs.Golomb.{BeginsWithCode};
 ghost use Rattle.bitvec_stream.specs.Reader.{source, bits_read};
 ghost use Rattle.bitvec_stream.specs.Window.{IsWindow, IsNumberOf, RisesOrFalls, Keeps};
@@ -127,7 +127,7 @@ fn filled<R: BitRegister, O: BitOrder<R>>(
 }
 
 impl<'a, R: BitRegister, O: BitOrder<R>> BitReader<'a, R, O> {
-    ghost use Rattle.bitvec_stream.specs.Reader.{rest, Passes};
+    ghost use Rattle.bitvec_stream.specs.Reader.{unread, Passes};
 
     // A reader behind so many bits of a slice. Where positions rise or fall, it keeps what is left
     // of the word there.
@@ -163,7 +163,7 @@ impl<'a, R: BitRegister, O: BitOrder<R>> BitReader<'a, R, O> {
     pub(super) fn chunk(&self) -> Option<R>
         ensures { MatchOption result ⊤ (λ chunk.
             (self.now.loaded + R.BITS ≤ slice_len self.now.slice)
-            × Keeps R.BITS O.at_of (bits_of self.now.slice) self.now.loaded R.BITS
+            × Keeps R.BITS O.at_of (slice_bits self.now.slice) self.now.loaded R.BITS
             (R.number chunk)) }
     {
         let width = mem::bits_of::<R>();
@@ -181,9 +181,9 @@ impl<'a, R: BitRegister, O: BitOrder<R>> BitReader<'a, R, O> {
     #[inline(always)]
     fn joined(&self, chunk: R) -> R
         requires way { RisesOrFalls R.BITS O.at_of }
-        requires chunk { Keeps R.BITS O.at_of (bits_of self.now.slice) self.now.loaded R.BITS
+        requires chunk { Keeps R.BITS O.at_of (slice_bits self.now.slice) self.now.loaded R.BITS
             (R.number chunk) }
-        ensures { Keeps R.BITS O.at_of (bits_of self.now.slice) (self.now.loaded - self.now.kept)
+        ensures { Keeps R.BITS O.at_of (slice_bits self.now.slice) (self.now.loaded - self.now.kept)
             R.BITS (R.number result) }
     {
         filled_up::<R, O>(self.window, self.kept, chunk)
@@ -196,7 +196,7 @@ impl<'a, R: BitRegister, O: BitOrder<R>> BitReader<'a, R, O> {
         requires more { self.old.kept < count }
         requires most { count ≤ R.BITS }
         requires room { self.old.loaded + R.BITS ≤ slice_len self.old.slice }
-        requires chunk { Keeps R.BITS O.at_of (bits_of self.old.slice) self.old.loaded R.BITS
+        requires chunk { Keeps R.BITS O.at_of (slice_bits self.old.slice) self.old.loaded R.BITS
             (R.number chunk) }
         ensures { Passes self.old self.new count }
     {
@@ -217,8 +217,8 @@ impl<'a, R: BitRegister, O: BitOrder<R>> BitReader<'a, R, O> {
         requires way { RisesOrFalls R.BITS O.at_of }
         requires few { count ≤ N.BITS }
         ensures { MatchOption result (self.new ≡ self.old) (λ value.
-            (count ≤ length (rest self.old))
-            × IsNumberOf R.BITS O.at_of (rest self.old) count (N.number value)
+            (count ≤ length (unread self.old))
+            × IsNumberOf R.BITS O.at_of (unread self.old) count (N.number value)
             × Passes self.old self.new count) }
     {
         if 0 < count && count <= self.kept {
@@ -240,7 +240,7 @@ impl<'a, R: BitRegister, O: BitOrder<R>> BitReader<'a, R, O> {
     #[inline(always)]
     pub(super) fn kept_code(&self) -> Option<(usize, R)>
         ensures { MatchOption result ⊤ (λ it. Falls R.BITS O.at_of × (it.0 ≤ self.now.kept)
-            × BeginsWithCode (rest self.now) (R.number it.1) it.0) }
+            × BeginsWithCode (unread self.now) (R.number it.1) it.0) }
     {
         match direction_of::<R, O>() {
             Direction::Falls => code_in(self.window, self.kept),
@@ -252,11 +252,11 @@ impl<'a, R: BitRegister, O: BitOrder<R>> BitReader<'a, R, O> {
     #[inline(always)]
     pub(super) fn joined_code(&self, chunk: R) -> Option<(usize, R)>
         requires room { self.now.loaded + R.BITS ≤ slice_len self.now.slice }
-        requires chunk { Keeps R.BITS O.at_of (bits_of self.now.slice) self.now.loaded R.BITS
+        requires chunk { Keeps R.BITS O.at_of (slice_bits self.now.slice) self.now.loaded R.BITS
             (R.number chunk) }
         ensures { MatchOption result ⊤ (λ it. Falls R.BITS O.at_of
             × (self.now.kept < it.0) × (it.0 ≤ R.BITS)
-            × BeginsWithCode (rest self.now) (R.number it.1) it.0) }
+            × BeginsWithCode (unread self.now) (R.number it.1) it.0) }
     {
         if direction_of::<R, O>() != Direction::Falls {
             return None;

@@ -3,7 +3,7 @@
 ghost use Rattle.std.specs.Prelude.{◌+◌, ◌≤◌, length, replicate};
 ghost use Rattle.bitvec.specs.BitSpan.{span_of, list_by, Becomes};
 ghost use Rattle.bitvec.specs.Span.{Fits};
-ghost use Rattle.bitvec_slice.specs.BitSlice.{slice_len, bits_of};
+ghost use Rattle.bitvec_slice.specs.BitSlice.{slice_len, slice_bits};
 ghost use Rattle.bitvec_slice.specs.Ranges.{with_range};
 ghost use Rattle.bitvec_slice.specs.Words.{HasWord, with_digits};
 ghost use Rattle.bitvec_stream.specs.Numbers.{digits_le, digits_be};
@@ -41,7 +41,7 @@ pub(super) fn copy_bits<R: BitRegister, O: BitOrder<R>, R2: BitRegister, O2: Bit
     requires within { at + slice_len source ≤ (span_of span).len }
     ensures { Becomes span O.at_of memory.old memory.new (with_range
         (list_by span O.at_of memory.old) at (at + slice_len source.entry)
-        (bits_of source.entry)) }
+        (slice_bits source.entry)) }
 {
     let mut slice = BitSliceMut::new_unchecked(span, memory);
     slice.copy_from_range(at, source);

@@ -2,7 +2,7 @@
 
 ghost use Rattle.std.specs.Prelude.{◌≡◌, pos, ◌-◌, ◌^◌, ◌<◌, ◌≤◌, ◌↔◌, Err, IsTrue, IsOk};
 ghost use Rattle.std.specs.Prelude.{MatchResult, length};
-ghost use Rattle.bitvec_slice.specs.Signed.{complement_of, HasDigits};
+ghost use Rattle.bitvec_slice.specs.Signed.{complement_of, FitsSignedDigits};
 ghost use Rattle.bitvec_stream.specs.Numbers.{digits_le, digits_be};
 
 use crate::error::WriteError;
@@ -23,7 +23,7 @@ fn greatest_of(count: usize) -> i128
 // Whether a signed number has `count` digits.
 fn has_signed_digits(number: i128, count: usize) -> bool
     requires { count ≤ 128 }
-    ensures { IsTrue result ↔ HasDigits count number }
+    ensures { IsTrue result ↔ FitsSignedDigits count number }
 {
     if count == 0 {
         return number == 0;
@@ -66,7 +66,7 @@ impl<'a, R: BitRegister, O: BitOrder<R>> BitWriter<'a, R, O> {
     ) -> Result<(), WriteError>
         requires { count ≤ N.BITS }
         ensures accepted { IsOk result
-            ↔ ((count ≤ length (room self.old)) × HasDigits count (N.number value)) }
+            ↔ ((count ≤ length (room self.old)) × FitsSignedDigits count (N.number value)) }
         ensures no_room { (result ≡ Err WriteError.NoRoom) ↔ (length (room self.old) < count) }
         ensures written { MatchResult result
             (λ _. Writes self.old self.new
@@ -96,7 +96,7 @@ impl<'a, R: BitRegister, O: BitOrder<R>> BitWriter<'a, R, O> {
     ) -> Result<(), WriteError>
         requires { count ≤ N.BITS }
         ensures accepted { IsOk result
-            ↔ ((count ≤ length (room self.old)) × HasDigits count (N.number value)) }
+            ↔ ((count ≤ length (room self.old)) × FitsSignedDigits count (N.number value)) }
         ensures no_room { (result ≡ Err WriteError.NoRoom) ↔ (length (room self.old) < count) }
         ensures written { MatchResult result
             (λ _. Writes self.old self.new

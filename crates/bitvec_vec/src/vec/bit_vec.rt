@@ -51,10 +51,10 @@ pub struct BitVec<R: BitRegister = usize, O: BitOrder<R> = Lsb0, A: Allocator = 
 }
 
 impl<R: BitRegister, O: BitOrder<R>, A: Allocator> BitVec<R, O, A> {
-    ghost use Rattle.bitvec_slice.specs.BitSlice.{slice_span, bits_of};
+    ghost use Rattle.bitvec_slice.specs.BitSlice.{slice_span, slice_bits};
     ghost use Rattle.bitvec_slice.specs.BitSliceMut.{lent_span, lent_bits};
     ghost use Rattle.bitvec_vec.specs.BitVec.{vec_bits, bit_capacity};
-    ghost use Rattle.bitvec_vec.specs.Lends.{lends_bits};
+    ghost use Rattle.bitvec_vec.specs.Lends.{vec_follows};
 
     /// How many bits there are. Constant time.
     pub fn len(&self) -> usize
@@ -82,7 +82,7 @@ impl<R: BitRegister, O: BitOrder<R>, A: Allocator> BitVec<R, O, A> {
     /// time.
     pub fn as_bitslice(&self) -> BitSlice<'_, R, O>
         ensures span { slice_span result ≡ front_span (length (vec_bits self.now)) }
-        ensures bits { bits_of result ≡ vec_bits self.now }
+        ensures bits { slice_bits result ≡ vec_bits self.now }
     {
         BitSlice::new(span_of_front(self.len), self.words.as_slice()).unwrap()
     }
@@ -122,7 +122,7 @@ impl<R: BitRegister, O: BitOrder<R>, A: Allocator> BitVec<R, O, A> {
     /// assert_eq!(rt; bits.as_bitslice().count_ones(), 10);
     /// ```
     pub fn as_mut_bitslice(&mut self) -> BitSliceMut<'_, R, O>
-        ensures* writes_back { sem 𝓛 (lends_bits R.row O.row A.row A.Allocator self.entry result) }
+        ensures* writes_back { sem 𝓛 (vec_follows R.row O.row A.row A.Allocator self.entry result) }
         ensures span { lent_span result ≡ front_span (length (vec_bits self.old)) }
         ensures bits { lent_bits result ≡ vec_bits self.old }
     {

@@ -5,7 +5,7 @@ ghost use Rattle.std.specs.List.{swap};
 ghost use Rattle.bitvec.specs.Memory.{list_with_copy};
 ghost use Rattle.bitvec.specs.Place.{region_max_bits};
 ghost use Rattle.bitvec.specs.Span.{element, with_filled};
-ghost use Rattle.bitvec_slice.specs.BitSlice.{slice_len, bits_of};
+ghost use Rattle.bitvec_slice.specs.BitSlice.{slice_len, slice_bits};
 ghost use Rattle.bitvec_slice.specs.Ranges.{with_range};
 ghost use Rattle.bitvec_vec.specs.Front.{front_bits, words_for};
 
@@ -105,9 +105,9 @@ impl<R: BitRegister, O: BitOrder<R>, A: Allocator> BitVec<R, O, A> {
         from: usize,
         source: BitSlice<'_, R2, O2>,
     )
-        requires { from + length (bits_of source) ≤ length (vec_bits self.old) }
+        requires { from + length (slice_bits source) ≤ length (vec_bits self.old) }
         ensures bits { vec_bits self.new ≡ with_range (vec_bits self.old) from
-            (from + length (bits_of source.entry)) (bits_of source.entry) }
+            (from + length (slice_bits source.entry)) (slice_bits source.entry) }
         ensures capacity { bit_capacity self.new ≡ bit_capacity self.old }
     {
         put_slice::<R, O, R2, O2>(self.words.as_mut_slice(), self.len, from, source);
@@ -126,7 +126,7 @@ fn put_slice<R: BitRegister, O: BitOrder<R>, R2: BitRegister, O2: BitOrder<R2>>(
     requires inside { from + slice_len source ≤ len }
     ensures { front_bits R.BITS O.at_of len (map R.number words.new) ≡ with_range
         (front_bits R.BITS O.at_of len (map R.number words.old)) from
-        (from + slice_len source.entry) (bits_of source.entry) }
+        (from + slice_len source.entry) (slice_bits source.entry) }
 {
     let span: BitSpan<R, O> = span_of_front(len);
     let mut bits = BitSliceMut::new_unchecked(span, words);

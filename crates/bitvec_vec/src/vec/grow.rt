@@ -11,7 +11,7 @@ use bitvec_slice::slice::BitSlice;
 use std::alloc::{AllocError, Allocator};
 
 impl<R: BitRegister, O: BitOrder<R>, A: Allocator> BitVec<R, O, A> {
-    ghost use Rattle.bitvec_slice.specs.BitSlice.{bits_of};
+    ghost use Rattle.bitvec_slice.specs.BitSlice.{slice_bits};
     ghost use Rattle.bitvec_vec.specs.BitVec.{vec_bits, bit_capacity};
 
     /// Makes room for `additional` more bits, so that as many can be put behind the others and no
@@ -106,10 +106,10 @@ impl<R: BitRegister, O: BitOrder<R>, A: Allocator> BitVec<R, O, A> {
         slice: BitSlice<'_, R2, O2>,
     ) -> Result<(), AllocError>
         ensures bits { vec_bits self.new ≡ (if is_ok result
-            then vec_bits self.old ++ bits_of slice.entry else vec_bits self.old) }
+            then vec_bits self.old ++ slice_bits slice.entry else vec_bits self.old) }
         ensures capacity { bit_capacity self.old ≤ bit_capacity self.new }
         ensures full { OnErr result (bit_capacity self.old
-            < length (vec_bits self.old) + length (bits_of slice.entry)) }
+            < length (vec_bits self.old) + length (slice_bits slice.entry)) }
     {
         let from = self.len;
         self.lengthen(slice.len())?;

@@ -4,7 +4,7 @@ ghost use Rattle.std.specs.Prelude.{◌≡◌, ◌≤◌, ◌<◌, ◌*◌, [], 
 ghost use Rattle.std.specs.Prelude.{vec_len, vec_capacity};
 ghost use Rattle.bitvec.specs.Memory.{memory_bits};
 ghost use Rattle.bitvec.specs.Place.{region_max_bits};
-ghost use Rattle.bitvec_slice.specs.BitSlice.{bits_of};
+ghost use Rattle.bitvec_slice.specs.BitSlice.{slice_bits};
 ghost use Rattle.bitvec_vec.specs.Front.{front_bits, words_for};
 
 use crate::vec::BitVec;
@@ -82,8 +82,8 @@ impl<R: BitRegister, O: BitOrder<R>, A: Allocator> BitVec<R, O, A> {
         alloc: A,
         slice: BitSlice<'_, R2, O2>,
     ) -> Result<Self, AllocError>
-        ensures bits { IfOk result (λ vec. vec_bits vec ≡ bits_of slice.entry) }
-        ensures full { OnErr result (0 < length (bits_of slice.entry)) }
+        ensures bits { IfOk result (λ vec. vec_bits vec ≡ slice_bits slice.entry) }
+        ensures full { OnErr result (0 < length (slice_bits slice.entry)) }
     {
         let mut vec = BitVec::new(alloc);
         vec.extend_from_bitslice(slice)?;

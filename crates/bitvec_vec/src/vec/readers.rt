@@ -5,7 +5,7 @@ ghost use Rattle.std.specs.Prelude.{true, false, length, slice_range};
 ghost use Rattle.bitvec.specs.Span.{element};
 ghost use Rattle.bitvec.specs.Truths.{ones_in, AllAre, IsFirst};
 ghost use Rattle.bitvec_slice.specs.Bits.{zeros_in, IsLast, ones_between, zeros_between};
-ghost use Rattle.bitvec_slice.specs.BitSlice.{bits_of};
+ghost use Rattle.bitvec_slice.specs.BitSlice.{slice_bits};
 ghost use Rattle.bitvec_slice.specs.Numbers.{number_le, number_be};
 ghost use Rattle.bitvec_slice.specs.SameBits.{AreSameBits};
 ghost use Rattle.bitvec_vec.specs.Front.{front_span};
@@ -17,7 +17,7 @@ use bitvec_slice::slice::{BitSlice, Iter, IterOnes, IterZeros};
 use std::alloc::Allocator;
 
 impl<R: BitRegister, O: BitOrder<R>, A: Allocator> BitVec<R, O, A> {
-    ghost use Rattle.bitvec_slice.specs.Iter.{rest_span, rest_of};
+    ghost use Rattle.bitvec_slice.specs.Iter.{iter_span, iter_left};
     ghost use Rattle.bitvec_slice.specs.Iter.{GivesBitsInOrder, GivesBitsInReverse};
     ghost use Rattle.bitvec_slice.specs.Ones.{ones_left, zeros_left};
     ghost use Rattle.bitvec_vec.specs.BitVec.{vec_bits};
@@ -135,9 +135,9 @@ impl<R: BitRegister, O: BitOrder<R>, A: Allocator> BitVec<R, O, A> {
     /// Its bits as truth values, in order or from the back. Constant time, and so is each call of
     /// `next`.
     pub fn iter(&self) -> Iter<'_, R, O>
-        ensures rest { rest_of result ≡ vec_bits self.now }
-        ensures bound { length (rest_of result) < 2 ^ 64 }
-        ensures span { rest_span result ≡ front_span (length (vec_bits self.now)) }
+        ensures rest { iter_left result ≡ vec_bits self.now }
+        ensures bound { length (iter_left result) < 2 ^ 64 }
+        ensures span { iter_span result ≡ front_span (length (vec_bits self.now)) }
 
         // Facts of the type, as of the iterator of a slice for reading.
         ensures runs { GivesBitsInOrder result }
@@ -165,8 +165,8 @@ impl<R: BitRegister, O: BitOrder<R>, A: Allocator> BitVec<R, O, A> {
     /// Whether a slice has the same bits, whatever its register and order are. Costs as
     /// [`equals`](BitSlice::equals) of a [`BitSlice`] does.
     pub fn equals<R2: BitRegister, O2: BitOrder<R2>>(&self, other: &BitSlice<'_, R2, O2>) -> bool
-        ensures list { IsTrue result ↔ (vec_bits self.now ≡ bits_of other.now) }
-        ensures each { IsTrue result ↔ AreSameBits (vec_bits self.now) (bits_of other.now) }
+        ensures list { IsTrue result ↔ (vec_bits self.now ≡ slice_bits other.now) }
+        ensures each { IsTrue result ↔ AreSameBits (vec_bits self.now) (slice_bits other.now) }
     {
         self.as_bitslice().equals(other)
     }

@@ -4,7 +4,7 @@ ghost use Rattle.std.specs.Prelude.{◌≡◌, ◌≤◌, ◌&&◌, ◌||◌, no
 ghost use Rattle.bitvec.specs.Digit.{exclusive_or};
 ghost use Rattle.bitvec.specs.Memory.{zip_with};
 ghost use Rattle.bitvec.specs.Place.{region_max_bits};
-ghost use Rattle.bitvec_slice.specs.BitSlice.{slice_len, bits_of};
+ghost use Rattle.bitvec_slice.specs.BitSlice.{slice_len, slice_bits};
 ghost use Rattle.bitvec_vec.specs.Front.{front_bits, words_for};
 
 use crate::vec::BitVec;
@@ -26,7 +26,7 @@ fn combine_slice<C: Combine, R: BitRegister, O: BitOrder<R>, R2: BitRegister, O2
     requires room { words_for R.BITS len ≤ length words.old }
     requires same { slice_len source ≡ len }
     ensures { front_bits R.BITS O.at_of len (map R.number words.new) ≡ zip_with C.of
-        (front_bits R.BITS O.at_of len (map R.number words.old)) (bits_of source.entry) }
+        (front_bits R.BITS O.at_of len (map R.number words.old)) (slice_bits source.entry) }
 {
     let span: BitSpan<R, O> = span_of_front(len);
     let mut bits = BitSliceMut::new_unchecked(span, words);
@@ -58,9 +58,9 @@ impl<R: BitRegister, O: BitOrder<R>, A: Allocator> BitVec<R, O, A> {
         &mut self,
         source: BitSlice<'_, R2, O2>,
     )
-        requires { length (bits_of source) ≡ length (vec_bits self.old) }
+        requires { length (slice_bits source) ≡ length (vec_bits self.old) }
         ensures bits { vec_bits self.new
-            ≡ zip_with C.of (vec_bits self.old) (bits_of source.entry) }
+            ≡ zip_with C.of (vec_bits self.old) (slice_bits source.entry) }
         ensures capacity { bit_capacity self.new ≡ bit_capacity self.old }
     {
         combine_slice::<C, R, O, R2, O2>(self.words.as_mut_slice(), self.len, source);
@@ -83,9 +83,9 @@ impl<R: BitRegister, O: BitOrder<R>, A: Allocator> BitVec<R, O, A> {
     /// assert_eq!(rt; format!(in rt.alloc(); "{bits}")?.as_str(), "0001");
     /// ```
     pub fn and_from<R2: BitRegister, O2: BitOrder<R2>>(&mut self, source: BitSlice<'_, R2, O2>)
-        requires { length (bits_of source) ≡ length (vec_bits self.old) }
+        requires { length (slice_bits source) ≡ length (vec_bits self.old) }
         ensures bits { vec_bits self.new
-            ≡ zip_with (λ t s. t && s) (vec_bits self.old) (bits_of source.entry) }
+            ≡ zip_with (λ t s. t && s) (vec_bits self.old) (slice_bits source.entry) }
         ensures capacity { bit_capacity self.new ≡ bit_capacity self.old }
     {
         self.combine_from::<And, R2, O2>(source);
@@ -97,9 +97,9 @@ impl<R: BitRegister, O: BitOrder<R>, A: Allocator> BitVec<R, O, A> {
     /// [`combine_from`](BitVec::combine_from) does. Not in the Rust crate, for `|=` between vectors
     /// of one length.
     pub fn or_from<R2: BitRegister, O2: BitOrder<R2>>(&mut self, source: BitSlice<'_, R2, O2>)
-        requires { length (bits_of source) ≡ length (vec_bits self.old) }
+        requires { length (slice_bits source) ≡ length (vec_bits self.old) }
         ensures bits { vec_bits self.new
-            ≡ zip_with (λ t s. t || s) (vec_bits self.old) (bits_of source.entry) }
+            ≡ zip_with (λ t s. t || s) (vec_bits self.old) (slice_bits source.entry) }
         ensures capacity { bit_capacity self.new ≡ bit_capacity self.old }
     {
         self.combine_from::<Or, R2, O2>(source);
@@ -111,9 +111,9 @@ impl<R: BitRegister, O: BitOrder<R>, A: Allocator> BitVec<R, O, A> {
     /// [`combine_from`](BitVec::combine_from) does. Not in the Rust crate, for `^=` between vectors
     /// of one length.
     pub fn xor_from<R2: BitRegister, O2: BitOrder<R2>>(&mut self, source: BitSlice<'_, R2, O2>)
-        requires { length (bits_of source) ≡ length (vec_bits self.old) }
+        requires { length (slice_bits source) ≡ length (vec_bits self.old) }
         ensures bits { vec_bits self.new
-            ≡ zip_with exclusive_or (vec_bits self.old) (bits_of source.entry) }
+            ≡ zip_with exclusive_or (vec_bits self.old) (slice_bits source.entry) }
         ensures capacity { bit_capacity self.new ≡ bit_capacity self.old }
     {
         self.combine_from::<Xor, R2, O2>(source);
@@ -124,9 +124,9 @@ impl<R: BitRegister, O: BitOrder<R>, A: Allocator> BitVec<R, O, A> {
     /// Requires that the slice has as many bits; it may be of any register and order. Costs as
     /// [`combine_from`](BitVec::combine_from) does. Not in the Rust crate.
     pub fn and_not_from<R2: BitRegister, O2: BitOrder<R2>>(&mut self, source: BitSlice<'_, R2, O2>)
-        requires { length (bits_of source) ≡ length (vec_bits self.old) }
+        requires { length (slice_bits source) ≡ length (vec_bits self.old) }
         ensures bits { vec_bits self.new
-            ≡ zip_with (λ t s. t && not s) (vec_bits self.old) (bits_of source.entry) }
+            ≡ zip_with (λ t s. t && not s) (vec_bits self.old) (slice_bits source.entry) }
         ensures capacity { bit_capacity self.new ≡ bit_capacity self.old }
     {
         self.combine_from::<AndNot, R2, O2>(source);

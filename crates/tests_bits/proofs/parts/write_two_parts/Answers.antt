@@ -5,7 +5,7 @@ use Rattle.bitvec.specs.Run.{IsOutside}
 use Rattle.bitvec.specs.Span.{Span, AreDisjoint}
 use Rattle.bitvec.proofs.PartLemmas.{length-list_of}
 use Rattle.bits_lib.specs.Interval.{no_span}
-use Rattle.bits_lib.specs.View.{lent_memory, part_list, part_span}
+use Rattle.bits_lib.specs.View.{view_memory, part_list, part_span}
 use Rattle.tests_bits.proofs.parts.write_two_parts.Goals as goal
 
 -- a list that is filled from end to end
@@ -20,7 +20,7 @@ returns-clause-second g c =
     let same = c.set.ensures.spans in
     let old = part_list c.set.new.self 1 in
     let long : length old ≡ c.len-len.result =
-    length-list_of g.R.BitRegister.BITS g.O.BitAt.at_of (part_span c.set.new.self 1) (map g.R.BitRegister.number (lent_memory c.set.new.self).now) ∙ sym c.len-len.ensures in
+    length-list_of g.R.BitRegister.BITS g.O.BitAt.at_of (part_span c.set.new.self 1) (map g.R.BitRegister.number (view_memory c.set.new.self).now) ∙ sym c.len-len.ensures in
     let len : c.len-len.result ≡ c.args.b.len = c.len-len.ensures ∙ ap (λ (spans : List Span). (slice_index_or spans 1 no_span).len) (same ∙ made) in
     let filled : part_list c.fill.new.self 1 ≡ replicate c.args.b.len true = all_filled c.len-len.result old (part_list c.fill.new.self 1) true c.fill.ensures.edited long ∙ ap (λ n. replicate n true) len in
     search (rules, filled)

@@ -1,6 +1,6 @@
 use Rattle.std.proofs.Common.{◌≡◌, ◌+◌, ◌++◌, ℤ, pos, to_z-of_z, FitsSigned, length, drop, ◌≤◌, refl, sym, subst, arith, rules}
 use Rattle.std.specs.Int.{w8, w16}
-use Rattle.bitvec_slice.specs.Signed.{complement_of, HasDigits}
+use Rattle.bitvec_slice.specs.Signed.{complement_of, FitsSignedDigits}
 use Rattle.bitvec_slice.proofs.DigitListLemmas.{length-digits_le, length-digits_be}
 use Rattle.bitvec_stream.specs.Golomb.{golomb, signed_place}
 use Rattle.bitvec_stream.specs.Numbers.{digits_le, digits_be}
@@ -28,7 +28,7 @@ returns-in_err-write_signed_be-clause-accepted g c =
     let second = room_left (room c.write_be.new.self) (room c.write_le.new.self) (digits_le 12 header.kind) c.in_ok-write_le.ensures.written.1 in
     let twelve = length-digits_le 12 header.kind in
     let offset_fits : FitsSigned w8 header.offset = search rules in
-    (λ ok. absurd (err_not_ok _ c.from_residual-in_err-write_signed_be.ensures.0 ok), λ h. (let parts = parts_put header.version header.kind header.length header.offset header.drift (length (room c.args.writer.now)) h in absurd (none_true (c.in_err-write_signed_be.ensures.accepted.1 (omega (arith, first, four, second, twelve, parts.3), subst (HasDigits 6) (sym (to_z-of_z {w = w8} {z = header.offset} offset_fits)) parts.2)))))
+    (λ ok. absurd (err_not_ok _ c.from_residual-in_err-write_signed_be.ensures.0 ok), λ h. (let parts = parts_put header.version header.kind header.length header.offset header.drift (length (room c.args.writer.now)) h in absurd (none_true (c.in_err-write_signed_be.ensures.accepted.1 (omega (arith, first, four, second, twelve, parts.3), subst (FitsSignedDigits 6) (sym (to_z-of_z {w = w8} {z = header.offset} offset_fits)) parts.2)))))
 
 pub returns-in_err-write_exp_golomb-clause-accepted : goal.returns-in_err-write_exp_golomb-clause-accepted
 returns-in_err-write_exp_golomb-clause-accepted g c =
@@ -71,7 +71,7 @@ returns-clause-accepted g c =
     let six = length-digits_be 6 (complement_of 6 header.offset) in
     let fourth = room_left (room c.write_signed_be.new.self) (room c.write_exp_golomb.new.self) (golomb header.length) c.in_ok-write_exp_golomb.ensures.written.1 in
     let drift_fits : FitsSigned w16 header.drift = search rules in
-    let offset = subst (HasDigits 6) (to_z-of_z {w = w8} {z = header.offset} offset_fits) (c.in_ok-write_signed_be.ensures.accepted.0 refl).1 in
+    let offset = subst (FitsSignedDigits 6) (to_z-of_z {w = w8} {z = header.offset} offset_fits) (c.in_ok-write_signed_be.ensures.accepted.0 refl).1 in
     let long = subst (λ (z : ℤ). length (golomb (signed_place z)) ≤ length (room c.write_exp_golomb.new.self)) (to_z-of_z {w = w16} {z = header.drift} drift_fits) (c.in_ok-write_signed_exp_golomb.ensures.accepted.0 refl) in
     let version = c.in_ok-write_be.ensures.accepted.0 refl in
     let kind = c.in_ok-write_le.ensures.accepted.0 refl in

@@ -40,7 +40,7 @@ use Rattle.std.specs.contracts.option.Option as OP
 use Rattle.std.below.core.proofs.option.Made.{Some-of, none_of}
 use Rattle.bitvec.specs.BitSpan.{span_of}
 use Rattle.bitvec.specs.Run.{CanRun}
-use Rattle.bits_lib.specs.View.{lent_memory, part_spans}
+use Rattle.bits_lib.specs.View.{view_memory, part_spans}
 use Rattle.bits_lib.proofs.Rests.{let_go, rests_none, rests_some}
 use Rattle.bitvec.specs.contracts.ptr.span.BitSpan as S
 use Rattle.bitvec.below.bitvec_domain.proofs.ptr.span.BitSpan.TheLaws.{the_told as span_told, the_row_laws as span_laws, the_row_plain as span_plain}
@@ -83,7 +83,7 @@ new_spec 𝓤 𝓛 𝓜 𝓡 wired X O n L LO fits_n copy rb rbd rc rcd rd rdd r
     let lft = named_lft 4 0 tt κs in
     let Row : RattleType = P.the_row lft R Or N rb rd rp ro rq rh rg ooc oba in let LP = parts_laws lft R Or N rb rd rp ro rq rh rg ooc oba LR LOr refl in
     let y : (walk_of 𝓛 En hs c).Ghost = ((κs, qs, bounds, a, (mut_slice_vals m, (sv ∷ [], tt))), gh) in let Post : Val → SProp 𝓤 = (walk_of 𝓛 En hs c).post y in
-    let name : Row.Denot → GName = λ x. (lent_memory x).ghost_name in
+    let name : Row.Denot → GName = λ x. (view_memory x).ghost_name in
     let Rests : Option Row.Denot → Fml = λ r. RestsIfNone (Array R 0) m name r (λ words. words ≡ xs) in
     let Can : Type 0 = CanRun rb.BITS span_of spans len in let Small : RattleType → Type 0 = λ Z. size (layout Z) < 2 ^ 63 in
     qed 𝓛 (((‵ (flft κ qs.0) ⊛ ‵ others) ⊛ ‵ (owns (types_at En.signature.params κs) a y.0.4)) ∷ raw (fact 𝓤 (κs.1.0 ⊑ X.lives)) ∷ raw (fact 𝓤 (κs.1.1.0 ⊑ O.lives)) ∷ raw (fact 𝓤 (κs.1.1.1.0 ⊑ [])) ∷ raw (fact 𝓤 (Small Spans)) ∷ raw (fact 𝓤 (Small Row)) ∷ ‵ ftrue ∷ []) ∵
@@ -125,7 +125,7 @@ new_spec 𝓤 𝓛 𝓜 𝓡 wired X O n L LO fits_n copy rb rbd rc rcd rd rdd r
     use1 𝓛 (raw (K.pre z2)) (id⊢ 𝓤 _) $
     calls_at ! (framed 𝓤 H 𝓜 𝓣) K (met_h 𝓤 𝓛 𝓜 𝓡 (code.calls-bits_lib::view::Parts::new_unchecked 𝓡.env wired) X O n L LO fits_n copy rb rbd rc rcd rd rdd re red rp rpd ro rod rq rqd rh rhd rg rgd obo obod ooc oocd oba obad m1 m2 m3 m4 m5 m6 m7 m8 m9 m10 m11 m12) z2 (and_then ! (get ! refl) (and_then ! (get ! refl) (no_more !))) (λ w.
     use1 𝓛 (later (some (λ (d : Row.Denot). ((‵ (flft κ qs.0) ⊛ ‵ others) ⊛ ‵ (Row.own_val d (w ∷ []))) ⊛ some (λ (zs : Lasts (h.ended X O (number n) rb rbd rc rcd rd rdd re red rp rpd ro rod rq rqd rh rhd rg rgd obo obod ooc oocd oba obad) κs (m, (spans, tt))). ‵ (lasts (h.ended X O (number n) rb rbd rc rcd rd rdd re red rp rpd ro rod rq rqd rh rhd rg rgd obo obod ooc oocd oba obad) κs (m, (spans, tt)) zs)
-    ⊛ raw (fact 𝓤 ((lent_memory d).ghost_name ≡ m.ghost_name)) ⊛ raw (fact 𝓤 ((lent_memory d).now ≡ xs)) ⊛ raw (fact 𝓤 (part_spans d ≡ map span_of spans)))))) (id⊢ 𝓤 _) $
+    ⊛ raw (fact 𝓤 ((view_memory d).ghost_name ≡ m.ghost_name)) ⊛ raw (fact 𝓤 ((view_memory d).now ≡ xs)) ⊛ raw (fact 𝓤 (part_spans d ≡ map span_of spans)))))) (id⊢ 𝓤 _) $
     await ! tt $ pick ! (λ d. split ! $ split ! $ move ! (2 ∷ []) $ pick ! (λ zs. split ! $ drop ! $ split ! $ heard ! _ (λ named_so. split ! $ heard ! _ (λ same. heard ! _ (λ placed. move ! (1 ∷ []) $
     peeks ! Row (Is Row) (shows 𝓛 Row) d (w ∷ []) (λ as_d. let good = ((LP.lawful 𝓛).typed d (w ∷ []) as_d).0 in
     -- [the value; the tokens]
@@ -138,8 +138,8 @@ new_spec 𝓤 𝓛 𝓜 𝓡 wired X O n L LO fits_n copy rb rbd rc rcd rd rdd r
     use1 𝓛 (‵ ((OP.the_row Row).own_val one (out ∷ []))) (Some-of 𝓛 Row d w) $
     -- [the result; the tokens]
     use0 𝓛 (raw (fact 𝓤 (IfSome one (λ x. part_spans x ≡ map span_of spans)))) (fact_i 𝓤 _ (emp 𝓤) placed) $
-    use0 𝓛 (raw (fact 𝓤 (IfSome one (λ x. (lent_memory x).now ≡ xs)))) (fact_i 𝓤 _ (emp 𝓤) same) $ join ! $
-    use0 𝓛 (raw (fact 𝓤 (IfSome one (λ x. (lent_memory x).ghost_name ≡ m.ghost_name)))) (fact_i 𝓤 _ (emp 𝓤) named_so) $ join ! $
+    use0 𝓛 (raw (fact 𝓤 (IfSome one (λ x. (view_memory x).now ≡ xs)))) (fact_i 𝓤 _ (emp 𝓤) same) $ join ! $
+    use0 𝓛 (raw (fact 𝓤 (IfSome one (λ x. (view_memory x).ghost_name ≡ m.ghost_name)))) (fact_i 𝓤 _ (emp 𝓤) named_so) $ join ! $
     use0 𝓛 (raw (fact 𝓤 (IsSome one ↔ Can))) (fact_i 𝓤 _ (emp 𝓤) (λ _. can, λ _. refl)) $ join ! $
     use0 𝓛 (‵ (Rests one)) (rests_some 𝓛 R m name d named_so) $ join ! $
     nothing ! $ nothing ! $ fjoin ! $ nothing ! $ fjoin ! $
@@ -154,8 +154,8 @@ new_spec 𝓤 𝓛 𝓜 𝓡 wired X O n L LO fits_n copy rb rbd rc rcd rd rdd r
     let out : Val = live 0 (of_list []) in let none : Option Row.Denot = None in let not_so : IsSome none ↔ Can = (λ p. absurd (subst (λ (b : Bool). T (not b)) p tt), λ p. absurd (subst (λ (b : Bool). T (not b)) (test.1 p) off)) in
     use1 𝓛 (‵ (Rests none)) (rests_none 𝓛 R m name) $
     use0 𝓛 (raw (fact 𝓤 (IfSome none (λ x. part_spans x ≡ map span_of spans)))) (fact_i 𝓤 _ (emp 𝓤) tt) $
-    use0 𝓛 (raw (fact 𝓤 (IfSome none (λ x. (lent_memory x).now ≡ xs)))) (fact_i 𝓤 _ (emp 𝓤) tt) $ join ! $
-    use0 𝓛 (raw (fact 𝓤 (IfSome none (λ x. (lent_memory x).ghost_name ≡ m.ghost_name)))) (fact_i 𝓤 _ (emp 𝓤) tt) $ join ! $
+    use0 𝓛 (raw (fact 𝓤 (IfSome none (λ x. (view_memory x).now ≡ xs)))) (fact_i 𝓤 _ (emp 𝓤) tt) $ join ! $
+    use0 𝓛 (raw (fact 𝓤 (IfSome none (λ x. (view_memory x).ghost_name ≡ m.ghost_name)))) (fact_i 𝓤 _ (emp 𝓤) tt) $ join ! $
     use0 𝓛 (raw (fact 𝓤 (IsSome none ↔ Can))) (fact_i 𝓤 _ (emp 𝓤) not_so) $ join ! $
     move ! (1 ∷ 0 ∷ []) $ join ! $ use0 𝓛 (‵ ((OP.the_row Row).own_val none (out ∷ []))) (none_of 𝓛 Row) $
     nothing ! $ nothing ! $ fjoin ! $ nothing ! $ fjoin ! $

@@ -1,7 +1,7 @@
 use Rattle.std.proofs.Common.{◌+◌, ◌∙◌, rules, Bool, List, length, ap, arith}
 use Rattle.bitvec.specs.BitSpan.{span_of}
 use Rattle.bitvec.specs.Span.{Span}
-use Rattle.bitvec_slice.specs.BitSlice.{slice_len, bits_of}
+use Rattle.bitvec_slice.specs.BitSlice.{slice_len, slice_bits}
 use Rattle.bitvec_slice.specs.BitSliceMut.{lent_span}
 use Rattle.bitvec_slice.specs.Ranges.{with_range}
 use Rattle.bitvec_array.proofs.ArrayLemmas.{span-fits, bits-lent}
@@ -20,5 +20,5 @@ returns g c =
     let slice = c.new_unchecked-bits.result in
     let left = c.copy_from_range.new.self.memory.now in
     bits-lent g.O.BitAt.at_of g.row.N (lent_span slice) (c.new_unchecked-bits.ensures.span ∙ c.span_of_all.ensures.span) c.args.words.now slice.memory.now left _
-    (λ (xs : List Bool). with_range xs c.args.from (c.args.from + slice_len c.args.source) (bits_of c.args.source))
+    (λ (xs : List Bool). with_range xs c.args.from (c.args.from + slice_len c.args.source) (slice_bits c.args.source))
     c.new_unchecked-bits.ensures.memory (search rules) c.copy_from_range.ensures.bits.3

@@ -3,7 +3,7 @@ use Rattle.bitvec.specs.BitSpan.{span_of}
 use Rattle.bitvec.specs.Span.{Fits, list_of}
 use Rattle.bitvec.proofs.BecomesLemmas.{becomes-same, becomes-then, fits-numbers}
 use Rattle.bitvec.proofs.PartLemmas.{length-list_of}
-use Rattle.bitvec_slice.specs.BitSlice.{bits_of}
+use Rattle.bitvec_slice.specs.BitSlice.{slice_bits}
 use Rattle.bitvec_slice.proofs.SetLemmas.{no_rest, rest_replaced}
 use Rattle.bitvec_slice.proofs.SpanEdits.{range-filled, words-many}
 use Rattle.bitvec_slice.proofs.slice.operators.and_common.Goals as goal
@@ -25,7 +25,7 @@ returns-then-common-len g c =
     let mid = map number c.combine_common.new.memory in
     let new = map number c.fill.new.memory in
     let xs = list_of width at span old in
-    let ys = bits_of c.args.source in
+    let ys = slice_bits c.args.source in
     let common : c.len-common.result ≡ length ys = c.len-common.ensures.list in
     let len : c.len-len.result ≡ length xs = c.len-len.ensures ∙ sym (length-list_of width at span old) in
     let below : length ys < length xs = omega (arith, c.if-common-len.true, common, len) in
@@ -45,6 +45,6 @@ returns-else-common-len g c =
     let span = span_of c.args.span in
     let old = map number c.args.memory.now in
     let xs = list_of width at span old in
-    let ys = bits_of c.args.source in
+    let ys = slice_bits c.args.source in
     let most : length xs ≤ length ys = omega (arith, c.if-common-len.false, c.len-common.ensures.list, c.len-len.ensures, length-list_of width at span old) in
     becomes-same width at span old _ _ _ (no_rest (λ t s. t && s) xs ys false most) c.combine_common.ensures

@@ -4,7 +4,7 @@ use Rattle.bitvec.specs.Memory.{zip_with}
 use Rattle.bitvec.specs.Span.{list_of}
 use Rattle.bitvec.proofs.BecomesLemmas.{becomes-same, fits-numbers}
 use Rattle.bitvec.proofs.PartLemmas.{length-list_of}
-use Rattle.bitvec_slice.specs.BitSlice.{bits_of, slice_span, slice_memory}
+use Rattle.bitvec_slice.specs.BitSlice.{slice_bits, slice_span, slice_memory}
 use Rattle.bitvec_slice.proofs.SetLemmas.{as_far}
 use Rattle.bitvec_slice.proofs.slice.operators.combine_common.Goals as goal
 
@@ -25,7 +25,7 @@ returns g c =
     let old = map number c.args.memory.now in
     let theirs = map g.R2.BitRegister.number (slice_memory source) in
     let xs = list_of width at span old in
-    let ys = bits_of source in
+    let ys = slice_bits source in
     let n = c.min-count.result in
     let all : n - 0 ≡ n = omega arith in
     let least : n ≡ min (length xs) (length ys) =

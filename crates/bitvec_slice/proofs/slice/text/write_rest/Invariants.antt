@@ -1,7 +1,7 @@
 use Rattle.std.proofs.Common.{◌≡◌, ℕ, false, List, length, ◌++◌, map}
 use Rattle.std.specs.Fmt.{IsFlush, HasWrittenStyled}
 use Rattle.bitvec.specs.ItemText.{rest_text}
-use Rattle.bitvec_slice.specs.Iter.{rest_of}
+use Rattle.bitvec_slice.specs.Iter.{iter_left}
 use Rattle.bitvec_slice.specs.SliceText.{digit_value}
 use Rattle.bitvec_slice.proofs.slice.text.write_rest.Given as goal
 
@@ -9,8 +9,8 @@ use Rattle.bitvec_slice.proofs.slice.text.write_rest.Given as goal
 abbrev pub invariant-loop-bit : goal.invariant-loop-bit
 invariant-loop-bit g l =
     IsFlush l.initial.f → (bs : List ℕ) × (HasWrittenStyled g.W.Write.write_str_gives l.initial.f bs l.f
-    × (bs ++ rest_text 10 false (map digit_value (rest_of l.bit-iterator)) ≡ rest_text 10 false (map digit_value (rest_of l.initial.bit-iterator))))
+    × (bs ++ rest_text 10 false (map digit_value (iter_left l.bit-iterator)) ≡ rest_text 10 false (map digit_value (iter_left l.initial.bit-iterator))))
 
 -- so many bits are still to come
 abbrev pub decreases-loop-bit : goal.decreases-loop-bit
-decreases-loop-bit g l = length (rest_of l.bit-iterator)
+decreases-loop-bit g l = length (iter_left l.bit-iterator)

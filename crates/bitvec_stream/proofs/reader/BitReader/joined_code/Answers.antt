@@ -1,5 +1,5 @@
 use Rattle.std.proofs.Common.{rules, ◌+◌, ◌-◌, ◌≤◌, length, sym, subst, arith}
-use Rattle.bitvec_slice.specs.BitSlice.{bits_of}
+use Rattle.bitvec_slice.specs.BitSlice.{slice_bits}
 use Rattle.bitvec_stream.specs.Window.{IsWindow}
 use Rattle.bitvec_stream.proofs.KeepLemmas.{window_of}
 use Rattle.bitvec_stream.proofs.reader.BitReader.joined_code.Goals as goal
@@ -9,7 +9,7 @@ returns-then-self-count g c =
     let it = c.args.self.now in
     let bits = g.R.BitRegister.BITS in
     let w = g.R.BitRegister.number c.joined.result in
-    let xs = bits_of it.slice in
+    let xs = slice_bits it.slice in
     let place = it.loaded - it.kept in
     let many = it.slice.many in
     let whole = c.bits_of.ensures.value in

@@ -1,12 +1,12 @@
 use Rattle.std.proofs.Common.{◌+◌, ◌-◌, ◌≤◌, length, arith}
-use Rattle.bitvec_slice.specs.BitSlice.{bits_of}
+use Rattle.bitvec_slice.specs.BitSlice.{slice_bits}
 use Rattle.bitvec_stream.proofs.KeepLemmas.{window_of, some_then}
 use Rattle.bitvec_stream.proofs.reader.BitReader.kept_code.Goals as goal
 
 pub returns-in-Falls : goal.returns-in-Falls
 returns-in-Falls g c =
     let it = c.args.self.now in
-    let xs = bits_of it.slice in
+    let xs = slice_bits it.slice in
     let place = it.loaded - it.kept in
     let many = it.slice.many in
     let falls = c.direction_of.ensures.falls.0 c.in-Falls.is in

@@ -1,5 +1,5 @@
 use Rattle.std.proofs.Common.{◌≡◌, ◌+◌, ◌-◌, ◌≤◌, arith}
-use Rattle.bitvec_slice.specs.BitSlice.{bits_of}
+use Rattle.bitvec_slice.specs.BitSlice.{slice_bits}
 use Rattle.bitvec_stream.proofs.KeepLemmas.{keeps_at}
 use Rattle.bitvec_stream.proofs.reader.BitReader.pass_into.Goals as goal
 
@@ -7,7 +7,7 @@ pub invariant_of-self-clause-shown : goal.invariant_of-self-clause-shown
 invariant_of-self-clause-shown g c =
     let it = c.args.self.now in
     let bits = g.R.BitRegister.BITS in
-    let xs = bits_of it.slice in
+    let xs = slice_bits it.slice in
     let width = c.bits_of-width.result in
     let n = c.args.count - it.kept in
     let whole : width ≡ bits = c.bits_of-width.ensures.value in

@@ -1,11 +1,11 @@
 use Rattle.std.proofs.Common.{◌+◌, ◌-◌, ◌≤◌, length, arith, length-drop}
-use Rattle.bitvec_slice.specs.BitSlice.{bits_of}
+use Rattle.bitvec_slice.specs.BitSlice.{slice_bits}
 use Rattle.bitvec_stream.proofs.reader.BitReader.read_near.Goals as goal
 
 pub returns-then-count-self : goal.returns-then-count-self
 returns-then-count-self g c =
     let it = c.args.self.now in
-    let xs = bits_of it.slice in
+    let xs = slice_bits it.slice in
     let place = it.loaded - it.kept in
     let many = it.slice.many in
     let inside : place + it.kept ≤ length xs = omega (arith, it.within, it.behind, many) in
@@ -16,7 +16,7 @@ pub returns : goal.returns
 returns g c =
     let it = c.args.self.now in
     let bits = g.R.BitRegister.BITS in
-    let xs = bits_of it.slice in
+    let xs = slice_bits it.slice in
     let place = it.loaded - it.kept in
     let many = it.slice.many in
     let there = c.in_ok-chunk.ensures.0 in

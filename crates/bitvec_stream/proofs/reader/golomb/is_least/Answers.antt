@@ -1,12 +1,12 @@
 use Rattle.std.proofs.Common.{◌≡◌, length, sym, ◌∙◌, arith, inl, inr}
 use Rattle.std.proofs.lemmas.Bool.{cases_lt, eqb-true, eq-eqb}
-use Rattle.bitvec_slice.specs.BitSlice.{bits_of}
+use Rattle.bitvec_slice.specs.BitSlice.{slice_bits}
 use Rattle.bitvec_stream.proofs.CodeLemmas.{code_small, code_long, code_next}
 use Rattle.bitvec_stream.proofs.reader.golomb.is_least.Goals as goal
 
 pub returns-then-len-ne129 : goal.returns-then-len-ne129
 returns-then-len-ne129 g c =
-    let xs = bits_of c.args.digits in (
+    let xs = slice_bits c.args.digits in (
       λ h. absurd (cc),
       λ is. elim (cases_lt (length xs) 129) [
         | inl fewer ↦ (let it = code_small xs c.requires (omega (arith, fewer)) in absurd (omega (arith, it.1, is)))
@@ -16,7 +16,7 @@ returns-then-len-ne129 g c =
 
 pub returns : goal.returns
 returns g c =
-    let xs = bits_of c.args.digits in
+    let xs = slice_bits c.args.digits in
     let many : length xs ≡ 129 = sym c.len.ensures.list ∙ omega (arith, c.if-len-ne129.false) in
     let next = code_next xs _ c.requires c.split_at.ensures.back many in (
       λ h. let one = eqb-true c.load_be.result 1 h in omega (arith, next, one, c.load_be.ensures),

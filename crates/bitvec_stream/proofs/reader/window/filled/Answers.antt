@@ -1,6 +1,6 @@
 use Rattle.std.proofs.Common.{rules, ◌≡◌, ◌+◌, ◌-◌, ◌*◌, ◌/◌, ◌%◌, ◌<◌, ◌≤◌, length, ap, arith}
 use Rattle.std.proofs.lemmas.Nat.{div-add-mod', mod_below}
-use Rattle.bitvec_slice.specs.BitSlice.{slice_span, bits_of}
+use Rattle.bitvec_slice.specs.BitSlice.{slice_span, slice_bits}
 use Rattle.bitvec_stream.proofs.KeepLemmas.{keeps_at, keeps_word}
 use Rattle.bitvec_stream.proofs.reader.window.filled.Goals as goal
 
@@ -17,7 +17,7 @@ pub invariant_of-result-clause-shown : goal.invariant_of-result-clause-shown
 invariant_of-result-clause-shown g c =
     let bits = g.R.BitRegister.BITS in
     let number = g.R.BitRegister.number in
-    let xs = bits_of c.args.slice in
+    let xs = slice_bits c.args.slice in
     let width = c.bits_of-width.result in
     let whole = c.bits_of-width.ensures.value in
     let place = c.head.result + c.args.position in

@@ -1,7 +1,7 @@
 use Rattle.std.proofs.Common.{◌≡◌, ℕ, ◌+◌, ◌-◌, ◌*◌, ◌/◌, ◌%◌, ◌<◌, sym, subst, arith}
 use Rattle.bitvec.specs.Digit.{digit}
 use Rattle.bitvec.specs.Span.{Span, element}
-use Rattle.bitvec_slice.specs.BitSlice.{bits_of}
+use Rattle.bitvec_slice.specs.BitSlice.{slice_bits}
 use Rattle.bitvec_slice.specs.Words.{HasWord}
 use Rattle.bitvec_stream.specs.Window.{IsKnown}
 use Rattle.bitvec_stream.specs.Writer.{target_span, target_words, target_bits}
@@ -24,7 +24,7 @@ invariant_of-self-clause-shown g c =
     let passed = c.args.passed in
     let position = c.position-position.result in
     let word = g.R.BitRegister.number c.whole_word.result in
-    let there = subst (λ (s : Span). (j : ℕ) → j < s.len → (s.head + j) / bits ≡ k → digit word (at ((s.head + j) % bits)) ≡ element (bits_of c.slice.result) j) c.slice.ensures.span c.whole_word.ensures in
+    let there = subst (λ (s : Span). (j : ℕ) → j < s.len → (s.head + j) / bits ≡ k → digit word (at ((s.head + j) % bits)) ≡ element (slice_bits c.slice.result) j) c.slice.ensures.span c.whole_word.ensures in
     let read = subst (λ xs. (j : ℕ) → j < span.len → (span.head + j) / bits ≡ k → digit word (at ((span.head + j) % bits)) ≡ element xs j) c.slice.ensures.bits there in
     let starts : span.head + position ≡ k * bits + passed = omega (arith, c.requires.place, c.position-position.ensures.value) in
     let long = it.many (target_words it) in

@@ -1,5 +1,5 @@
 use Rattle.std.proofs.Common.{◌≡◌, ◌≤◌, ◌+◌, ◌-◌, sym, ◌∙◌, length, arith, length-drop}
-use Rattle.bitvec_slice.specs.BitSlice.{bits_of, slice_len}
+use Rattle.bitvec_slice.specs.BitSlice.{slice_bits, slice_len}
 use Rattle.bitvec_stream.specs.Writer.{target_words, target_bits, bits_written}
 use Rattle.bitvec_stream.proofs.WriterLemmas.{stretch_at}
 use Rattle.bitvec_stream.proofs.writer.BitWriter.put_slice.Goals as goal
@@ -12,7 +12,7 @@ returns g c =
     let from = c.position-position.ensures.value in
     let to : at + c.len-count.result - 0 ≡ at + n = omega (arith, c.len-count.ensures.value) in
     let some : at + n ≤ length (target_bits it) = omega (arith, from, c.requires, length-drop (bits_written it) (target_bits it), it.within, it.behind, it.many (target_words it)) in
-    stretch_at it c.copy_bits.new.memory (bits_of c.args.source) (at + c.len-count.result - 0) at n from to (sym c.len-count.ensures.list ∙ c.len-count.ensures.value) some c.copy_bits.ensures
+    stretch_at it c.copy_bits.new.memory (slice_bits c.args.source) (at + c.len-count.result - 0) at n from to (sym c.len-count.ensures.list ∙ c.len-count.ensures.value) some c.copy_bits.ensures
 
 pub copy_bits-requires-clause-within : goal.copy_bits-requires-clause-within
 copy_bits-requires-clause-within g c =

@@ -2,7 +2,7 @@ use Rattle.std.proofs.Common.{◌∙◌, rules, sym, Bool, List, length, ap}
 use Rattle.bitvec.specs.BitSpan.{span_of}
 use Rattle.bitvec.specs.Memory.{zip_with}
 use Rattle.bitvec.specs.Span.{Span}
-use Rattle.bitvec_slice.specs.BitSlice.{bits_of}
+use Rattle.bitvec_slice.specs.BitSlice.{slice_bits}
 use Rattle.bitvec_slice.specs.BitSliceMut.{lent_span}
 use Rattle.bitvec_vec.proofs.VecLemmas.{front-fits, front-lent}
 use Rattle.bitvec_vec.proofs.vec.sets.combine_slice.Goals as goal
@@ -20,5 +20,5 @@ returns g c =
     let slice = c.new_unchecked-bits.result in
     let left = c.combine_from.new.self.memory.now in
     front-lent g.R.BitRegister.BITS g.O.BitAt.at_of g.R.BitRegister.number c.args.len c.args.words.now slice.memory.now left _ (lent_span slice)
-    (λ (xs : List Bool). zip_with g.C.Combine.of xs (bits_of c.args.source))
+    (λ (xs : List Bool). zip_with g.C.Combine.of xs (slice_bits c.args.source))
     (c.new_unchecked-bits.ensures.span ∙ c.span_of_front-span.ensures.span) c.new_unchecked-bits.ensures.memory (search rules) c.combine_from.ensures.bits.3

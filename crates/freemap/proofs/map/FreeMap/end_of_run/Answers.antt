@@ -1,5 +1,5 @@
 use Rattle.std.proofs.Common.{Bool, List, ◌∙◌, ◌<◌, ap, sym, length, subst, arith}
-use Rattle.bitvec_slice.specs.BitSlice.{bits_of}
+use Rattle.bitvec_slice.specs.BitSlice.{slice_bits}
 use Rattle.freemap.specs.FreeRuns.{IsEnd}
 use Rattle.freemap.specs.Map.{in_use}
 use Rattle.bitvec.specs.Span.{element}

@@ -1,6 +1,6 @@
 use Rattle.std.proofs.Common.{◌≡◌, ◌+◌, ◌*◌, ◌/◌, ◌∙◌, List, Bool, true≢false, length, sym, ap, arith}
 use Rattle.std.specs.Prelude.{min, slice_range}
-use Rattle.bitvec_slice.specs.BitSlice.{bits_of}
+use Rattle.bitvec_slice.specs.BitSlice.{slice_bits}
 use Rattle.freemap.specs.Map.{in_use}
 use Rattle.freemap.proofs.SummaryLemmas.{rest_full, rest_first}
 use Rattle.freemap.proofs.WordLemmas.{stored_long}
@@ -25,7 +25,7 @@ returns-in-Some g c =
     let many = stored_long g.O.BitAt.at_of map.blocks map.words.now in
     let ends : end ≡ min (length (in_use map)) ((from / 64 + 1) * 64) = omega (arith, c.min-end.ensures, many) in
     let is = c.in_ok-part.ensures.bits ∙ ap (λ (xs : List Bool). slice_range xs from end) c.bits.ensures in
-    rest_first (in_use map) (bits_of c.in_ok-part.part) from end (omega (arith, c.if-self-block.false, many)) ends is c.in-Some.i c.in-Some.ensures
+    rest_first (in_use map) (slice_bits c.in_ok-part.part) from end (omega (arith, c.if-self-block.false, many)) ends is c.in-Some.i c.in-Some.ensures
 
 pub returns-in-None : goal.returns-in-None
 returns-in-None g c =
@@ -35,4 +35,4 @@ returns-in-None g c =
     let many = stored_long g.O.BitAt.at_of map.blocks map.words.now in
     let ends : end ≡ min (length (in_use map)) ((from / 64 + 1) * 64) = omega (arith, c.min-end.ensures, many) in
     let is = c.in_ok-part.ensures.bits ∙ ap (λ (xs : List Bool). slice_range xs from end) c.bits.ensures in
-    rest_full (in_use map) (bits_of c.in_ok-part.part) from end (omega (arith, c.if-self-block.false, many)) ends is c.in-None.ensures
+    rest_full (in_use map) (slice_bits c.in_ok-part.part) from end (omega (arith, c.if-self-block.false, many)) ends is c.in-None.ensures

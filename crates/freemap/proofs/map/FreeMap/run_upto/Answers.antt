@@ -1,7 +1,7 @@
 use Rattle.std.proofs.Common.{◌≡◌, ℕ, ◌+◌, ◌<◌, ◌∙◌, Bool, List, true≢false, length, sym, ap, arith}
 use Rattle.std.specs.Prelude.{slice_range}
 use Rattle.bitvec.specs.Span.{element}
-use Rattle.bitvec_slice.specs.BitSlice.{bits_of}
+use Rattle.bitvec_slice.specs.BitSlice.{slice_bits}
 use Rattle.freemap.specs.Map.{in_use}
 use Rattle.freemap.proofs.SearchLemmas.{range_element}
 use Rattle.freemap.proofs.StretchRuns.{run_in_part}
@@ -16,7 +16,7 @@ returns-in_err-part g c =
 pub returns : goal.returns
 returns g c =
     let used = in_use c.args.self.now in
-    let part = bits_of c.in_ok-part.part in
+    let part = slice_bits c.in_ok-part.part in
     let end = c.args.end in
     let is = c.in_ok-part.ensures.bits ∙ ap (λ (xs : List Bool). slice_range xs 0 end) c.bits.ensures in
     let long = ap length is ∙ range_long used 0 end (omega arith) c.requires.end in

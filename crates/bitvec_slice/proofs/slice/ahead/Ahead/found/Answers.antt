@@ -1,5 +1,5 @@
 use Rattle.std.proofs.Common.{arith}
-use Rattle.bitvec_slice.specs.BitSlice.{slice_span, slice_len, bits_of}
+use Rattle.bitvec_slice.specs.BitSlice.{slice_span, slice_len, slice_bits}
 use Rattle.bitvec_slice.specs.Field.{stretch_end}
 use Rattle.bitvec_slice.proofs.WordListLemmas.{chosen_none, option_behind}
 use Rattle.bitvec_slice.proofs.slice.ahead.Ahead.found.Goals as goal
@@ -14,6 +14,6 @@ returns-in-None g c =
     let it = c.args.self.now in
     let bits = g.R.BitRegister.BITS in
     let span = slice_span it.slice in
-    option_behind bits g.O.BitAt.at_of span.head (bits_of it.slice) it.bit it.next (stretch_end bits span.head (slice_len it.slice) it.word) c.args.end c.chosen_later.result
+    option_behind bits g.O.BitAt.at_of span.head (slice_bits it.slice) it.bit it.next (stretch_end bits span.head (slice_len it.slice) it.word) c.args.end c.chosen_later.result
     (λ found. stretch_end bits span.head (slice_len it.slice) found.0) (λ found. found.0) (λ found. g.R.BitRegister.number found.1) (λ found. found.2)
     it.ordered (chosen_none it.chosen c.in-None.ensures) c.chosen_later.ensures

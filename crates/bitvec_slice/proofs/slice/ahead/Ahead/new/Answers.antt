@@ -1,5 +1,5 @@
 use Rattle.std.proofs.Common.{◌≡◌, ◌<◌, sym, ap, subst, ◌∙◌, arith}
-use Rattle.bitvec_slice.specs.BitSlice.{slice_span, slice_len, bits_of}
+use Rattle.bitvec_slice.specs.BitSlice.{slice_span, slice_len, slice_bits}
 use Rattle.bitvec_slice.specs.Field.{stretch_end}
 use Rattle.bitvec_slice.specs.Chosen.{IsChosen}
 use Rattle.bitvec_slice.proofs.WordListLemmas.{chosen_empty}
@@ -19,8 +19,8 @@ invariant_of-result-clause-chosen g c =
     elim c.if-upto-eq0.branch [
       | then-upto-eq0 w ↦ (
           let none : 0 ≡ stretch_end bits head (slice_len slice) 0 = sym w.if-upto-eq0.true ∙ upto in
-          subst (λ n. IsChosen bits at head (bits_of slice) 0 0 n bit (number c.if-upto-eq0.left)) none
-          (chosen_empty bits at head (bits_of slice) bit _ small (ap number (w.left-is ∙ w.ZERO-left.ensures) ∙ g.met.R.BitRegister.zero_is_0)))
-      | else-upto-eq0 w ↦ subst (λ n. IsChosen bits at head (bits_of slice) 0 0 n bit (number c.if-upto-eq0.left)) upto
-          (subst (λ v. IsChosen bits at head (bits_of slice) 0 0 c.min-upto.result bit (number v)) (sym w.left-is) w.chosen-left.ensures)
+          subst (λ n. IsChosen bits at head (slice_bits slice) 0 0 n bit (number c.if-upto-eq0.left)) none
+          (chosen_empty bits at head (slice_bits slice) bit _ small (ap number (w.left-is ∙ w.ZERO-left.ensures) ∙ g.met.R.BitRegister.zero_is_0)))
+      | else-upto-eq0 w ↦ subst (λ n. IsChosen bits at head (slice_bits slice) 0 0 n bit (number c.if-upto-eq0.left)) upto
+          (subst (λ v. IsChosen bits at head (slice_bits slice) 0 0 c.min-upto.result bit (number v)) (sym w.left-is) w.chosen-left.ensures)
     ]

@@ -2,7 +2,7 @@ use Rattle.std.proofs.Common.{◌≡◌, ◌+◌, ◌*◌, ◌-◌, ◌/◌, ◌
 use Rattle.std.proofs.lemmas.Bool.{cases_lt}
 use Rattle.std.proofs.lemmas.Nat.{div-add-mod', mod_below}
 use Rattle.std.proofs.Math.Nat.{mul-le-mul_right}
-use Rattle.bitvec_slice.specs.BitSlice.{slice_memory, slice_span, bits_of}
+use Rattle.bitvec_slice.specs.BitSlice.{slice_memory, slice_span, slice_bits}
 use Rattle.bitvec_slice.specs.Field.{stretch_end}
 use Rattle.bitvec_slice.specs.Chosen.{IsChosen}
 use Rattle.bitvec_slice.proofs.SkipLemmas.{all_joined, between_word}
@@ -50,7 +50,7 @@ loop-k-preserved g c =
     (omega (arith, lies.row, small)) (omega arith) (omega (arith, lies.whole, c.requires)) c.turned_word-ones.ensures in (
       omega (arith, inv.0),
       omega (arith, c.loop-k-test.true),
-      all_joined (not c.args.bit) (bits_of slice) (stretch_end bits span.head span.len c.args.word) (k * bits - span.head) next inv.2 (chosen_none whole c.in_default.ensures),
+      all_joined (not c.args.bit) (slice_bits slice) (stretch_end bits span.head span.len c.args.word) (k * bits - span.head) next inv.2 (chosen_none whole c.in_default.ensures),
     )
 
 pub returns-then-end-from : goal.returns-then-end-from
@@ -82,7 +82,7 @@ returns-in-Some-first_index g c =
       begin = from;
       later = omega (arith, row, after, c.head-head.ensures);
       passed = λ j low high. inv.2 j low (omega (arith, high, row, c.head-head.ensures));
-      chosen = subst (λ n. IsChosen bits g.O.BitAt.at_of span.head (bits_of slice) last from n c.args.bit (g.R.BitRegister.number c.chosen-ones.result)) end c.chosen-ones.ensures;
+      chosen = subst (λ n. IsChosen bits g.O.BitAt.at_of span.head (slice_bits slice) last from n c.args.bit (g.R.BitRegister.number c.chosen-ones.result)) end c.chosen-ones.ensures;
       first = c.in-Some-first_index.ensures;
     }
 

@@ -1,5 +1,5 @@
 use Rattle.std.proofs.Common.{◌+◌, ◌-◌, ◌*◌, ◌≤◌, not}
-use Rattle.bitvec_slice.specs.BitSlice.{slice_span, slice_len, bits_of}
+use Rattle.bitvec_slice.specs.BitSlice.{slice_span, slice_len, slice_bits}
 use Rattle.bitvec_slice.specs.Bits.{AllBetween}
 use Rattle.bitvec_slice.specs.Field.{stretch_end}
 use Rattle.bitvec_slice.proofs.slice.bit_slice.BitSlice.chosen_later.Given as goal
@@ -8,4 +8,4 @@ use Rattle.bitvec_slice.proofs.slice.bit_slice.BitSlice.chosen_later.Given as go
 abbrev pub invariant-loop-k : goal.invariant-loop-k
 invariant-loop-k g l =
     (l.word + 1 ≤ l.k) × (l.k ≤ l.last)
-    × AllBetween (not l.bit) (bits_of l.self) (stretch_end g.R.BitRegister.BITS (slice_span l.self).head (slice_len l.self) l.word) (l.k * g.R.BitRegister.BITS - (slice_span l.self).head)
+    × AllBetween (not l.bit) (slice_bits l.self) (stretch_end g.R.BitRegister.BITS (slice_span l.self).head (slice_len l.self) l.word) (l.k * g.R.BitRegister.BITS - (slice_span l.self).head)

@@ -1,5 +1,5 @@
 use Rattle.std.proofs.Common.{arith}
-use Rattle.bitvec_slice.specs.BitSlice.{bits_of}
+use Rattle.bitvec_slice.specs.BitSlice.{slice_bits}
 use Rattle.bitvec_slice.proofs.FindLemmas.{not_free_before, not_free}
 use Rattle.bitvec_slice.proofs.slice.bit_slice.BitSlice.find_zeros_by_last.Goals as goal
 
@@ -7,8 +7,8 @@ pub loop-start-preserved : goal.loop-start-preserved
 loop-start-preserved g c =
     let last = c.in-Some.ensures in
     let below = last.1 in
-    (omega (arith, below, c.len-len.ensures, c.loop-start.invariant.0, c.loop-start-test.true), not_free_before (bits_of c.args.self.now) c.args.count c.loop-start.start c.in-Some.one c.loop-start.invariant.1 last)
+    (omega (arith, below, c.len-len.ensures, c.loop-start.invariant.0, c.loop-start-test.true), not_free_before (slice_bits c.args.self.now) c.args.count c.loop-start.start c.in-Some.one c.loop-start.invariant.1 last)
 
 pub returns : goal.returns
 returns g c =
-    not_free (bits_of c.args.self.now) c.args.count c.loop-start.start c.loop-start.invariant.1 (omega (arith, c.len-len.ensures, c.loop-start.invariant.0, c.loop-start-test.false))
+    not_free (slice_bits c.args.self.now) c.args.count c.loop-start.start c.loop-start.invariant.1 (omega (arith, c.len-len.ensures, c.loop-start.invariant.0, c.loop-start-test.false))

@@ -1,19 +1,19 @@
 use Rattle.std.proofs.Common.{◌≡◌, ◌*◌, ◌+◌, ◌-◌, ◌<◌, map, ap, subst, arith}
 use Rattle.bitvec.proofs.PartLemmas.{length-list_of}
-use Rattle.bitvec_slice.specs.BitSlice.{slice_memory, slice_span, bits_of}
+use Rattle.bitvec_slice.specs.BitSlice.{slice_memory, slice_span, slice_bits}
 use Rattle.bitvec_slice.specs.FreeRuns.{digit_of, is_free}
 use Rattle.bitvec_slice.proofs.ListCountLemmas.{met_small}
 use Rattle.bitvec_slice.proofs.FreeRunLemmas.{passed_none, passed_more, first_of_all, shows_free, first_free, none_free}
 use Rattle.bitvec_slice.proofs.slice.bit_slice.BitSlice.find_zeros_by_words.Goals as goal
 
 pub loop-k-init : goal.loop-k-init
-loop-k-init g c = passed_none (is_free (slice_span c.args.self.now).head (bits_of c.args.self.now)) c.args.count _ c.requires.some (omega arith)
+loop-k-init g c = passed_none (is_free (slice_span c.args.self.now).head (slice_bits c.args.self.now)) c.args.count _ c.requires.some (omega arith)
 
 pub loop-k-preserved : goal.loop-k-preserved
 loop-k-preserved g c =
     let bits = g.R.BitRegister.BITS in
     let head = (slice_span c.args.self.now).head in
-    let xs = bits_of c.args.self.now in
+    let xs = slice_bits c.args.self.now in
     let number = g.R.BitRegister.number c.zeros_in_word-zeros.result in
     let k = c.loop-k.k in
     let word = digit_of bits c.args.rises number in
@@ -52,7 +52,7 @@ overflow_sub-result g c =
     let bits = g.R.BitRegister.BITS in
     let slice = c.args.self.now in
     let head = (slice_span slice).head in
-    let xs = bits_of slice in
+    let xs = slice_bits slice in
     let number = g.R.BitRegister.number c.zeros_in_word-zeros.result in
     let k = c.loop-k.k in
     let s = c.in-Some.s in
@@ -71,7 +71,7 @@ returns-in-Some g c =
     let bits = g.R.BitRegister.BITS in
     let slice = c.args.self.now in
     let head = (slice_span slice).head in
-    let xs = bits_of slice in
+    let xs = slice_bits slice in
     let number = g.R.BitRegister.number c.zeros_in_word-zeros.result in
     let k = c.loop-k.k in
     let s = c.in-Some.s in
@@ -89,5 +89,5 @@ pub returns : goal.returns
 returns g c =
     let slice = c.args.self.now in
     let span = slice_span slice in
-    none_free g.R.BitRegister.BITS span.head span.len (bits_of slice) (omega (arith, g.met.R.BitRegister.width_at_least_8)) (length-list_of g.R.BitRegister.BITS g.O.BitAt.at_of span (map g.R.BitRegister.number (slice_memory slice)))
+    none_free g.R.BitRegister.BITS span.head span.len (slice_bits slice) (omega (arith, g.met.R.BitRegister.width_at_least_8)) (length-list_of g.R.BitRegister.BITS g.O.BitAt.at_of span (map g.R.BitRegister.number (slice_memory slice)))
     c.loop-k.k c.elements-met.result c.loop-k.before c.args.count c.requires.some c.elements-met.ensures.value (omega (arith, c.loop-k-test.false)) c.loop-k.invariant

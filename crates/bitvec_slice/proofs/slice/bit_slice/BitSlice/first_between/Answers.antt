@@ -1,6 +1,6 @@
 use Rattle.std.proofs.Common.{map, arith}
 use Rattle.bitvec.proofs.PartLemmas.{length-list_of}
-use Rattle.bitvec_slice.specs.BitSlice.{slice_memory, slice_span, bits_of}
+use Rattle.bitvec_slice.specs.BitSlice.{slice_memory, slice_span, slice_bits}
 use Rattle.bitvec_slice.proofs.FindLemmas.{word_at, first_later}
 use Rattle.bitvec_slice.proofs.slice.bit_slice.BitSlice.first_between.Goals as goal
 
@@ -29,4 +29,4 @@ first_in_word-requires-clause-met g c =
 
 pub returns-in-Some : goal.returns-in-Some
 returns-in-Some g c =
-    first_later (bits_of c.args.self.now) c.args.bit c.args.from c.loop-next.next c.min-end.result c.args.upto c.in-Some.i c.loop-next.invariant.0 (omega (arith, c.min-end.ensures)) c.loop-next.invariant.1 c.in-Some.ensures
+    first_later (slice_bits c.args.self.now) c.args.bit c.args.from c.loop-next.next c.min-end.result c.args.upto c.in-Some.i c.loop-next.invariant.0 (omega (arith, c.min-end.ensures)) c.loop-next.invariant.1 c.in-Some.ensures

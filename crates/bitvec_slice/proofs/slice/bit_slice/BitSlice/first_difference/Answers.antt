@@ -3,7 +3,7 @@ use Rattle.bitvec.specs.Digit.{exclusive_or}
 use Rattle.bitvec.specs.Memory.{zip_with}
 use Rattle.bitvec.specs.Truths.{AllAre, IsFirst}
 use Rattle.bitvec.proofs.BecomesLemmas.{fits-numbers}
-use Rattle.bitvec_slice.specs.BitSlice.{bits_of, slice_span, slice_memory}
+use Rattle.bitvec_slice.specs.BitSlice.{slice_bits, slice_span, slice_memory}
 use Rattle.bitvec_slice.proofs.SetLemmas.{pairs_as_far}
 use Rattle.bitvec_slice.proofs.slice.bit_slice.BitSlice.first_difference.Goals as goal
 
@@ -13,8 +13,8 @@ returns g c =
     let wide = g.R2.BitRegister.BITS in
     let here = c.args.self.now in
     let there = c.args.other.now in
-    let xs = bits_of here in
-    let ys = bits_of there in
+    let xs = slice_bits here in
+    let ys = slice_bits there in
     let n = c.min-count.result in
     let all : n - 0 ≡ n = omega arith in
     let least : n ≡ min (length xs) (length ys) = c.min-count.ensures ∙ (λ m. min (c.len.ensures.list m) (c.len-2.ensures.list m)) in

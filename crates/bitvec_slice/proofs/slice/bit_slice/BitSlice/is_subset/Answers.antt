@@ -1,7 +1,7 @@
 use Rattle.std.proofs.Common.{◌≡◌, ◌&&◌, length, map, not, true, arith}
 use Rattle.bitvec.specs.Memory.{zip_with}
 use Rattle.bitvec.proofs.PartLemmas.{length-list_of}
-use Rattle.bitvec_slice.specs.BitSlice.{bits_of, slice_span, slice_memory}
+use Rattle.bitvec_slice.specs.BitSlice.{slice_bits, slice_span, slice_memory}
 use Rattle.bitvec_slice.proofs.FindLemmas.{none_shows}
 use Rattle.bitvec_slice.proofs.QuestionLemmas.{subset_shows}
 use Rattle.bitvec_slice.proofs.slice.bit_slice.BitSlice.is_subset.Goals as goal
@@ -10,8 +10,8 @@ pub returns : goal.returns
 returns g c =
     let here = c.args.self.now in
     let there = c.args.other.now in
-    let xs = bits_of here in
-    let ys = bits_of there in
+    let xs = slice_bits here in
+    let ys = slice_bits there in
     let ours = length-list_of g.R.BitRegister.BITS g.O.BitAt.at_of (slice_span here) (map g.R.BitRegister.number (slice_memory here)) in
     let theirs = length-list_of g.R2.BitRegister.BITS g.O2.BitAt.at_of (slice_span there) (map g.R2.BitRegister.number (slice_memory there)) in
     let long : length ys ≡ length xs = omega (arith, c.requires, ours, theirs) in

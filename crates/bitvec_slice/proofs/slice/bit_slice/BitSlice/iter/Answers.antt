@@ -2,7 +2,7 @@ use Rattle.std.proofs.Common.{length, map, ap, arith}
 use Rattle.bitvec.specs.Span.{Span, list_of}
 use Rattle.bitvec.proofs.PartLemmas.{length-list_of}
 use Rattle.bitvec_slice.specs.BitSlice.{slice_memory, slice_span}
-use Rattle.bitvec_slice.specs.Iter.{rest_of}
+use Rattle.bitvec_slice.specs.Iter.{iter_left}
 use Rattle.bitvec_slice.proofs.IterLemmas.{gives_in_order, gives_in_reverse, range_whole}
 use Rattle.bitvec_slice.proofs.slice.bit_slice.BitSlice.iter.Goals as goal
 
@@ -21,7 +21,7 @@ returns-clause-bound g c =
     omega (arith, slice.span.short, long, ap length (returns-clause-rest g c))
 
 pub returns-clause-runs : goal.returns-clause-runs
-returns-clause-runs g c = gives_in_order rest_of
+returns-clause-runs g c = gives_in_order iter_left
 
 pub returns-clause-runs_back : goal.returns-clause-runs_back
-returns-clause-runs_back g c = gives_in_reverse rest_of
+returns-clause-runs_back g c = gives_in_reverse iter_left

@@ -1,6 +1,6 @@
 use Rattle.std.proofs.Common.{◌-◌, map, arith}
 use Rattle.bitvec.proofs.PartLemmas.{length-list_of}
-use Rattle.bitvec_slice.specs.BitSlice.{slice_memory, slice_span, bits_of}
+use Rattle.bitvec_slice.specs.BitSlice.{slice_memory, slice_span, slice_bits}
 use Rattle.bitvec_slice.proofs.FindLemmas.{word_at, last_earlier}
 use Rattle.bitvec_slice.proofs.slice.bit_slice.BitSlice.last_between.Goals as goal
 
@@ -29,4 +29,4 @@ last_in_word-requires-clause-met g c =
 
 pub returns-in-Some : goal.returns-in-Some
 returns-in-Some g c =
-    last_earlier (bits_of c.args.self.now) c.args.bit c.args.from c.max-start.result c.loop-end.end c.args.upto c.in-Some.i (omega (arith, c.max-start.ensures)) c.loop-end.invariant.0 c.loop-end.invariant.1 c.in-Some.ensures
+    last_earlier (slice_bits c.args.self.now) c.args.bit c.args.from c.max-start.result c.loop-end.end c.args.upto c.in-Some.i (omega (arith, c.max-start.ensures)) c.loop-end.invariant.0 c.loop-end.invariant.1 c.in-Some.ensures

@@ -1,5 +1,5 @@
 use Rattle.std.proofs.Common.{false, ◌<◌, ◌^◌, sym, subst, arith}
-use Rattle.bitvec_slice.specs.BitSlice.{slice_span, bits_of}
+use Rattle.bitvec_slice.specs.BitSlice.{slice_span, slice_bits}
 use Rattle.bitvec_slice.proofs.FieldLemmas.{field_below}
 use Rattle.bitvec_slice.proofs.slice.bit_slice.BitSlice.load_signed_le.Goals as goal
 
@@ -7,5 +7,5 @@ pub signed_value-requires-clause-below : goal.signed_value-requires-clause-below
 signed_value-requires-clause-below g c =
     let slice = c.args.self.now in
     let eight = g.met.R.BitRegister.width_at_least_8 in
-    let below = field_below g.R.BitRegister.BITS (slice_span slice).head c.load_le.result (bits_of slice) (omega (arith, eight)) (omega (arith, slice.span.in_word, eight)) false g.O.Sequential.RISES c.load_le.ensures.number in
+    let below = field_below g.R.BitRegister.BITS (slice_span slice).head c.load_le.result (slice_bits slice) (omega (arith, eight)) (omega (arith, slice.span.in_word, eight)) false g.O.Sequential.RISES c.load_le.ensures.number in
     subst (λ k. c.load_le.result < 2 ^ k) (sym c.len.ensures.list) below

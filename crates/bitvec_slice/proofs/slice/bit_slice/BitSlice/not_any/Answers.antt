@@ -1,7 +1,7 @@
 use Rattle.std.proofs.Common.{true}
-use Rattle.bitvec_slice.specs.BitSlice.{bits_of}
+use Rattle.bitvec_slice.specs.BitSlice.{slice_bits}
 use Rattle.bitvec_slice.proofs.FindLemmas.{none_shows}
 use Rattle.bitvec_slice.proofs.slice.bit_slice.BitSlice.not_any.Goals as goal
 
 pub returns : goal.returns
-returns g c = none_shows (bits_of c.args.self.now) true c.first_one.result c.is_none.result c.is_none.ensures c.first_one.ensures
+returns g c = none_shows (slice_bits c.args.self.now) true c.first_one.result c.is_none.result c.is_none.ensures c.first_one.ensures

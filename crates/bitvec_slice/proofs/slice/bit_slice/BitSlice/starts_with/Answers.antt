@@ -1,13 +1,13 @@
 use Rattle.std.proofs.Common.{take, true≢false, sym, ap, arith, ◌∙◌}
-use Rattle.bitvec_slice.specs.BitSlice.{bits_of}
+use Rattle.bitvec_slice.specs.BitSlice.{slice_bits}
 use Rattle.bitvec_slice.proofs.PatternLemmas.{too_short}
 use Rattle.bitvec_slice.proofs.slice.bit_slice.BitSlice.starts_with.Goals as goal
 
 pub returns-then-len-count : goal.returns-then-len-count
 returns-then-len-count g c =
-    (λ yes. absurd (true≢false (sym yes)), λ e. absurd (too_short (bits_of c.args.self.now) (bits_of c.args.pattern.now) (omega (arith, c.if-len-count.true, c.len.ensures.list, c.len-count.ensures.list)) e))
+    (λ yes. absurd (true≢false (sym yes)), λ e. absurd (too_short (slice_bits c.args.self.now) (slice_bits c.args.pattern.now) (omega (arith, c.if-len-count.true, c.len.ensures.list, c.len-count.ensures.list)) e))
 
 pub returns : goal.returns
 returns g c =
-    let same = c.split_at.ensures.front ∙ ap (λ n. take n (bits_of c.args.self.now)) c.len-count.ensures.list in
+    let same = c.split_at.ensures.front ∙ ap (λ n. take n (slice_bits c.args.self.now)) c.len-count.ensures.list in
     (λ yes. sym same ∙ c.equals.ensures.list.0 yes, λ e. c.equals.ensures.list.1 (same ∙ e))

@@ -7,7 +7,7 @@ use Rattle.bitvec.specs.Digit.{digit}
 use Rattle.bitvec.specs.Order.{IsMaskOf}
 use Rattle.bitvec.specs.Parts.{Part}
 use Rattle.bitvec.proofs.PartLemmas.{length-list_of}
-use Rattle.bitvec_slice.specs.BitSlice.{slice_memory, slice_span, bits_of}
+use Rattle.bitvec_slice.specs.BitSlice.{slice_memory, slice_span, slice_bits}
 use Rattle.bitvec_slice.proofs.PartMasks.{lacking_zeros, lacking_same}
 use Rattle.bitvec_slice.proofs.InnerWordLemmas.{inner_digits}
 use Rattle.bitvec_slice.proofs.SkipLemmas.{number_at}
@@ -26,7 +26,7 @@ returns-then-k-eq0-clause-digits g c =
     let lacking = lacking_same bits at span.head span.len c.args.k true true (number c.into_inner.result) _ refl c.into_inner.ensures.value
     (lacking_zeros bits at span.head span.len c.args.k _ law (omega (arith, slice.span.in_word, g.met.R.BitRegister.width_at_least_8)) met
     (subst (λ (p : Part). IsMaskOf bits at p.head p.tail c.mask.result) c.part-part.ensures.part c.mask.ensures)) in
-    free_masked bits at span.head span.len c.args.k (bits_of slice) (number c.load_value.result) (number c.not.result) law
+    free_masked bits at span.head span.len c.args.k (slice_bits slice) (number c.load_value.result) (number c.not.result) law
     (length-list_of bits at span (map number (slice_memory slice))) c.not.ensures.digits (number c.into_inner.result) (number c.and.result) (c.load_value.ensures ∙ c.part-part.ensures.word) lacking c.and.ensures.digits
 
 pub returns-clause-digits : goal.returns-clause-digits
@@ -47,6 +47,6 @@ returns-clause-digits g c =
     let inside : nat_abs (to_z w64 (of_z w64 c.address-first.result)) + c.args.k < length memory = omega (arith, first, slice.fits.1, met) in
     let word = get_or memory (nat_abs (to_z w64 (of_z w64 c.address-first.result)) + k) c.index-self-first.result in
     let is = number_at number memory (nat_abs (to_z w64 (of_z w64 c.address-first.result)) + k) c.index-self-first.result inside ∙ ap (λ n. slice_index (map number memory) (n + k)) first in
-    free_whole bits at span.head span.len k (bits_of slice) (number word) (number c.not-2.result) law
+    free_whole bits at span.head span.len k (slice_bits slice) (number word) (number c.not-2.result) law
     (length-list_of bits at span (map number memory)) c.not-2.ensures.digits in_head later more
     (λ p small. ap (λ w. digit w p) is ∙ inner_digits bits at span (map number memory) k p law in_head later more small)

@@ -1,7 +1,7 @@
 use Rattle.std.proofs.Common.{map, refl}
 use Rattle.bitvec.specs.BitSpan.{span_of}
 use Rattle.bitvec.specs.Span.{Span}
-use Rattle.bitvec_slice.specs.BitSlice.{bits_of}
+use Rattle.bitvec_slice.specs.BitSlice.{slice_bits}
 use Rattle.bitvec_slice.specs.BitSliceMut.{lent_span, lent_words}
 use Rattle.bitvec_slice.proofs.SpanEdits.{edit-named}
 use Rattle.bitvec_slice.proofs.slice.bit_slice_mut.BitSliceMut.copy_from_bitslice.Goals as goal
@@ -14,6 +14,6 @@ returns g c =
     let span = lent_span c.args.self.now in
     let old = lent_words c.args.self.now in
     let new = map number c.copy_from.new.memory in
-    let bits = λ (s : Span). bits_of c.args.source in
+    let bits = λ (s : Span). slice_bits c.args.source in
     let edit = edit-named width at (span_of c.span-span.result) span old new bits c.span-span.ensures c.copy_from.ensures in
     (edit.list, refl, refl, edit)

@@ -1,6 +1,6 @@
 use Rattle.std.proofs.Common.{◌≡◌, ◌≤◌, ℕ, ◌+◌, ◌-◌, length, map, refl, subst, arith}
 use Rattle.bitvec.specs.Span.{BecomesList, list_of}
-use Rattle.bitvec_slice.specs.BitSlice.{slice_memory, bits_of}
+use Rattle.bitvec_slice.specs.BitSlice.{slice_memory, slice_bits}
 use Rattle.bitvec_slice.specs.BitSliceMut.{lent_span, lent_words}
 use Rattle.bitvec_slice.specs.Ranges.{with_range, KeepsStretches}
 use Rattle.bitvec_slice.proofs.EditRangeLemmas.{range_edited}
@@ -18,7 +18,7 @@ returns g c =
     let from = c.args.from in
     let to = from + c.len.result in
     let part = c.part-part.ensures in
-    let theirs = bits_of c.args.source in
+    let theirs = slice_bits c.args.source in
     let long = c.args.source.many (map g.R2.BitRegister.number (slice_memory c.args.source)) in
     let rises : from ≤ to = omega arith in
     let inside : to ≤ span.len = omega (arith, c.requires, c.len.ensures.value) in

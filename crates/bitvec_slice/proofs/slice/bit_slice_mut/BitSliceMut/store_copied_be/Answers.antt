@@ -1,6 +1,6 @@
 use Rattle.std.proofs.Common.{◌≡◌, ◌≤◌, ℕ, ◌+◌, ◌-◌, Bool, List, length, drop, refl, ap, subst, ◌∙◌, arith}
 use Rattle.bitvec.specs.Span.{Span}
-use Rattle.bitvec_slice.specs.BitSlice.{slice_len, bits_of}
+use Rattle.bitvec_slice.specs.BitSlice.{slice_len, slice_bits}
 use Rattle.bitvec_slice.specs.BitSliceMut.{lent_words, lent_bits, BecomesBits}
 use Rattle.bitvec_slice.specs.Numbers.{digits_be}
 use Rattle.bitvec_slice.specs.Ranges.{with_range, KeepsStretches}
@@ -18,7 +18,7 @@ returns g c =
     let few : count ≤ 128 = omega (arith, c.requires.small, g.met.N.BitRegister.width_at_most_128) in
     let given = c.split_at.result.1 in
     let end : from + slice_len given ≡ c.args.to = omega (arith, c.split_at.ensures.back_len, ap (λ (s : Span). s.len) c.all_unchecked-word.ensures.span, c.requires.ordered, few) in
-    let shown : bits_of given ≡ digits_be count (g.N.BitRegister.number c.args.value) =
+    let shown : slice_bits given ≡ digits_be count (g.N.BitRegister.number c.args.value) =
     c.split_at.ensures.back ∙ ap (λ (us : List Bool). drop (128 - count) us) c.all_unchecked-word.ensures.bits ∙ high_bits _ c.to_u128.result count few (λ i h. refl) ∙ ap (digits_be count) c.to_u128.ensures.number in
     let value = g.N.BitRegister.number c.args.value in
     let stored : BecomesBits old new (with_range xs from c.args.to (digits_be count value)) =

@@ -1,5 +1,5 @@
 use Rattle.std.proofs.Common.{◌≡◌, ◌≤◌, ℕ, ◌+◌, ◌-◌, Bool, List, length, take, refl, ap, subst, ◌∙◌, arith}
-use Rattle.bitvec_slice.specs.BitSlice.{slice_len, bits_of}
+use Rattle.bitvec_slice.specs.BitSlice.{slice_len, slice_bits}
 use Rattle.bitvec_slice.specs.BitSliceMut.{lent_words, lent_bits, BecomesBits}
 use Rattle.bitvec_slice.specs.Numbers.{digits_le}
 use Rattle.bitvec_slice.specs.Ranges.{with_range, KeepsStretches}
@@ -17,7 +17,7 @@ returns g c =
     let few : count ≤ 128 = omega (arith, c.requires.small, g.met.N.BitRegister.width_at_most_128) in
     let given = c.split_at.result.0 in
     let end : from + slice_len given ≡ c.args.to = omega (arith, c.split_at.ensures.front_len, c.requires.ordered, few) in
-    let shown : bits_of given ≡ digits_le count (g.N.BitRegister.number c.args.value) =
+    let shown : slice_bits given ≡ digits_le count (g.N.BitRegister.number c.args.value) =
     c.split_at.ensures.front ∙ ap (λ (us : List Bool). take count us) c.all_unchecked-word.ensures.bits ∙ low_bits _ c.to_u128.result count few (λ i h. refl) ∙ ap (digits_le count) c.to_u128.ensures.number in
     let value = g.N.BitRegister.number c.args.value in
     let stored : BecomesBits old new (with_range xs from c.args.to (digits_le count value)) =

@@ -1,6 +1,6 @@
 use Rattle.std.proofs.Common.{◌<◌, ◌-◌, ◌*◌, ◌/◌, ◌∙◌, take, drop, sym, ap, arith}
 use Rattle.bitvec.specs.Span.{span_from, span_upto}
-use Rattle.bitvec_slice.specs.BitSlice.{slice_span, bits_of}
+use Rattle.bitvec_slice.specs.BitSlice.{slice_span, slice_bits}
 use Rattle.bitvec_slice.specs.PieceIters.{chunks_left}
 use Rattle.bitvec_slice.specs.Pieces.{last_start}
 use Rattle.bitvec_slice.proofs.IterLemmas.{range_upto}
@@ -10,14 +10,14 @@ use Rattle.bitvec_slice.proofs.slice.chunks.ChunksDoubleEndedIterator.next_back.
 pub returns-clause-steps : goal.returns-clause-steps
 returns-clause-steps g c =
     let it = c.args.self.now in
-    let xs = bits_of it.rest in
+    let xs = slice_bits it.rest in
     let many = c.len-len.ensures.list in
     let last = c.split_at.ensures.back ∙ ap (λ l. drop ((l - 1) / it.size * it.size) xs) many in
     let rest = c.split_at.ensures.front ∙ ap (λ l. take ((l - 1) / it.size * it.size) xs) many in
     chunks_last it.size xs _ _ it.some (omega (arith, c.if-len-eq0.false, many)) last rest
 
 pub returns-clause-goes : goal.returns-clause-goes
-returns-clause-goes g c = progress_last_by _ bits_of chunks_left _ _ _ tt (returns-clause-steps g c)
+returns-clause-goes g c = progress_last_by _ slice_bits chunks_left _ _ _ tt (returns-clause-steps g c)
 
 pub returns-clause-place : goal.returns-clause-place
 returns-clause-place g c =

@@ -1,7 +1,7 @@
 use Rattle.std.proofs.Common.{◌<◌, ◌∙◌, min, take, drop, sym, ap, arith}
 use Rattle.std.proofs.lemmas.List.{take_min, drop_min}
 use Rattle.bitvec.specs.Span.{span_from, span_upto}
-use Rattle.bitvec_slice.specs.BitSlice.{slice_span, bits_of}
+use Rattle.bitvec_slice.specs.BitSlice.{slice_span, slice_bits}
 use Rattle.bitvec_slice.specs.PieceIters.{chunks_left}
 use Rattle.bitvec_slice.proofs.IterLemmas.{range_upto}
 use Rattle.bitvec_slice.proofs.PieceLemmas.{chunks_first, progress_first_by}
@@ -10,7 +10,7 @@ use Rattle.bitvec_slice.proofs.slice.chunks.ChunksIterator.next.Goals as goal
 pub returns-clause-steps : goal.returns-clause-steps
 returns-clause-steps g c =
     let it = c.args.self.now in
-    let xs = bits_of it.rest in
+    let xs = slice_bits it.rest in
     let many = c.len-len.ensures.list in
     let count = c.min.ensures ∙ ap (min it.size) many in
     let first = c.split_at.ensures.front ∙ ap (λ l. take l xs) count ∙ take_min it.size xs in
@@ -18,7 +18,7 @@ returns-clause-steps g c =
     chunks_first it.size xs _ _ it.some (omega (arith, c.if-len-eq0.false, many)) first rest
 
 pub returns-clause-goes : goal.returns-clause-goes
-returns-clause-goes g c = progress_first_by _ bits_of chunks_left _ _ _ tt (returns-clause-steps g c)
+returns-clause-goes g c = progress_first_by _ slice_bits chunks_left _ _ _ tt (returns-clause-steps g c)
 
 pub returns-clause-place : goal.returns-clause-place
 returns-clause-place g c =

@@ -2,7 +2,7 @@ use Rattle.std.proofs.Common.{map, sym, subst, arith}
 use Rattle.std.proofs.lemmas.List.{length-map}
 use Rattle.bitvec.specs.Span.{Fits}
 use Rattle.bitvec_slice.specs.BitSlice.{slice_memory, slice_span}
-use Rattle.bitvec_slice.specs.Iter.{rest_of}
+use Rattle.bitvec_slice.specs.Iter.{iter_left}
 use Rattle.bitvec_slice.proofs.IterLemmas.{range_last, range_sooner}
 use Rattle.bitvec_slice.proofs.OnesLemmas.{progress_last}
 use Rattle.bitvec_slice.proofs.slice.iter.IterDoubleEndedIterator.next_back.Goals as goal
@@ -18,7 +18,7 @@ returns-clause-steps g c =
     it.inside c.get_unchecked.result c.get_unchecked.ensures (omega (arith, it.rises, c.if-self.false))
 
 pub returns-clause-goes : goal.returns-clause-goes
-returns-clause-goes g c = progress_last _ rest_of _ _ _ tt (returns-clause-steps g c)
+returns-clause-goes g c = progress_last _ iter_left _ _ _ tt (returns-clause-steps g c)
 
 pub returns-clause-span : goal.returns-clause-span
 returns-clause-span g c =

@@ -1,5 +1,5 @@
 use Rattle.std.proofs.Common.{not, MatchOption, ap, subst}
-use Rattle.bitvec_slice.specs.BitSlice.{bits_of}
+use Rattle.bitvec_slice.specs.BitSlice.{slice_bits}
 use Rattle.bitvec_slice.specs.Bits.{AllBetween, IsFirstBetween}
 use Rattle.bitvec_slice.specs.Ones.{ones_left}
 use Rattle.bitvec_slice.proofs.OnesLemmas.{ones_behind, progress_behind}
@@ -8,9 +8,9 @@ use Rattle.bitvec_slice.proofs.slice.ones.IterOnesIterator.next.Goals as goal
 pub returns-clause-steps : goal.returns-clause-steps
 returns-clause-steps g c =
     let old = c.args.self.now in
-    let bits = bits_of old.ahead.slice in
+    let bits = slice_bits old.ahead.slice in
     let first = subst (λ b. MatchOption c.step.result (AllBetween (not b) bits old.ahead.next old.end) (IsFirstBetween b bits old.ahead.next old.end)) old.of_ones c.step.ensures.first in
-    ones_behind bits _ old.ahead.next old.end _ c.step.result (ap bits_of c.step.ensures.slice) first c.step.ensures.next
+    ones_behind bits _ old.ahead.next old.end _ c.step.result (ap slice_bits c.step.ensures.slice) first c.step.ensures.next
 
 pub returns-clause-goes : goal.returns-clause-goes
 returns-clause-goes g c = progress_behind _ ones_left _ _ _ tt (returns-clause-steps g c)

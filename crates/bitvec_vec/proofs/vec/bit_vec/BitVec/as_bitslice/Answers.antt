@@ -1,6 +1,6 @@
 use Rattle.std.proofs.Common.{length, map, ◌≡◌, ◌∙◌, sym, ap, subst, IfSome, arith}
 use Rattle.bitvec.specs.BitSpan.{span_of, list_by}
-use Rattle.bitvec_slice.specs.BitSlice.{slice_span, bits_of}
+use Rattle.bitvec_slice.specs.BitSlice.{slice_span, slice_bits}
 use Rattle.bitvec_vec.specs.Front.{front_span}
 use Rattle.bitvec_vec.proofs.FrontLemmas.{length-front}
 use Rattle.bitvec_vec.proofs.VecLemmas.{front-fits, front-shown}
@@ -27,5 +27,5 @@ returns-clause-bits g c =
     let vec = c.args.self.now in
     let span = c.span_of_front.result in
     let lent = c.as_slice.result.now in
-    subst (λ o. IfSome o (λ slice. bits_of slice ≡ list_by span at lent)) c.unwrap.ensures c.new.ensures.bits
+    subst (λ o. IfSome o (λ slice. slice_bits slice ≡ list_by span at lent)) c.unwrap.ensures c.new.ensures.bits
     ∙ front-shown width at number vec.len vec.words.items lent (span_of span) c.span_of_front.ensures.span c.as_slice.ensures.value

@@ -1,5 +1,5 @@
 use Rattle.std.proofs.Common.{◌∙◌, length, map, take, sym, ap, arith}
-use Rattle.bitvec_slice.specs.BitSlice.{bits_of}
+use Rattle.bitvec_slice.specs.BitSlice.{slice_bits}
 use Rattle.bitvec_vec.specs.BitVec.{vec_bits}
 use Rattle.bitvec_vec.proofs.FrontLemmas.{length-front}
 use Rattle.bitvec_vec.proofs.GrowthLemmas.{not-grown, extended}
@@ -29,7 +29,7 @@ returns-clause-bits g c =
     let vec = c.args.self.now in
     let xs = vec_bits vec in
     let zs = vec_bits c.lengthen.new.self in
-    let ys = bits_of c.args.slice in
+    let ys = slice_bits c.args.slice in
     let long = length-front width at vec.len (map number vec.words.items) in
     let begins = ap (λ n. take n zs) (sym long) ∙ c.in_ok-lengthen.ensures.begins in
     c.copy_from_range.ensures.bits
