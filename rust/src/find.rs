@@ -258,7 +258,7 @@ impl<T: Register, O: Order> BitSlice<'_, T, O> {
         let found = T::find_zeros_from(O::CODE, words, range, from, count, multiple_of);
         let found = granted(found);
         // (a run of no bits may start behind the last)
-        let ends = count == 0 && from <= len && len % multiple_of.max(1) == 0;
+        let ends = count == 0 && from <= len && len.is_multiple_of(multiple_of.max(1));
         (found < len || ends).then_some(found)
     }
 

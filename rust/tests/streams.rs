@@ -269,7 +269,7 @@ mod cases {
         let slice = BitSliceMut::<T, O>::new(&mut words, range.clone()).unwrap();
         let mut writer = BitWriter::new(slice);
         // (not always as many: what the last call leaves is not written over)
-        for _ in 0..1 + random.below(8) {
+        for _ in 0..=random.below(8) {
             write(random, &mut writer, &mut target);
             target.check(&writer);
         }

@@ -478,7 +478,9 @@ mod cases {
         }
         if bit {
             bits.invert();
-            own.iter_mut().for_each(|bit| *bit = !*bit);
+            for bit in &mut *own {
+                *bit = !*bit;
+            }
         }
         assert_eq!(bits_of::<T, O>(&words), model);
     }
@@ -539,7 +541,7 @@ mod cases {
         }
         let own = &mut model[range.clone()];
         let between =
-            mid == 0 || mid == own.len() || (range.start.wrapping_add(mid)) % T::BITS == 0;
+            mid == 0 || mid == own.len() || (range.start.wrapping_add(mid)).is_multiple_of(T::BITS);
         match bits.split_at_mut(mid) {
             Ok((mut low, mut high)) => {
                 assert!(mid <= own.len() && between);
@@ -662,7 +664,7 @@ fn equal_slices_are_one_key() {
     let (words, turned) = ([0x0ff0_u16], [0xf00f_u16]);
     let mut seen = HashSet::new();
     seen.insert(words.view_bits::<Msb0>().get(4..12).unwrap());
-    assert!(seen.contains(&turned.view_bits::<Msb0>().get(..8).unwrap()) == false);
+    assert!(!seen.contains(&turned.view_bits::<Msb0>().get(..8).unwrap()));
     assert!(seen.contains(&words.view_bits::<Msb0>().get(4..12).unwrap()));
     let moved = [0x00ff_u16];
     assert!(seen.contains(&moved.view_bits::<Msb0>().get(8..).unwrap()));
@@ -718,13 +720,14 @@ fn a_generic_caller_needs_no_bounds_of_its_own() {
 
 #[test]
 fn numbers_of_no_bits_are_zero() {
+    fn zero<N: Number + Default + PartialEq + std::fmt::Debug>(of: Result<N, Refusal>) {
+        assert_eq!(of, Ok(N::default()));
+    }
+
     let bits = [0xff_u8].view_bits::<Lsb0>().len();
     assert_eq!(bits, 8);
     let words = [0xff_u8];
     let none = words.view_bits::<Lsb0>().get(3..3).unwrap();
-    fn zero<N: Number + Default + PartialEq + std::fmt::Debug>(of: Result<N, Refusal>) {
-        assert_eq!(of, Ok(N::default()));
-    }
     zero(none.load_le::<u8>());
     zero(none.load_be::<i64>());
 }

@@ -218,7 +218,7 @@ impl<'a, T: Register, O: Order> BitSliceMut<'a, T, O> {
             ));
         }
         let cut = start + mid;
-        if cut % T::BITS != 0 {
+        if !cut.is_multiple_of(T::BITS) {
             return Err(Refusal::SharedWord);
         }
         let (low, high) = self.words.split_at_mut(cut / T::BITS);

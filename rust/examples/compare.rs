@@ -1,7 +1,9 @@
 //! Times calls of this crate beside the loops that a person would write in plain Rust, in one
-//! process, and prints a line for each job: NAME OURS BY_HAND RATIO. The first two are nanoseconds,
+//! process, and prints a line for each job: NAME OURS `BY_HAND` RATIO. The first two are nanoseconds,
 //! of a word where the job goes over a memory, each the median of three times; the ratio is that of
 //! by hand to ours. It wants a machine that does nothing else.
+// (times are printed with three digits, and the loops by hand are to be as fast as they can)
+#![allow(clippy::cast_precision_loss, clippy::inline_always)]
 
 use std::hint::black_box;
 use std::time::{Duration, Instant};
@@ -267,9 +269,9 @@ fn compare_copies(source: &[u64]) {
                 black_box(&mut target),
                 64,
             )
-            .unwrap()
+            .unwrap();
         },
-        || black_box(&mut other)[1..1 + words].copy_from_slice(&black_box(source)[1..1 + words]),
+        || black_box(&mut other)[1..=words].copy_from_slice(&black_box(source)[1..=words]),
     );
     compare(
         "copy-shifted",
@@ -281,7 +283,7 @@ fn compare_copies(source: &[u64]) {
                 black_box(&mut target),
                 78,
             )
-            .unwrap()
+            .unwrap();
         },
         || by_hand::copy_shifted::<true>(black_box(source), 67, black_box(&mut other), 78, COPIED),
     );
@@ -295,7 +297,7 @@ fn compare_copies(source: &[u64]) {
                 black_box(&mut target),
                 78,
             )
-            .unwrap()
+            .unwrap();
         },
         || by_hand::copy_shifted::<false>(black_box(source), 67, black_box(&mut other), 78, COPIED),
     );
@@ -309,7 +311,7 @@ fn compare_copies(source: &[u64]) {
                 black_box(&mut target),
                 78,
             )
-            .unwrap()
+            .unwrap();
         },
         || {
             by_hand::copy_plain::<true>(
@@ -318,7 +320,7 @@ fn compare_copies(source: &[u64]) {
                 black_box(&mut other),
                 78,
                 black_box(200),
-            )
+            );
         },
     );
     assert_eq!(target, other);
@@ -388,7 +390,7 @@ fn compare_passes(source: &[u64]) {
         || {
             BitSliceMut::<_, Lsb0>::new(black_box(&mut target), inner.clone())
                 .unwrap()
-                .fill(true)
+                .fill(true);
         },
         || by_hand::fill(black_box(&mut other), true),
     );

@@ -1,6 +1,8 @@
 //! What the tests share: a plain model of a memory as a list of bits, and random cases.
 
 #![allow(dead_code, unused_imports, unused_macros)]
+// (the model's words are numbers of 64 bits, whose digits past a word's width are dropped)
+#![allow(clippy::cast_possible_truncation, clippy::cast_lossless)]
 
 use std::env;
 use std::fmt::Debug;

@@ -1,0 +1,57 @@
+#![doc = include_str!("../README.md")]
+#![no_std]
+#![deny(missing_docs)]
+#![forbid(unsafe_code)]
+
+#[cfg(not(target_pointer_width = "64"))]
+compile_error!("the library is proved for a usize of 64 bits");
+
+#[cfg(test)]
+extern crate std;
+
+mod combine;
+mod compare;
+mod edit;
+mod find;
+mod index;
+mod iter;
+mod number;
+mod order;
+mod proved;
+mod range;
+mod readers;
+mod refusal;
+mod register;
+mod run;
+mod slice;
+mod slice_mut;
+mod stream;
+mod sys;
+mod text;
+mod view;
+mod words;
+mod writer;
+
+pub use index::BitIndex;
+pub use iter::{Chunks, Iter, Ones, Zeros};
+pub use number::Number;
+pub use order::{Lsb0, Msb0, Order};
+pub use refusal::Refusal;
+pub use register::Register;
+pub use run::{Command, ManySpans, Reply, Request, Spans};
+pub use slice::BitSlice;
+pub use slice_mut::{BitSliceMut, copy_bits};
+pub use stream::BitReader;
+pub use sys::Span;
+pub use view::BitView;
+pub use writer::BitWriter;
+
+/// The number of the version of the proved library: 10000 times its first part, 100 times its second,
+/// and its third.
+///
+/// # Examples
+///
+/// ```
+/// assert_eq!(worghulen::VERSION, 500);
+/// ```
+pub const VERSION: u32 = proved::bitvec_c::version::VERSION;
