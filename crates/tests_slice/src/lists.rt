@@ -1,10 +1,11 @@
-//! Each slice of three bytes under an order that is a table, beside the list of its bits.
+//! Each slice of three bytes under orders that rise, that fall and that are a table, beside the list
+//! of its bits.
 
 ghost use Rattle.std.specs.Prelude.{◌+◌, ◌≤◌};
 ghost use Rattle.tests_slice.specs.Orders.{mixed_position, mixed_one_to_one};
 
 use bitvec::index::BitIdx;
-use bitvec::order::{BitOrder, ByPosition, OneToOne, Positions};
+use bitvec::order::{BitOrder, ByPosition, Lsb0, Msb0, OneToOne, Positions};
 use bitvec::ptr::span::BitSpan;
 use bitvec_slice::slice::{BitSlice, BitSliceMut};
 
@@ -92,6 +93,35 @@ fn finds<O: BitOrder<u8>>(slice: BitSlice<'_, u8, O>, list: &[bool]) -> bool {
         && slice.last_zero() == list.iter().rposition(|bit| !*bit)
 }
 
+// Whether a slice shows how many zeros and ones begin and end a list.
+fn shows_ends<O: BitOrder<u8>>(slice: BitSlice<'_, u8, O>, list: &[bool]) -> bool {
+    let all = list.len();
+    let zeros = list.iter().position(|bit| *bit).unwrap_or(all);
+    let ones = list.iter().position(|bit| !*bit).unwrap_or(all);
+    let zeros_back = list.iter().rev().position(|bit| *bit).unwrap_or(all);
+    let ones_back = list.iter().rev().position(|bit| !*bit).unwrap_or(all);
+    slice.leading_zeros() == zeros
+        && slice.leading_ones() == ones
+        && slice.trailing_zeros() == zeros_back
+        && slice.trailing_ones() == ones_back
+}
+
+// Whether the bits of a slice, taken from the front and the back by turns, are those of a list.
+fn takes_turns<O: BitOrder<u8>>(slice: BitSlice<'_, u8, O>, list: &[bool]) -> bool {
+    let (mut ours, mut theirs) = (slice.iter(), list.iter());
+    for i in 0..list.len() + 1 {
+        let (bit, element) = if i % 2 == 0 {
+            (ours.next(), theirs.next())
+        } else {
+            (ours.next_back(), theirs.next_back())
+        };
+        if bit != element.copied() {
+            return false;
+        }
+    }
+    true
+}
+
 // Whether a list begins with `count` zeros.
 fn is_row(list: &[bool], count: usize) -> bool {
     match list.get(..count) {
@@ -102,8 +132,8 @@ fn is_row(list: &[bool], count: usize) -> bool {
 
 // Whether a slice shows where a number of zeros stand in a row in a list, for each number to 9.
 fn finds_rows<O: BitOrder<u8>>(slice: BitSlice<'_, u8, O>, list: &[bool]) -> bool {
-    for count in 1..10 {
-        let place = (0..list.len()).find(|i| match list.get(*i..) {
+    for count in 0..10 {
+        let place = (0..list.len() + 1).find(|i| match list.get(*i..) {
             Some(rest) => is_row(rest, count),
             None => false,
         });
@@ -124,7 +154,10 @@ fn reads<O: BitOrder<u8>>(start: usize, len: usize) -> bool
     let Some(slice) = BitSlice::new(span_at::<O>(start, len), &memory) else {
         return false;
     };
-    if !shows(slice, list) || !finds(slice, list) || !finds_rows(slice, list) {
+    if !shows(slice, list) || !shows_ends(slice, list) || !takes_turns(slice, list) {
+        return false;
+    }
+    if !finds(slice, list) || !finds_rows(slice, list) {
         return false;
     }
     let Ok(slice) = BitSliceMut::new(span_at::<O>(start, len), &mut memory) else {
@@ -208,5 +241,7 @@ fn each_slice<O: BitOrder<u8>>() -> bool {
 
 #[test]
 fn each_slice_of_three_bytes(rt: HostRuntime) {
+    assert!(rt; each_slice::<Lsb0>());
+    assert!(rt; each_slice::<Msb0>());
     assert!(rt; each_slice::<Mix>());
 }

@@ -1,12 +1,12 @@
-//! Shifts, copies and comparisons of each slice of three bytes under an order that is a table,
-//! beside the list of its bits.
+//! Shifts, copies and comparisons of each slice of three bytes under orders that rise, that fall and
+//! that are a table, beside the list of its bits.
 
 ghost use Rattle.std.specs.Prelude.{◌+◌, ◌≤◌, length};
 ghost use Rattle.bitvec_slice.specs.BitSliceMut.{lent_len};
 
 use crate::lists::{MEMORY, Mix, bits_of, span_at};
 use bitvec::index::BitIdx;
-use bitvec::order::{BitOrder, Msb0};
+use bitvec::order::{BitOrder, Lsb0, Msb0};
 use bitvec::ptr::span::BitSpan;
 use bitvec_slice::slice::{BitSlice, BitSliceMut};
 
@@ -184,5 +184,7 @@ fn each_slice<O: BitOrder<u8>>() -> bool {
 
 #[test]
 fn each_slice_is_moved_copied_and_compared(rt: HostRuntime) {
+    assert!(rt; each_slice::<Lsb0>());
+    assert!(rt; each_slice::<Msb0>());
     assert!(rt; each_slice::<Mix>());
 }
