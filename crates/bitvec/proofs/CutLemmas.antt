@@ -24,7 +24,7 @@ use Rattle.bitvec.specs.Run.{CanRun, IsRun, IsPlaced, alone_from, reply_behind}
 use Rattle.bitvec.proofs.AppendedRuns.{alone_from-append, reply_behind-append}
 use Rattle.bitvec.proofs.PutLemmas.{put, put-placed}
 
--- a command leaves a list of as many bits
+-- a command leaves a list of the same length
 length-when : (within : Bool) (reply : Reply ℕ) (xs ys : List Bool) → (within ≡ true → length ys ≡ length xs) → length (list_in xs (when within reply ys)) ≡ length xs
 length-when true reply xs ys same = same refl
 length-when false reply xs ys same = refl

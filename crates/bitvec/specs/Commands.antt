@@ -11,7 +11,7 @@ use Rattle.bitvec.specs.declared.run.command.Request.{Request}
 use Rattle.bitvec.specs.declared.run.command.Reply.{Reply}
 use Rattle.bitvec.specs.declared.run.command.Reply.TheVariants.{Word, Bit, Done, PastEnd, NoSpan}
 
--- a reply and a list, where a command names nothing past the end
+-- a reply and a list where a command names nothing past the end, else none
 abbrev pub when : Bool → Reply ℕ → List Bool → Option (Reply ℕ × List Bool)
 when within reply xs = if within then Some (reply, xs) else None
 
@@ -19,7 +19,8 @@ when within reply xs = if within then Some (reply, xs) else None
 abbrev pub on_word : ℕ → (ℕ → ℕ) → ℕ → List Bool → ℕ → List Bool → Option (Reply ℕ × List Bool)
 on_word bits at head xs k ys = when (nat_lt k (words_met bits head (length xs))) (Word (word_of bits at head xs k)) ys
 
--- one command on one list: its reply and the list that it leaves; none where it names a word or a bit past the end, or fills from behind where it fills to
+-- The table of the commands: the reply of each one on one list, and the list that it leaves. It has none where the
+-- command names a word or a bit past the end, or a fill whose start is behind its end.
 abbrev pub outcome : {W : Type 0} → (W → ℕ) → ℕ → (ℕ → ℕ) → ℕ → Command W → List Bool → Option (Reply ℕ × List Bool)
 outcome number bits at head (Load k) xs = on_word bits at head xs k xs
 outcome number bits at head (Store k v) xs = on_word bits at head xs k (with_word bits head xs k (λ j. digit (number v) (at ((head + j) % bits))))
@@ -32,7 +33,7 @@ outcome number bits at head (Swap i j) xs = when (nat_lt i (length xs) && nat_lt
 outcome number bits at head (Copy from to count) xs = when (nat_le (from + count) (length xs) && nat_le (to + count) (length xs)) Done (list_with_copy xs from xs to count)
 outcome number bits at head (Fill from to value) xs = when (nat_le from to && nat_le to (length xs)) Done (with_filled xs from to value)
 
--- the reply to a command of this outcome
+-- the reply to a command of this outcome: `PastEnd` where it is none
 abbrev pub reply_in : Option (Reply ℕ × List Bool) → Reply ℕ
 reply_in None = PastEnd
 reply_in (Some both) = both.0

@@ -62,7 +62,7 @@ IsSameNumber v w = v ≡ w
 abbrev pub IsTurned : ℕ → (ℕ → ℕ) → (ℕ → ℕ) → ℕ → ℕ → Type 0
 IsTurned bits at other_at v w = (i : ℕ) → i < bits → digit w (other_at i) ≡ digit v (at i)
 
--- the command names bits and no word
+-- the command names bits and no word: it is `Read`, `Replace`, `Swap`, `Copy` or `Fill`
 abbrev pub IsBitCommand : {W : Type 0} → Command W → Type 0
 IsBitCommand (Read i) = Unit {0}
 IsBitCommand (Replace i b) = Unit {0}
@@ -75,8 +75,8 @@ IsBitCommand (Set k) = ⊥
 IsBitCommand (Clear k) = ⊥
 IsBitCommand (Invert k) = ⊥
 
--- In two memories, of any widths and orders, as many spans have equal lists, each with the one at its place. Then the same
--- requests, all of bit commands, get each span the same replies, and leave it equal lists.
+-- In each of two memories, of any widths and orders, lie n spans, and span s of the one has the same list as span s of
+-- the other. Then the same requests, all of bit commands, get each span the same replies, and leave it equal lists.
 abbrev pub BitCommandsAgree : {V W : Type 0} → (V → ℕ) → ℕ → (ℕ → ℕ) → (W → ℕ) → ℕ → (ℕ → ℕ) → Type 0
 BitCommandsAgree {V} {W} number bits at other_number other_bits other_at =
     (spans other_spans : List Span) (memory other_memory : List ℕ) (requests : List (Request V)) (other_requests : List (Request W))
@@ -86,9 +86,9 @@ BitCommandsAgree {V} {W} number bits at other_number other_bits other_at =
     → let here = alone_from number bits at span memory s requests in let there = alone_from other_number other_bits other_at other other_memory s other_requests in
     AllZip (AreSameReplies IsSameNumber) here.0 there.0 × (here.1 ≡ there.1)
 
--- In two memories, each under an order of its own, as many spans have equal heads and equal lists, each with the one at its
--- place. Then the same requests, the numbers of `Store` turned, get each span the same replies, the numbers of `Word`
--- turned, and leave it equal lists.
+-- In each of two memories, under orders of their own, lie n spans, and span s of the one has the same head and the same
+-- list as span s of the other. Then the same requests, the numbers of `Store` turned, get each span the same replies, the
+-- numbers of `Word` turned, and leave it equal lists.
 abbrev pub TurnedOrdersAgree : {W : Type 0} → (W → ℕ) → ℕ → (ℕ → ℕ) → (ℕ → ℕ) → Type 0
 TurnedOrdersAgree {W} number bits at other_at =
     (spans other_spans : List Span) (memory other_memory : List ℕ) (requests other_requests : List (Request W))

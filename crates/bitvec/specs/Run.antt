@@ -45,7 +45,7 @@ abbrev pub alone_from : {W : Type 0} → (W → ℕ) → ℕ → (ℕ → ℕ) �
 alone_from number bits at span words s requests = alone number bits at span.head (own_commands s requests) (list_of bits at span words)
 
 -- the reply to a request behind others, from the memory before them: what its command gives on its span's list as the
--- span's own commands among the others have left it; there may be no such span
+-- span's own commands among the others have left it, and `NoSpan` where there is no such span
 abbrev pub reply_behind : {S W : Type 0} → (W → ℕ) → ℕ → (ℕ → ℕ) → (S → Span) → List ℕ → List (Request W) → Request W → Option S → Reply ℕ
 reply_behind number bits at view words others request None = NoSpan
 reply_behind number bits at view words others request (Some span) =

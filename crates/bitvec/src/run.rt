@@ -198,9 +198,9 @@ fn sorted_apart<R: BitRegister, O>(spans: &[BitSpan<R, O>], order: &[usize]) -> 
 /// The answer of [`can_run`], found in time n log n for n spans whatever their order, with room for
 /// a number for each.
 ///
-/// The room has as many numbers as there are spans. Where all spans fit, it holds their numbers
-/// afterwards, each once, in an order in which their first bits rise; where one does not, it stays
-/// as it was. Not in the Rust crate.
+/// The room has n numbers. Where all spans fit, it holds their numbers afterwards, each once, in an
+/// order in which their first bits rise; where one does not, it stays as it was. Not in the Rust
+/// crate.
 ///
 /// # Examples
 ///
@@ -254,8 +254,8 @@ fn serve<R: BitRegister, O: BitOrder<R>>(
 /// Gives the spans of one memory the commands of the requests, in their order, and writes reply n
 /// to request n.
 ///
-/// [`can_run`] of the memory's length is the test of the spans, and there are as many replies as
-/// requests. Each span's replies are those that its own list of bits gives under its own commands
+/// [`can_run`] of the memory's length is the test of the spans, and there is one reply for each
+/// request. Each span's replies are those that its own list of bits gives under its own commands
 /// alone; a request that names no span gets [`Reply::NoSpan`]. In the end each span has the list
 /// that its commands leave, and every other bit of the memory is as before. A refused command
 /// changes nothing. Each request costs what its command does: constant time for one word or bit,

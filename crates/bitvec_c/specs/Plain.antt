@@ -33,8 +33,9 @@ AllApart bits spans = AllPairs (λ a b. AreDisjoint bits (plain_span bits a) (pl
 abbrev pub lowest : ℕ → Bool
 lowest number = number % 2 == 1
 
--- the command of a code up to 9, of which the numbers are those of the request; a stored number loses its digits past the
--- width of a word
+-- The command of a request by its code: 0 `Load`, 1 `Store`, 2 `Set`, 3 `Clear`, 4 `Invert`, 5 `Read`, 6 `Replace`, 7
+-- `Swap`, 8 `Copy`, and `Fill` for each code past 8. Its numbers are those of the request: a stored number loses its
+-- digits past the width of a word, and a bit is the lowest digit of the number.
 abbrev pub plain_command : ℕ → PlainRequest → Command ℕ
 plain_command bits request =
     if request.command == 0 then Load request.a else
@@ -71,7 +72,8 @@ pub record IsPlainReply (reply : PlainReply) : Type 0 where
   pub bit : reply.kind ≡ 1 → reply.number ≤ 1
   pub none : 2 ≤ reply.kind → reply.number ≡ 0
 
--- the requests got the replies, and made the memory `new` of `old`
+-- the requests got the replies, and made the memory `new` of `old`: `IsRun` of what the requests and the replies stand
+-- for, each reply an `IsPlainReply`
 pub record IsPlainRun (bits : ℕ) (at : ℕ → ℕ) (spans : List PlainSpan) (old : List ℕ) (requests : List PlainRequest) (replies : List PlainReply) (new : List ℕ) : Type 0 where
   pub run : IsRun (λ n. n) bits at (plain_span bits) spans old (map (plain_request bits) requests) (map reply_of replies) new
   pub plain : All IsPlainReply replies

@@ -20,7 +20,7 @@ use Rattle.bitvec_domain.proofs.SplitLemmas.{parts-disjoint, covers-before, cove
 pub fits-numbers : {W : Type 0} (bits : ℕ) (span : Span) (number : W → ℕ) (memory : List W) → Fits bits span (length memory) → Fits bits span (length (map number memory))
 fits-numbers bits span number memory fits = subst (λ n. Fits bits span n) (sym (length-map memory number)) fits
 
--- as many words have as many numbers
+-- the numbers of two lists of words of one length are two lists of one length
 pub numbers-many : {W : Type 0} (number : W → ℕ) (old new : List W) → length new ≡ length old → length (map number new) ≡ length (map number old)
 numbers-many number old new many = length-map new number ∙ many ∙ sym (length-map old number)
 
@@ -217,8 +217,8 @@ pub record LiesIn (bits : ℕ) (span : Span) (words : ℕ) : Type 0 where
   pub in_head : span.head < bits
   pub fits : Fits bits span words
 
--- the bits of a span in one memory were copied to the places of another span of as many bits,
--- which made `new` of `old`
+-- the bits of a span in one memory were copied to the places of another span of the same length, which made `new` of
+-- `old`
 pub record IsCopied (wide : ℕ) (place_in : ℕ → ℕ) (source : Span) (from : List ℕ)
     (bits : ℕ) (at : ℕ → ℕ) (span : Span) (old new : List ℕ) : Type 0 where
   pub len : source.len ≡ span.len
@@ -324,7 +324,7 @@ pub range-apart : (bits : ℕ) (span : Span) (from to : ℕ) → 0 < bits → fr
 range-apart bits span from to some rises within other apart place here there =
     apart place (covers-before bits span to some within place (covers-behind bits (span_upto span to) from some rises place here)) there
 
--- two ranges of as many bits
+-- two ranges of `count` bits each are of one length
 pub range-len : (bits : ℕ) (span : Span) (from to count : ℕ) (source target : Span) → source ≡ span_range bits span from (from + count) → target ≡ span_range bits span to (to + count) → source.len ≡ target.len
 range-len bits span from to count source target e f =
     let a : source.len ≡ from + count - from = ap (λ (s : Span). s.len) e in

@@ -43,7 +43,7 @@ high-at zero w k h = absurd (omega (arith, h))
 high-at (suc n) w zero h = ap (λ m. byte_at m w) (let same : n ≡ suc n - 1 - 0 = omega arith in same)
 high-at (suc n) w (suc k) h = high-at n w k (omega (arith, h)) ∙ ap (λ m. byte_at m w) (let same : n - 1 - k ≡ suc n - 1 - suc k = omega arith in same)
 
--- The bits of one word are those of as many bytes as it has, where each byte's digit at an index's position is the word's
+-- The bits of one word of n bytes are those of n bytes, where each byte's digit at an index's position is the word's
 -- digit at that of the index in the word.
 one_word : (n : ℕ) (at at_byte : ℕ → ℕ) (w : ℕ) (bytes : List ℕ) → length bytes ≡ n
     → ((j : ℕ) → j < n * 8 → digit (slice_index bytes (j / 8)) (at_byte (j % 8)) ≡ digit w (at j))

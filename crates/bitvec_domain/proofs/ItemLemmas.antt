@@ -173,7 +173,7 @@ module _ (bits : ℕ) (at : ℕ → ℕ) (span : Span) (words : List ℕ) (in_he
       ∙ tabulate_same (words_met bits span.head span.len) value_at (word_of bits at span.head (list_of bits at span words)) 0 (λ k h. value_of-part_of bits at span words k in_head h)
       ∙ ap (λ n. tabulate (words_met bits span.head n) (word_of bits at span.head (list_of bits at span words))) (sym (length-list_of bits at span words))
 
-  -- so many whole words are no more than a span's bits can fill
+  -- n whole words of a span are no more than the bits of the longest span fill
   filled : (n : ℕ) → span.len ≤ region_max_bits → n * bits ≤ span.len → n ≤ region_max_bits / bits
   filled n short fills = le-div n region_max_bits bits (omega arith) (omega arith)
 
@@ -249,7 +249,7 @@ length-items_region bits at number head body tail a b first last =
     let long : length values ≡ length body = length-map (map number body) _ ∙ length-map body number in
     omega (arith, long, length-part_items bits at head a first, length-part_items bits at tail b last, length-append (part_items bits at head) (values ++ part_items bits at tail), length-append values (part_items bits at tail))
 
--- and that so many can be counted, where the body is short
+-- and that the number of items can be counted, where the body is short
 byte_most : (b : Bool) → bool_byte b ≤ 1
 byte_most true = omega arith
 byte_most false = omega arith

@@ -11,7 +11,7 @@ use Rattle.bitvec_domain.specs.Truths.{ones_in, AllAre, IsFirst}
 use Rattle.bitvec_domain.proofs.PartLemmas.{element-list_of, length-list_of}
 use Rattle.bitvec_domain.proofs.ZipLemmas.{length-zip_with}
 
--- The pairs of a span in a memory with another of as many bits in another memory, each made one bit by f.
+-- The pairs of a span in a memory with another span of the same length in another memory, each made one bit by f.
 pub record ArePairs (f : Bool → Bool → Bool) (bits : ℕ) (at : ℕ → ℕ) (span : Span) (words : List ℕ) (bits2 : ℕ) (at2 : ℕ → ℕ) (other : Span)
     (others : List ℕ) (pair : ℕ → Bool) (count : ℕ) : Type 0 where
   pub same : other.len ≡ span.len
@@ -44,7 +44,7 @@ module _ (f : Bool → Bool → Bool) (bits : ℕ) (at : ℕ → ℕ) (span : Sp
       ∙ ap (f (bit_of bits at words (nat_abs span.word * bits + span.head + j))) (element-list_of bits2 at2 other others j (omega (arith, one, long, are.same)))
       ∙ sym (are.pairs j)
 
-  -- so many pairs as are one
+  -- `total` is the number of the pairs that are one
   pub pairs_ones : (total : ℕ) → total ≡ count_below pair count
       → total ≡ ones_in (zip_with f (list_of bits at span words) (list_of bits2 at2 other others))
   pairs_ones total e = e ∙ sym (ap (count_below (element (zip_with f xs ys))) many ∙ count_below-same (element (zip_with f xs ys)) pair count each)

@@ -31,7 +31,7 @@ module _ (bits : ℕ) (span : Span) (mid : ℕ) (some : 0 < bits) (within : mid 
   pub place_behind : place_at bits (span_from bits span mid).word (span_from bits span mid).head ≡ place_at bits span.word span.head +ℤ pos mid
   place_behind = step_place span.word (pos ((span.head + mid) / bits)) (pos mid) (pos (span.head + mid)) span.head _ bits some refl refl refl
 
-  -- a span from the pointer on that is as many bits past the first is the second part
+  -- a span from the pointer on that is `mid` bits past the first is the second part
   pub behind-from_start : (first start : Ptr) (word : ℤ) (head : ℕ) → start.bit < bits → first ≡ record { word = span.word; bit = span.head } → place_of bits start ≡ place_of bits first +ℤ pos mid
       → word ≡ start.word → head ≡ start.bit → record { word = word; head = head; len = span.len - mid } ≡ span_from bits span mid
   behind-from_start first start word head small is_first place is_word is_head =

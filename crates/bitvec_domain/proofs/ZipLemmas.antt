@@ -2,7 +2,7 @@
 use Rattle.std.proofs.Common.{◌≡◌, ℕ, zero, suc, List, [], ◌∷◌, length, take, refl, ap, arith}
 use Rattle.bitvec_ptr.specs.Memory.{zip_with}
 
--- lists of one length give as many
+-- two lists of one length give a list of that length
 pub length-zip_with : {A B C : Type 0} (f : A → B → C) (xs : List A) (ys : List B) → length ys ≡ length xs → length (zip_with f xs ys) ≡ length xs
 unfolding zip_with
 length-zip_with f [] ys e = refl

@@ -35,7 +35,8 @@ abbrev pub bit_loans_of : {R O : Type 0} {a b c d e f g : _} → BitDomainMut R 
 bit_loans_of (Enclave stretch) = (words_loan stretch, None)
 bit_loans_of (Region head body tail) = (words_loan head, Some (words_loan body, words_loan tail))
 
--- s ends as the last words behind the loans of the stretches of a span's domain, one behind the other, and where there is no head or no tail its words are as they were
+-- when the loans of the stretches of a span's domain end, s ends as the last words behind them, one behind the other, and
+-- the words of an absent head or tail are as they were
 abbrev pub LendsBits : (R : RattleType) {O : Type 0} {a b c d e f g : _} → ℕ → Span → MutBor (List R.Denot) → BitDomainMut R.Denot O a b c d e f g → Fml
 LendsBits R bits span s domain = LendsNamed R s (words_before span) (body_words bits span) (names_if (has_head span) (has_tail bits span) (bit_loan_names domain))
 

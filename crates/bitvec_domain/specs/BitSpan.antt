@@ -9,11 +9,13 @@ use Rattle.bitvec_domain.specs.Span.{Span, list_of, BecomesList}
 abbrev pub span_of : {R O : Type 0} {a b c d e f g : _} → BitSpan R O a b c d e f g → Span
 span_of span = record { word = span.word; head = span.head; len = span.len }
 
--- the truth values at a span's places in a memory of words as it is of, by the positions of an order
+-- the truth values at a span's places in a memory of words as it is of, by the positions of an order: `list_of` by the
+-- span's own width and numbers
 abbrev pub list_by : {R O : Type 0} {a b c d e f g : _} → BitSpan R O a b c d e f g → (ℕ → ℕ) → List R → List Bool
 list_by {a = own} span at words = list_of own.BITS at (span_of span) (map own.number words)
 
--- a span's bits in a memory become those of a list, by the positions of an order, and all else stays
+-- a span's bits in a memory become those of a list, by the positions of an order, and all else stays: `BecomesList` by
+-- the span's own width and numbers
 abbrev pub Becomes : {R O : Type 0} {a b c d e f g : _} → BitSpan R O a b c d e f g → (ℕ → ℕ) → List R → List R → List Bool → Type 0
 Becomes {a = own} span at old new xs = BecomesList own.BITS at (span_of span) (map own.number old) (map own.number new) xs
 

@@ -21,7 +21,8 @@ abbrev pub loan_names : {R O : Type 0} {a b c d e f g : _} → DomainMut R O a b
 loan_names (Enclave part) = (part_name (Some part), None, None)
 loan_names (Region head body tail) = (part_name head, Some body.ghost_name, part_name tail)
 
--- s ends as the last words behind the loans of a span's domain, one behind the other, and the words of an absent part are as they were
+-- when the loans of a span's domain end, s ends as the last words behind them, one behind the other, and the words of an
+-- absent part are as they were
 abbrev pub LendsDomain : (R : RattleType) {O : Type 0} {a b c d e f g : _} → ℕ → Span → MutBor (List R.Denot) → DomainMut R.Denot O a b c d e f g → Fml
 LendsDomain R bits span s domain = LendsNamed R s (words_before span) (body_words bits span) (loan_names domain)
 

@@ -27,7 +27,8 @@ part_head head k = if k == 0 then head else 0
 abbrev pub part_tail : ℕ → ℕ → ℕ → ℕ → ℕ
 part_tail bits head len k = if k + 1 == words_met bits head len then tail_of bits head len else bits
 
--- the part of the k-th word that a span meets
+-- the part of the k-th word that a span meets: from the span's head in the first word and from 0 in each other one, to
+-- the span's tail in the last word and to the width in each other one
 abbrev pub part_of : ℕ → Span → List ℕ → ℕ → Part
 part_of bits span words k = record { word = slice_index words (nat_abs span.word + k); head = part_head span.head k; tail = part_tail bits span.head span.len k }
 
@@ -93,10 +94,11 @@ parts_before_last (region head body (Some tail)) = region head body None
 parts_before_last (region head (word ∷ body) None) = region head (take (length body) (word ∷ body)) None
 parts_before_last (region head [] None) = no_parts
 
--- the parts that a call leaves which takes the first item, whose body is short where it was
+-- a call of `next`, which takes the first item of `old`, leaves the parts `new`, and a body that was short stays short
 abbrev pub LeavesAfterFirst : ℕ → Parts → Parts → Type 0
 LeavesAfterFirst bits old new = (new ≡ parts_after_first old) × (HasShortBody bits old → HasShortBody bits new)
 
--- those that a call leaves which takes the last
+-- a call of `next_back`, which takes the last item of `old`, leaves the parts `new`, and a body that was short stays
+-- short
 abbrev pub LeavesBeforeLast : ℕ → Parts → Parts → Type 0
 LeavesBeforeLast bits old new = (new ≡ parts_before_last old) × (HasShortBody bits old → HasShortBody bits new)

@@ -81,7 +81,7 @@ same_digit at test n p other =
           ∙ sym none)
     ]
 
--- a number made from chosen indices has as many ones as indices are chosen
+-- the number of ones of a number made from the chosen indices below n is the number of these indices
 pub count_chosen : (width : ℕ) (at : ℕ → ℕ) (test : ℕ → Bool) → IsOneToOne width at → (n : ℕ) → n ≤ width → count_below (digit (number_of at test n)) width ≡ count_below test n
 unfolding count_below
 count_chosen width at test law zero h =
@@ -100,7 +100,7 @@ count_chosen width at test law (suc n) h =
           rw is_off (omega (arith, same, rest)))
     ]
 
--- a word has as many ones by its positions as by the indices of an order
+-- the number of a word's ones is the same by its positions and by the indices of an order
 pub count_by_index : (width : ℕ) (at : ℕ → ℕ) (w : ℕ) → IsOneToOne width at → w < 2 ^ width
     → count_below (digit w) width ≡ count_below (λ i. digit w (at i)) width
 count_by_index width at w law below =

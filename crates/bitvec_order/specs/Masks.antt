@@ -4,7 +4,7 @@ use Rattle.std.specs.List.{list_any}
 use Rattle.bitvec_mem.specs.Digit.{digit}
 use Rattle.bitvec_order.specs.Order.{mask_start, mask_end}
 
--- the ones of n are the positions below the width that pass a test
+-- n is below two to the width, and its ones are the positions below the width that pass a test
 pub record HasDigits (width n : ℕ) (test : ℕ → Bool) : Type 0 where
   pub below : n < 2 ^ width
   pub digits : (p : ℕ) → p < width → digit n p ≡ test p

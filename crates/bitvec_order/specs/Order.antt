@@ -15,7 +15,7 @@ mask_end width upto = unwrap_or upto width
 abbrev pub IsPositionIn : (ℕ → ℕ) → ℕ → ℕ → ℕ → Type 0
 IsPositionIn at from upto p = (i : ℕ) × (from ≤ i) × (i < upto) × (at i ≡ p)
 
--- the ones of n are the positions of the indices from `from` to before `upto`
+-- n is below two to the width, and its ones are the positions of the indices from `from` to before `upto`
 pub record IsMaskOf (width : ℕ) (at : ℕ → ℕ) (from upto n : ℕ) : Type 0 where
   pub below : n < 2 ^ width
   pub ones : (p : ℕ) → p < width → IsTrue (digit n p) ↔ IsPositionIn at from upto p
@@ -25,11 +25,11 @@ pub record IsOneToOne (width : ℕ) (at : ℕ → ℕ) : Type 0 where
   pub below : (i : ℕ) → i < width → at i < width
   pub apart : (i j : ℕ) → i < width → j < width → at i ≡ at j → i ≡ j
 
--- the position of each index is the index
+-- the position of each index below the width is the index
 abbrev pub Rises : ℕ → (ℕ → ℕ) → Type 0
 Rises bits at = (i : ℕ) → i < bits → at i ≡ i
 
--- the position of each index is the index counted down from the highest
+-- the position of each index below the width is the index counted down from the highest
 abbrev pub Falls : ℕ → (ℕ → ℕ) → Type 0
 Falls bits at = (i : ℕ) → i < bits → at i ≡ bits - 1 - i
 

@@ -2,7 +2,7 @@
 use Rattle.std.specs.Prelude.{ℕ, false, List, ◌++◌, codes}
 use Rattle.bitvec_mem.specs.Numeral.{numeral}
 
--- a number in binary, with zeros before it up to so many digits
+-- a number in binary, with zeros before it up to `digits` digits
 abbrev pub binary_text : ℕ → ℕ → List ℕ
 binary_text digits n = numeral 2 false digits n
 

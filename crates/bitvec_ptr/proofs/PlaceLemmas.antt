@@ -37,7 +37,7 @@ div_up bits n some h =
     let rest = mod_below (n - 1) bits some in
     div-eq_of_lt-le bits (omega arith) (omega arith)
 
--- the words met and the tail, from what an index tells of so many bits
+-- the words met and the tail, from what an index tells of `count` bits
 pub words_met-from_span : (bits index head count n : ℕ) → 0 < bits → index ≡ head → (count ≡ 0 → n ≡ 0) → (0 < count → n ≡ (index + count + (bits - 1)) / bits) → n ≡ words_met bits head count
 words_met-from_span bits index head count n some same empty elements =
     elim (cases_eq count 0) [

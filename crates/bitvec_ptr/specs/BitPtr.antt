@@ -13,11 +13,13 @@ ptr_of ptr = record { word = ptr.word; bit = ptr.bit }
 abbrev pub dangling : {R O : Type 0} {a b c d e f g : _} → BitPtr R O a b c d e f g
 dangling = record { word = pos 0; bit = 0; of = record {}; in_word = zero-le }
 
--- the place of a pointer into a memory, as an index of the list of the memory's bits
+-- the place of a pointer into a memory, as an index of the list of the memory's bits: `index_of` by the pointer's own
+-- width and numbers
 abbrev pub index_at : {R O : Type 0} {a b c d e f g : _} → BitPtr R O a b c d e f g → ℕ
 index_at {a = own} ptr = index_of own.BITS (ptr_of ptr)
 
--- the bits of a memory of such words as the pointer is into, by the positions of an order
+-- the bits of a memory of such words as the pointer is into, by the positions of an order: `memory_bits` by the pointer's
+-- own width and its words' numbers
 abbrev pub bits_by : {R O : Type 0} {a b c d e f g : _} → BitPtr R O a b c d e f g → (ℕ → ℕ) → List R → List Bool
 bits_by {a = own} ptr at words = memory_bits own.BITS at (map own.number words)
 

@@ -8,7 +8,8 @@ use Rattle.bitvec_ptr.specs.Memory.{bit_of}
 abbrev pub pair_of : (Bool → Bool → Bool) → ℕ → (ℕ → ℕ) → List ℕ → ℕ → ℕ → (ℕ → ℕ) → List ℕ → ℕ → ℕ → Bool
 pair_of f bits at words t bits2 at2 others s j = f (bit_of bits at words (t + j)) (bit_of bits2 at2 others (s + j))
 
--- f of bit j of those from a pointer on, and of bit j of those from another pointer on
+-- what `of` makes of two bits, each in a memory of its own: bit j of those from a pointer on, and bit j of those from
+-- another pointer on
 abbrev pub pair_by : {R O R2 O2 : Type 0} {a b c d e f g a2 b2 c2 d2 e2 f2 g2 : _} → (Bool → Bool → Bool)
     → BitPtr R O a b c d e f g → (ℕ → ℕ) → List R → BitPtr R2 O2 a2 b2 c2 d2 e2 f2 g2 → (ℕ → ℕ) → List R2 → ℕ → Bool
 pair_by of ptr at words other at2 others j = of (bit_by ptr at words j) (bit_by other at2 others j)

@@ -10,7 +10,7 @@ use Rattle.bitvec.specs.Span.{element}
 abbrev pub position_of : ℕ → Bool → ℕ → ℕ
 position_of bits rises i = if rises then i else bits - 1 - i
 
--- the positions of an order rise with the index, or fall
+-- the positions of an order all rise with the index, or all fall: each index below the width has `position_of` of it
 pub record IsSequential (bits : ℕ) (rises : Bool) (at : ℕ → ℕ) : Type 0 where
   pub positions : (i : ℕ) → i < bits → at i ≡ position_of bits rises i
 
@@ -22,7 +22,8 @@ stretch_start bits head k = k * bits - head
 abbrev pub stretch_end : ℕ → ℕ → ℕ → ℕ → ℕ
 stretch_end bits head len k = min len (k * bits + bits - head)
 
--- the element as far from the last that its word has as element j is from the first
+-- the number of an element in the word of element j: it stands as far before the last of the word's elements as element j
+-- stands behind the first of them
 abbrev pub mirrored : ℕ → ℕ → ℕ → ℕ → ℕ
 mirrored bits head len j = let k = (head + j) / bits in stretch_start bits head k + stretch_end bits head len k - 1 - j
 

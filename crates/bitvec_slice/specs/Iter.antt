@@ -18,8 +18,8 @@ iter_span {a = own} it = span_range own.BITS (slice_span it.slice) it.next it.en
 abbrev pub iter_left : {R O : Type 0} {a b c d e f g h i : _} → Iter R O a b c d e f g h i → List Bool
 iter_left {a = own} {i = order} it = list_of own.BITS order.at_of (iter_span it) (map own.number (iter_memory it))
 
--- A fact of the type of an iterator, and not of the one that is named: whichever one of this type a run of calls begins
--- with, the run gives the bits that it had left, in order.
+-- Each run of calls gives the bits that its iterator had left, in order. This holds whichever iterator the run begins
+-- with: the one that is named here only says of which type it is.
 abbrev pub GivesBitsInOrder : {R O : Type 0} {a b c d e f g h i : _} → Iter R O a b c d e f g h i → Type 0
 GivesBitsInOrder {R = R} {O = O} {a = a} {b = b} {c = c} {d = d} {e = e} {f = f} {g = g} {h = h} {i = i} it = YieldsInOrder (YieldsFirst (iter_left {R = R} {O = O} {a = a} {b = b} {c = c} {d = d} {e = e} {f = f} {g = g} {h = h} {i = i})) iter_left
 

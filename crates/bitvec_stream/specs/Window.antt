@@ -11,8 +11,8 @@ pub record IsWindow (bits : ℕ) (xs : List Bool) (place kept w : ℕ) : Type 0 
   pub shown : (j : ℕ) → j < kept → digit w (bits - 1 - j) ≡ element xs (place + j)
   pub clean : (p : ℕ) → p + kept < bits → digit w p ≡ false
 
--- A word of `bits` digits keeps `kept` elements of a list under an order, from element `place` on: the first is its digit at
--- the order's first position, the others follow, and the digits at the positions behind theirs are zero.
+-- A word of `bits` digits keeps `kept` elements of a list under an order: its digit at the position of index j is element
+-- `place + j`. Its digits at the positions of the indices from `kept` on are zero.
 pub record Keeps (bits : ℕ) (at : ℕ → ℕ) (xs : List Bool) (place kept w : ℕ) : Type 0 where
   pub shown : (j : ℕ) → j < kept → digit w (at j) ≡ element xs (place + j)
   pub clean : (j : ℕ) → kept ≤ j → j < bits → digit w (at j) ≡ false
@@ -27,10 +27,9 @@ pub record IsNumberOf (bits : ℕ) (at : ℕ → ℕ) (xs : List Bool) (count n 
   pub falls : Falls bits at → n ≡ number_be (take count xs)
   pub rises : Rises bits at → n ≡ number_le (take count xs)
 
--- A word of those that a list meets under a head may be known, in an order whose positions fall: where `kept` is not 0, it is
--- word m, which the list has from its first bit on, and which ends where element `end` begins; and w is its number, turned
--- round at a place among its elements. The `kept` elements behind that place are the digits of w from the highest down, and
--- those before it, from the last back, the digits from the lowest up.
+-- What a writer knows of the word where it stands; nothing where `kept` is 0. Else the order's positions fall, and w has
+-- the elements of word m, a whole word of the list, which ends before element `end`. The last `kept` of them are the
+-- digits of w from the highest down; those before them, from the last back, are its digits from the lowest up.
 pub record IsKnown (bits : ℕ) (at : ℕ → ℕ) (head : ℕ) (xs : List Bool) (end kept m w : ℕ) : Type 0 where
   pub falls : 0 < kept → Falls bits at
   pub whole : 0 < kept → (kept ≤ bits) × (head ≤ m * bits) × (head + end ≡ m * bits + bits)

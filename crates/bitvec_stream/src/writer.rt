@@ -62,6 +62,7 @@ pub struct BitWriter<'a, R: BitRegister, O: BitOrder<R>> {
     word: usize,
     window: u128,
     pub ghost fits: { Fits R.BITS (span_of span) (length memory.now) },
+    // The span's list has the length of the span, whatever the words of the memory are.
     pub ghost many: { HasLength R.BITS O.at_of (span_of span) },
     pub ghost within: { end ≤ (span_of span).len },
     pub ghost behind: { kept ≤ end },

@@ -16,7 +16,8 @@ pub record Candidate : Type 0 where
 abbrev pub candidate : ℕ → (ℕ → ℕ) → (ℕ → ℕ) → (Option ℕ → Option ℕ → ℕ) → Candidate
 candidate width at select mask = record { width = width; at = at; select = select; mask = mask }
 
--- the candidate is an order of its register
+-- the candidate is an order of its register: its positions are one to one, and its selectors and its masks are those of
+-- its positions
 pub record IsLawful (c : Candidate) : Type 0 where
   pub one_to_one : IsOneToOne c.width c.at
   pub selects : SelectsPositions c.width c.at c.select

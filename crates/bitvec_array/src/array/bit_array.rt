@@ -48,7 +48,8 @@ pub struct BitArray<O: BitOrder<usize>, const N: usize> {
     pub(crate) words: [usize; N],
     pub(crate) of: PhantomData<O>,
 
-    // A contract sees the positions of a type's order where one of its ghost fields names them.
+    // This holds of each array, and claims nothing: a contract can name the positions of a type's
+    // order only where one of its ghost fields does.
     pub ghost positions: { O.at_of 0 ≡ O.at_of 0 },
 }
 

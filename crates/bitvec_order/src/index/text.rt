@@ -38,7 +38,7 @@ fn write_debug<R: BitRegister, W: fmt::Write>(
     f.write_str(")")
 }
 
-/// The number in binary, to as many digits as an index of the register needs.
+/// The number in binary, with zeros before it up to `R::INDX` digits.
 impl<R: BitRegister> fmt::Binary for BitIdx<R> {
     fn fmt<W: fmt::Write>(&self, f: &mut fmt::Formatter<W>) -> fmt::Result
         ensures writes { WritesOnOk W.write_str_gives f.old result (binary_text R.INDX self.now)
@@ -144,7 +144,7 @@ impl<R: BitRegister> fmt::Debug for BitEnd<R> {
     }
 }
 
-/// The number in binary, to as many digits as an index of the register needs.
+/// The number in binary, with zeros before it up to `R::INDX` digits.
 impl<R: BitRegister> fmt::Binary for BitPos<R> {
     fn fmt<W: fmt::Write>(&self, f: &mut fmt::Formatter<W>) -> fmt::Result
         ensures writes { WritesOnOk W.write_str_gives f.old result (binary_text R.INDX self.now)
@@ -181,7 +181,7 @@ impl<R: BitRegister> fmt::Debug for BitPos<R> {
     }
 }
 
-/// The number in binary, to as many digits as the register has.
+/// The number in binary, with zeros before it up to `R::BITS` digits.
 impl<R: BitRegister> fmt::Binary for BitSel<R> {
     fn fmt<W: fmt::Write>(&self, f: &mut fmt::Formatter<W>) -> fmt::Result
         ensures writes { WritesOnOk W.write_str_gives f.old result (binary_text R.BITS self.now)
@@ -218,7 +218,7 @@ impl<R: BitRegister> fmt::Debug for BitSel<R> {
     }
 }
 
-/// The number in binary, to as many digits as the register has.
+/// The number in binary, with zeros before it up to `R::BITS` digits.
 impl<R: BitRegister> fmt::Binary for BitMask<R> {
     fn fmt<W: fmt::Write>(&self, f: &mut fmt::Formatter<W>) -> fmt::Result
         ensures writes { WritesOnOk W.write_str_gives f.old result (binary_text R.BITS self.now)

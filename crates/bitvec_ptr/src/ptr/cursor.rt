@@ -81,7 +81,7 @@ impl<R: BitRegister> Cursor<R> {
         Cursor::new(self.word + count / width + bit / width, (bit % width) as u8)
     }
 
-    // The place as many places on as `count` words of another register have.
+    // The place `count * R2::BITS` places on: as far as `count` words of another register go.
     #[inline(always)]
     pub(super) fn words_on<R2: BitRegister>(self, count: usize) -> Self
         requires short { count * R2.BITS ≤ usize.MAX }

@@ -123,8 +123,8 @@ impl<'a, R: Copy> WordWriter<'a, R> {
         self.mark
     }
 
-    /// How many words were put, at most as many as there are on the side of the mark that the
-    /// writer comes from. Constant time.
+    /// How many words were put, at most the number of words on the side of the mark that the writer
+    /// comes from. Constant time.
     pub fn writes(&self) -> usize
         ensures value { result ≡ (writer_of self.now).writes }
         ensures most { result ≤ length (writer_of self.now).words }

@@ -40,6 +40,7 @@ pub struct BitSlice<'a, R: BitRegister, O: BitOrder<R>> {
     pub(crate) memory: &'a [R],
     pub(crate) span: BitSpan<R, O>,
     pub ghost fits: { Fits R.BITS (span_of span) (length memory.now) },
+    // The span's list has the length of the span, whatever the words of the memory are.
     pub ghost many: { HasLength R.BITS O.at_of (span_of span) },
 }
 

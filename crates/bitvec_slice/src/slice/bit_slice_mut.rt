@@ -43,6 +43,7 @@ pub struct BitSliceMut<'a, R: BitRegister, O: BitOrder<R>> {
         ≤ℤ greatest_isize },
     pub ghost fits: { Fits R.BITS (record { word = word; head = head; len = len })
         (length memory.now) },
+    // The span's list has the length of the span, whatever the words of the memory are.
     pub ghost many: { HasLength R.BITS O.at_of (record { word = word; head = head; len = len }) },
 }
 

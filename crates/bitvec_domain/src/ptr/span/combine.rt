@@ -19,9 +19,9 @@ impl<R: BitRegister, O: BitOrder<R>> BitSpan<R, O> {
     /// the span's, and leaves every other bit as it is.
     ///
     /// Each bit becomes what `C` makes of it and of the other span's bit of that number. Requires
-    /// that each span [`fits`](BitSpan::fits) its memory, and that they have as many bits. Costs by
-    /// words where both orders rise, both fall, or are one order with both spans at the same bit of
-    /// a word; else by bits. Not in the Rust crate.
+    /// that each span [`fits`](BitSpan::fits) its memory, and that both have the same length. Costs
+    /// by words where both orders rise, both fall, or are one order with both spans at the same bit
+    /// of a word; else by bits. Not in the Rust crate.
     ///
     /// # Examples
     ///
@@ -204,7 +204,7 @@ impl<R: BitRegister, O: BitOrder<R>> BitSpan<R, O> {
         source.combine_to_range::<C>(memory, target);
     }
 
-    // Combines the bits of the span with those of another of as many in the same memory.
+    // Combines the bits of the span with those of another of the same length in the same memory.
     fn combine_to_range<C: Combine>(self, memory: &mut [R], target: Self)
         requires source_fits { Fits R.BITS (span_of self) (length memory.old) }
         requires fits { Fits R.BITS (span_of target) (length memory.old) }

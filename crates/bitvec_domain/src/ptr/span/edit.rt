@@ -124,7 +124,7 @@ impl<R: BitRegister, O: BitOrder<R>> BitSpan<R, O> {
         source.copy_to_range(memory, target);
     }
 
-    // Copies the bits of the span to those of another of as many in the same memory.
+    // Copies the bits of the span to those of another of the same length in the same memory.
     fn copy_to_range(self, memory: &mut [R], target: Self)
         requires source_fits { Fits R.BITS (span_of self) (length memory.old) }
         requires fits { Fits R.BITS (span_of target) (length memory.old) }
@@ -138,9 +138,9 @@ impl<R: BitRegister, O: BitOrder<R>> BitSpan<R, O> {
     /// Copies the bits of another span in a memory of its own, of any register and order, to the
     /// span's, and leaves every other bit as it is.
     ///
-    /// Requires that each span [`fits`](BitSpan::fits) its memory, and that they have as many bits.
-    /// Costs by words where both orders rise, both fall, or are one order with both spans at the
-    /// same bit of a word; else by bits. In place of the Rust crate's
+    /// Requires that each span [`fits`](BitSpan::fits) its memory, and that both have the same
+    /// length. Costs by words where both orders rise, both fall, or are one order with both spans
+    /// at the same bit of a word; else by bits. In place of the Rust crate's
     /// `BitSlice::copy_from_bitslice`.
     ///
     /// # Examples
@@ -236,8 +236,8 @@ impl<R: BitRegister, O: BitOrder<R>> BitSpan<R, O> {
         }
     }
 
-    /// Makes the bits of the span in a memory those of a list of as many, and leaves every other
-    /// bit as it is.
+    /// Makes the bits of the span in a memory those of a list of the same length, and leaves every
+    /// other bit as it is.
     ///
     /// Requires a span that [`fits`](BitSpan::fits). Costs by bits. In place of the Rust crate's
     /// `BitSlice::clone_from_bitslice`.

@@ -18,7 +18,7 @@ impl<R: BitRegister, O: BitOrder<R>> BitSpan<R, O> {
     /// The span's bit stands for the target's and the other's for the source's, so with
     /// [`And`](crate::ptr::combine::And) it is how many are in both sets, with
     /// [`Xor`](crate::ptr::combine::Xor) in how many the two differ. Requires that each span
-    /// [`fits`](BitSpan::fits) its memory, and that they have as many bits. Nothing is copied or
+    /// [`fits`](BitSpan::fits) its memory, and that both have the same length. Nothing is copied or
     /// written. Costs by words where both orders rise, both fall, or are one order with both spans
     /// at the same bit of a word; else by bits. Not in the Rust crate.
     ///
@@ -54,8 +54,8 @@ impl<R: BitRegister, O: BitOrder<R>> BitSpan<R, O> {
     /// [`Xor`](crate::ptr::combine::Xor) it is the first at which the two differ, and with
     /// [`AndNot`](crate::ptr::combine::AndNot) there is none where the span is a subset of the
     /// other. It reads at most 63 of the span's words behind the one that decides, and of the other
-    /// memory as many as hold the bits beside these. Requires that each span
-    /// [`fits`](BitSpan::fits) its memory, and that they have as many bits. Costs by words where
+    /// memory the words that hold the bits beside these. Requires that each span
+    /// [`fits`](BitSpan::fits) its memory, and that both have the same length. Costs by words where
     /// both orders rise, both fall, or are one order with both spans at the same bit of a word;
     /// else by bits. Not in the Rust crate.
     ///

@@ -332,8 +332,8 @@ fn combine_few_falling_within<C: Combine, R: BitRegister, O: BitOrder<R>>(
 }
 
 // Combines whole words with bits of the same memory that lie at or behind them, the first word
-// first, and as many as can be four at a time. It is asked before whether the bits start a word,
-// which they do in one way alone, so that the loop asks nothing.
+// first: four at a time, and then the other `count % 4`. It is asked before whether the bits start
+// a word, which they do in one way alone, so that the loop asks nothing.
 #[inline(always)]
 fn combine_row_rising_within<C: Combine, R: BitRegister, O: BitOrder<R>>(
     way: Way,
@@ -366,8 +366,8 @@ fn combine_row_rising_within<C: Combine, R: BitRegister, O: BitOrder<R>>(
 }
 
 // Combines whole words with bits of the same memory that lie at or before them, the last word
-// first, and as many as can be four at a time. It is asked before whether the bits start a word,
-// which they do in one way alone, so that the loop asks nothing.
+// first: four at a time, and then the other `count % 4`. It is asked before whether the bits start
+// a word, which they do in one way alone, so that the loop asks nothing.
 #[inline(always)]
 fn combine_row_falling_within<C: Combine, R: BitRegister, O: BitOrder<R>>(
     way: Way,
