@@ -7,7 +7,6 @@ use Rattle.std.proofs.lemmas.List.{get_or_default}
 use Rattle.std.proofs.lemmas.Nat.{mul-le, div-add-mod'}
 use Rattle.std.proofs.lemmas.Option.{get_or_from_slice_get}
 use Rattle.bitvec_ptr.specs.Place.{place_at}
-use Rattle.bitvec_ptr.proofs.CopyLemmas.{met_covers}
 use Rattle.bitvec_ptr.proofs.PlaceLemmas.{words_met-some}
 use Rattle.bitvec_domain.specs.Span.{Span, Covers, Fits, AreDisjoint}
 use Rattle.bitvec_domain.proofs.DisjointLemmas.{disjoint-none, disjoint-sym}
@@ -16,11 +15,6 @@ use Rattle.bitvec_domain.proofs.DisjointLemmas.{disjoint-none, disjoint-sym}
 pub place_number : (bits i : ℕ) (word : ℤ) → pos 0 ≤ℤ word → place_at bits word i ≡ pos (nat_abs word * bits + i)
 place_number bits i (pos m) low = omega (arith, ints)
 place_number bits i (negsuc m) low = absurd (omega (arith, ints, low))
-
--- a span that has bits lies in a memory where its end does
-pub end_from_fits : (bits : ℕ) (span : Span) (words : ℕ) → 0 < bits → 0 < span.len → Fits bits span words
-    → nat_abs span.word * bits + span.head + span.len ≤ words * bits
-end_from_fits bits span words wide some fits = met_covers bits (nat_abs span.word) span.head span.len words wide some fits.1
 
 pub fits_from_end : (bits : ℕ) (span : Span) (words : ℕ) → 0 < bits → 0 < span.len → pos 0 ≤ℤ span.word
     → nat_abs span.word * bits + span.head + span.len ≤ words * bits → Fits bits span words

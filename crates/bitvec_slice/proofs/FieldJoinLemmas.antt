@@ -1,5 +1,5 @@
 -- Numbers of lists that lie in one word or in two, by the words joined. `bits` is the width of a word.
-use Rattle.std.proofs.Common.{◌≡◌, ℕ, ◌+◌, ◌-◌, ◌*◌, ◌/◌, ◌%◌, ◌^◌, ◌<◌, ◌≤◌, ◌&&◌, ◌||◌, Bool, true, false, not, nat_lt, if◌then◌else◌, List, length, refl, sym, ap, ◌∙◌, inl, inr, arith}
+use Rattle.std.proofs.Common.{◌≡◌, ℕ, ◌+◌, ◌-◌, ◌*◌, ◌/◌, ◌%◌, ◌^◌, ◌<◌, ◌≤◌, ◌&&◌, ◌||◌, Bool, true, false, not, nat_lt, List, length, refl, sym, ap, ◌∙◌, inl, inr, arith}
 use Rattle.std.proofs.Math.Bool.{or-false}
 use Rattle.std.proofs.lemmas.Bool.{cases_lt, lt-ltb, le-ltb}
 use Rattle.std.proofs.lemmas.Nat.{div-mul-add, mod-mul-add}
@@ -25,11 +25,6 @@ digit-merged bits by p low high down up most small moved none low_none high_move
           let lifted : digit up p ≡ digit high (by + p - bits) = ap (digit up) (sym place) ∙ high_moved (by + p - bits) (omega arith) in
           rw (le-ltb (by + p) bits more, none more, lifted) refl)
     ]
-
--- the digits in their order: from the lowest on where positions rise, and from the highest on where they fall
-pub near_place : (rises : Bool) (bits head len j : ℕ) → digit_place (not rises) bits rises head len j ≡ (if rises then j else len - 1 - j)
-near_place true bits head len j = refl
-near_place false bits head len j = refl
 
 -- word k has elements of a list: each at its index's position
 abbrev pub HasElements : ℕ → ℕ → ℕ → (ℕ → ℕ) → (ℕ → Bool) → ℕ → ℕ → Type 0

@@ -1,7 +1,7 @@
 -- Numbers put into lists of bits, by the words' parts.
 use Rattle.std.proofs.Common.{◌≡◌, ℕ, ◌+◌, ◌-◌, ◌/◌, ◌%◌, ◌^◌, ◌<◌, ◌≤◌, ◌&&◌, Bool, true, false, not, ◌||◌, ◌*◌, nat_le, nat_lt, if◌then◌else◌, List, length, refl, sym, ap, ◌∙◌, inl, inr, arith, bit_and}
 use Rattle.std.proofs.lemmas.Bool.{cases_order, cases_lt, lt-ltb, le-ltb, le-leb, lt-leb, eq-eqb, ne_eqb}
-use Rattle.std.proofs.lemmas.Nat.{mod_below, pow_pos, and_le_r}
+use Rattle.std.proofs.lemmas.Nat.{mod_below, pow_pos}
 use Rattle.std.proofs.Math.Nat.{mod-lt}
 use Rattle.bitvec.specs.Digit.{digit}
 use Rattle.bitvec.specs.Memory.{tabulate}
@@ -21,9 +21,6 @@ masked bits a mask p e h = digit-and a mask p ∙ rw (e, digit_all bits p h) (an
     and_true : (x : Bool) → (x && true) ≡ x
     and_true true = refl
     and_true false = refl
-
-pub masked_small : (bits a mask : ℕ) → mask ≡ 2 ^ bits - 1 → bit_and a mask < 2 ^ bits
-masked_small bits a mask e = omega (arith, e, and_le_r a mask, pow_pos bits)
 
 -- the word made of the digits that lie in it: `part` is the number moved down and `r` is its low digits moved up
 module _ (bits head len k v : ℕ) (some : 0 < bits) (in_head : head < bits) (j : ℕ) (inside : j < len) (word : (head + j) / bits ≡ k) where

@@ -165,10 +165,6 @@ digit_of-zero bits rises word i e = digits_none bits rises word i (λ p h. ap (�
 
 -- ---- runs in a test
 
--- one number is a run of one
-pub starts_one : (test : ℕ → Bool) → AreStarts test 1 test
-starts_one test i = ((λ e j from upto. let same : j ≡ i = omega arith in ap test same ∙ e), (λ all. all i (omega arith) (omega arith)))
-
 both_true : (a b : Bool) → (a && b) ≡ true → (a ≡ true) × (b ≡ true)
 both_true true true e = (refl, refl)
 both_true true false e = (refl, e)

@@ -4,15 +4,9 @@ use Rattle.std.specs.Prelude.{slice_index}
 use Rattle.std.proofs.lemmas.List.{length-take-le, get_or-take, get_or-drop}
 use Rattle.bitvec.specs.Digit.{digit}
 use Rattle.bitvec.specs.Memory.{memory_bits}
-use Rattle.bitvec.specs.Span.{Fits, span_at}
 use Rattle.bitvec.proofs.BitLemmas.{length-memory_bits, get_or-memory_bits}
 use Rattle.bitvec.proofs.MemoryLemmas.{tabulate-from_elements}
-use Rattle.bitvec_slice.proofs.SlicePartLemmas.{whole_fits}
 use Rattle.bitvec_slice.specs.Numbers.{digits_le, digits_be}
-
--- the bits from the first on lie in a word
-pub first_fits : (count : ℕ) → count ≤ 128 → Fits 128 (span_at 128 0 count) 1
-first_fits count h = whole_fits 128 1 count (omega (arith, h))
 
 word_bit : (at : ℕ → ℕ) (n j : ℕ) → j < 128 → get_or (memory_bits 128 at (n ∷ [])) j false ≡ digit n (at j)
 word_bit at n j h =

@@ -49,9 +49,6 @@ ones_first xs from upto i first = let h = first.0 in let k = first.1 in filter_f
 pub ones_last : (xs : List Bool) (from upto i : ℕ) → IsLastBetween true xs from upto i → ones_between xs from upto ≡ ones_between xs from i ++ (i ∷ [])
 ones_last xs from upto i last = let h = last.0 in let k = last.1 in filter_last (element xs) from (upto - from) i (i - from) h (omega arith) last.2 (λ j a b. last.3 j a (omega arith)) (omega arith)
 
-pub ones_past : (xs : List Bool) (at : ℕ) → ones_between xs at at ≡ []
-ones_past xs at = ones_none xs at at (λ j h k. absurd (omega arith))
-
 -- what is left behind the first of a list's ones, where there is one
 pub ones_behind : (xs ys : List Bool) (from upto next : ℕ) (found : Option ℕ) → ys ≡ xs
     → MatchOption found (AllBetween false xs from upto) (IsFirstBetween true xs from upto) → MatchOption found (next ≡ from) (λ i. next ≡ i + 1)
@@ -71,9 +68,6 @@ zeros_first xs from upto i first = let h = first.0 in let k = first.1 in filter_
 
 pub zeros_last : (xs : List Bool) (from upto i : ℕ) → IsLastBetween false xs from upto i → zeros_between xs from upto ≡ zeros_between xs from i ++ (i ∷ [])
 zeros_last xs from upto i last = let h = last.0 in let k = last.1 in filter_last (λ i. not (element xs i)) from (upto - from) i (i - from) h (omega arith) (ap not last.2) (λ j a b. ap not (last.3 j a (omega arith))) (omega arith)
-
-pub zeros_past : (xs : List Bool) (at : ℕ) → zeros_between xs at at ≡ []
-zeros_past xs at = zeros_none xs at at (λ j h k. absurd (omega arith))
 
 pub zeros_behind : (xs ys : List Bool) (from upto next : ℕ) (found : Option ℕ) → ys ≡ xs
     → MatchOption found (AllBetween true xs from upto) (IsFirstBetween false xs from upto) → MatchOption found (next ≡ from) (λ i. next ≡ i + 1)

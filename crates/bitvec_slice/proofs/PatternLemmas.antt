@@ -3,7 +3,7 @@ use Rattle.std.proofs.Common.{◌≡◌, ◌≢◌, ◌↔◌, inl, inr, ℕ, su
 use Rattle.std.specs.Prelude.{not, slice_range, Option, None, Some, MatchOption, is_some}
 use Rattle.std.proofs.lemmas.Bool.{cases_lt}
 use Rattle.std.proofs.Math.Seq.{drop-cons}
-use Rattle.std.proofs.lemmas.List.{length-drop, get_or-take, get_or-drop, take_all, take-append-drop, nil_from_length}
+use Rattle.std.proofs.lemmas.List.{length-drop, get_or-take, get_or-drop, take_all, take-append-drop}
 use Rattle.std.proofs.lemmas.Nat.{div-add-mod', mod-mul-add}
 use Rattle.bitvec.specs.Span.{element}
 use Rattle.bitvec_slice.specs.Bits.{AreFree, AllBetween, IsFirstBetween}
@@ -115,10 +115,6 @@ too_short xs ys short e = absurd (omega (arith, short, ap length (sym (take_all 
 
 pub too_short_end : (xs ys : List Bool) → length xs < length ys → ¬ (drop (length xs - length ys) xs ≡ ys)
 too_short_end xs ys short e = absurd (omega (arith, short, length-drop (length xs - length ys) xs, ap length e))
-
--- a list has no elements at its start
-pub has_none : (xs ys : List Bool) → length ys ≡ 0 → IsLeast (HasAt xs ys) 0
-has_none xs ys none = ((omega (arith, none), sym (nil_from_length ys none ∙ sym (ap (λ n. take (0 + n - 0) (drop 0 xs)) none))), λ k before. absurd (omega arith))
 
 -- before index `from` a list nowhere has the elements of another, whose first is known
 module _ (xs ys : List Bool) (from : ℕ) (first : Bool) (some : 0 < length ys) (is : first ≡ element ys 0) (none : (k : ℕ) → k < from → ¬ HasAt xs ys k) where

@@ -86,13 +86,6 @@ chosen_word {bits} {at} {span} {words} {k} {from} {upto} {bit} {low} {high} {mas
           ];
     }
 
--- a digit as it is for ones, and turned over for zeros
-pub turned_digit : (bit x y : Bool) → (bit ≡ true → y ≡ x) → (bit ≡ false → y ≡ not x) → y ≡ beq x bit
-turned_digit true true y same over = same refl
-turned_digit true false y same over = same refl
-turned_digit false true y same over = over refl
-turned_digit false false y same over = over refl
-
 -- a one of such a word is an element
 chosen_element : {bits : ℕ} {at : ℕ → ℕ} {head : ℕ} {xs : List Bool} {k from upto : ℕ} {bit : Bool} {w : ℕ}
     → IsChosen bits at head xs k from upto bit w → (i : ℕ) → i < bits → digit w (at i) ≡ true
@@ -168,23 +161,6 @@ chosen_empty bits at head xs bit w small zero = record {
     | inr past ↦ sym (rw (le-leb (head + 0) (0 * bits + i) past, le-ltb (0 * bits + i) (head + 0) past) refl)
   ];
 }
-
--- where the first of the elements is `bit`, the word's first one is at its index
-pub chosen_here : {bits : ℕ} {at : ℕ → ℕ} {head : ℕ} {xs : List Bool} {k from upto : ℕ} {bit : Bool} {w : ℕ}
-    → IsChosen bits at head xs k from upto bit w → from < upto → element xs from ≡ bit → (i : ℕ) → k * bits + i ≡ head + from → IsFirstIndex bits at w i
-chosen_here {bits} {at} {head} {xs} {k} {from} {upto} {bit} {w} c some here i e =
-    let end = c.end in
-    let small : i < bits = omega arith in
-    let same : k * bits + i - head ≡ from = omega arith in
-    let is : element xs (k * bits + i - head) ≡ bit = ap (element xs) same ∙ here in (
-      small,
-      c.ones i small ∙ (rw (le-leb (head + from) (k * bits + i) (omega arith), lt-ltb (k * bits + i) (head + upto) (omega arith), is) (beq_itself bit)),
-      λ q h. c.ones q (omega arith) ∙ (rw (lt-leb (head + from) (k * bits + q) (omega arith)) refl),
-    )
-  where
-    beq_itself : (b : Bool) → beq b b ≡ true
-    beq_itself true = refl
-    beq_itself false = refl
 
 or_neither : (a : Bool) → exclusive_or a false ≡ a
 or_neither true = refl

@@ -1,23 +1,13 @@
 -- The number of a code's digits, as it is read.
-use Rattle.std.proofs.Common.{◌≡◌, ◌+◌, ◌-◌, ◌*◌, ◌^◌, ◌<◌, ◌≤◌, Bool, true, false, List, ◌++◌, length, drop, replicate, sym, ap, ◌∙◌, inl, inr, arith, length-append}
+use Rattle.std.proofs.Common.{◌≡◌, ◌+◌, ◌-◌, ◌^◌, ◌<◌, ◌≤◌, Bool, true, false, List, length, drop, sym, ap, ◌∙◌, inl, inr, arith}
 use Rattle.std.proofs.lemmas.Bool.{cases_eq}
-use Rattle.std.proofs.lemmas.List.{length-replicate}
 use Rattle.std.proofs.lemmas.Nat.{pow_pos}
 use Rattle.std.proofs.Math.Pow.{pow_mono}
 use Rattle.bitvec.specs.Span.{element}
 use Rattle.bitvec.specs.Truths.{AllAre}
-use Rattle.bitvec_stream.specs.Golomb.{IsCode}
 use Rattle.bitvec_stream.specs.Numbers.{number_be}
-use Rattle.bitvec_stream.proofs.GolombLemmas.{number_be-first, number_be-one, number_be-none, none-number_be, part_long}
+use Rattle.bitvec_stream.proofs.GolombLemmas.{number_be-first, number_be-one, number_be-none, none-number_be}
 use Rattle.bitvec_slice.proofs.DigitListLemmas.{number_be-below}
-
--- so many bits are there
-pub code_room : (xs digits : List Bool) → IsCode xs digits → (0 < length digits) × (2 * length digits - 1 ≤ length xs)
-code_room xs digits code =
-    let first = number_be-first digits code.0 in
-    let room = part_long xs (replicate (length digits - 1) false ++ digits) code.1 in
-    let many : length (replicate (length digits - 1) false ++ digits) ≡ length digits - 1 + length digits = length-append (replicate (length digits - 1) false) digits ∙ ap (λ n. n + length digits) (length-replicate (length digits - 1) false) in
-    (first.0, omega (arith, first.0, room, many))
 
 -- a number of at most 128 digits, of which the first is one
 pub code_small : (xs : List Bool) → element xs 0 ≡ true → length xs ≤ 128 → (0 < number_be xs) × (number_be xs < 2 ^ 128 + 1)

@@ -56,10 +56,6 @@ between_from_digits (suc k) z some has =
     let both = (digits_between k z).1 has in
     (subst (λ n. z ≤ℤ pos (2 ^ n - 1)) less both.0, subst (λ n. negsuc (2 ^ n - 1) ≤ℤ z) less both.1)
 
-pub no_digits : (z : ℤ) → FitsSignedDigits 0 z → z ≡ pos 0
-no_digits (pos n) h = let e : n ≡ 0 = omega (arith, h) in ap pos e
-no_digits (negsuc n) h = absurd (omega (arith, h))
-
 -- a number without its digits from `count` on, which a mask takes away
 pub masked_is : (bits n mask r count : ℕ) → count ≤ bits → r < 2 ^ bits → ((p : ℕ) → p < bits → digit r p ≡ (digit n p && digit mask p))
     → ((p : ℕ) → p < bits → p < count → digit mask p ≡ true) → ((p : ℕ) → p < bits → count ≤ p → digit mask p ≡ false) → r ≡ n % 2 ^ count

@@ -14,15 +14,6 @@ use Rattle.bitvec_slice.proofs.EditRangeLemmas.{range_kept, range_new, range_len
 use Rattle.bitvec_stream.specs.Numbers.{digits_be}
 use Rattle.bitvec_stream.specs.Window.{IsKnown}
 
--- no word
-pub known_none : (bits : ℕ) (at : ℕ → ℕ) (head : ℕ) (xs : List Bool) (end kept m w : ℕ) → kept ≡ 0 → IsKnown bits at head xs end kept m w
-known_none bits at head xs end kept m w none = record {
-  falls = λ h. absurd (omega (arith, h, none));
-  whole = λ h. absurd (omega (arith, h, none));
-  ahead = λ j h. absurd (omega (arith, h, none));
-  before = λ h. absurd (omega (arith, h, none));
-}
-
 -- A number n of `count` digits takes the first places of those that are kept of word m, which was w, turned round: behind the
 -- digits of w it makes `next`, which is r, turned round, where the word has its places.
 module _ (bits : ℕ) (at : ℕ → ℕ) (head : ℕ) (xs : List Bool) (p end kept m w n r next count : ℕ) (some : 0 < count) (few : count ≤ kept) (ends : p + kept ≡ end) (in_list : end ≤ length xs)

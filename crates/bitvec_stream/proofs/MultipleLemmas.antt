@@ -22,6 +22,3 @@ reaches of n some =
           let whole : n + (of - n % of) % of ≡ (n / of + 1) * of + 0 = omega (arith, rest, parts, small, product) in
           ap (λ k. k % of) whole ∙ mod-mul-add (n / of + 1) of 0 some)
     ]
-
-pub reaches_soon : (of n : ℕ) → 0 < of → to_multiple of n < of
-reaches_soon of n some = mod_below (of - n % of) of some

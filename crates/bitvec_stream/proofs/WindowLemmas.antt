@@ -1,14 +1,13 @@
 -- Elements of a list that are kept in a word: how they are loaded, passed over and read.
-use Rattle.std.proofs.Common.{◌≡◌, ℕ, ◌+◌, ◌-◌, ◌*◌, ◌/◌, ◌%◌, ◌^◌, ◌<◌, ◌≤◌, ◌||◌, Bool, true, false, List, length, take, drop, refl, sym, ap, ◌∙◌, inl, inr, arith, length-drop}
-use Rattle.std.proofs.Math.Bool.{Bool-set, or-false}
+use Rattle.std.proofs.Common.{◌≡◌, ℕ, ◌+◌, ◌-◌, ◌*◌, ◌^◌, ◌<◌, ◌≤◌, ◌||◌, Bool, true, false, List, length, take, drop, refl, sym, ap, ◌∙◌, inl, inr, arith, length-drop}
+use Rattle.std.proofs.Math.Bool.{or-false}
 use Rattle.std.proofs.lemmas.Bool.{cases_lt}
 use Rattle.std.proofs.lemmas.List.{length-take-le, get_or-take, get_or-drop}
-use Rattle.std.proofs.lemmas.Nat.{pow_pos, div-mul-add, mod-mul-add}
+use Rattle.std.proofs.lemmas.Nat.{pow_pos}
 use Rattle.bitvec.specs.Digit.{digit}
 use Rattle.bitvec.specs.Ones.{IsHighestOne}
-use Rattle.bitvec.specs.Order.{Falls}
 use Rattle.bitvec.specs.Span.{element}
-use Rattle.bitvec.proofs.DigitLemmas.{digit_above, digit-zero}
+use Rattle.bitvec.proofs.DigitLemmas.{digit_above}
 use Rattle.bitvec.proofs.MemoryLemmas.{tabulate-from_elements}
 use Rattle.bitvec_slice.proofs.FieldLemmas.{small_from_digits}
 use Rattle.bitvec_stream.specs.Golomb.{BeginsWithCode}
@@ -16,32 +15,6 @@ use Rattle.bitvec_stream.specs.Numbers.{number_be, digits_be}
 use Rattle.bitvec_stream.specs.Window.{IsWindow}
 use Rattle.bitvec_stream.proofs.GolombLemmas.{code_found, code_of, number_be-first}
 use Rattle.bitvec_slice.proofs.DigitListLemmas.{number_be-back}
-
--- two proofs that a word keeps elements are one
-pub window_same : (bits : ℕ) (xs : List Bool) (place kept w : ℕ) (a b : IsWindow bits xs place kept w) → a ≡ b
-window_same bits xs place kept w a b i = record {
-  shown = λ j h. Bool-set _ _ (a.shown j h) (b.shown j h) i;
-  clean = λ p h. Bool-set _ _ (a.clean p h) (b.clean p h) i;
-}
-
--- no elements
-pub window_none : (bits : ℕ) (xs : List Bool) (place w : ℕ) → w ≡ 0 → IsWindow bits xs place 0 w
-window_none bits xs place w zero_is = record {
-  shown = λ j h. absurd (omega (arith, h));
-  clean = λ p h. ap (λ n. digit n p) zero_is ∙ digit-zero p;
-}
-
--- as many as a word has digits, where they are word k of those that a list meets under a head
-pub window_word : (bits : ℕ) (at : ℕ → ℕ) (head : ℕ) (xs : List Bool) (place k c : ℕ) → Falls bits at → head + place ≡ k * bits → place + bits ≤ length xs
-    → ((j : ℕ) → j < length xs → (head + j) / bits ≡ k → digit c (at ((head + j) % bits)) ≡ element xs j) → IsWindow bits xs place bits c
-window_word bits at head xs place k c falls starts room digits = record {
-  shown = λ j h.
-      let here : head + (place + j) ≡ k * bits + j = omega (arith, starts) in
-      let word : (head + (place + j)) / bits ≡ k = ap (λ n. n / bits) here ∙ div-mul-add k bits j h in
-      let index : (head + (place + j)) % bits ≡ j = ap (λ n. n % bits) here ∙ mod-mul-add k bits j h in
-      ap (digit c) (sym (ap at index ∙ falls j h)) ∙ digits (place + j) (omega (arith, h, room)) word;
-  clean = λ p h. absurd (omega (arith, h));
-}
 
 -- the first n are passed over: the word's digits move up, and zeros come below them
 pub window_moved : (bits : ℕ) (xs : List Bool) (place kept w n r : ℕ) → IsWindow bits xs place kept w → n ≤ kept → kept ≤ bits

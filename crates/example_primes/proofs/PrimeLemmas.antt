@@ -1,40 +1,19 @@
 -- How a sieve comes to the primes.
-use Rattle.std.proofs.Common.{◌≡◌, ◌⊎◌, ℕ, ◌+◌, ◌-◌, ◌*◌, ◌/◌, ◌%◌, ◌<◌, ◌≤◌, ◌↔◌, Bool, true, false, List, [], ◌∷◌, ◌++◌, length, take, set, zero, suc, replicate, refl, sym, ap, subst, ◌∙◌, inl, inr, arith, cond}
+use Rattle.std.proofs.Common.{◌≡◌, ◌⊎◌, ℕ, ◌+◌, ◌-◌, ◌*◌, ◌/◌, ◌%◌, ◌<◌, ◌≤◌, ◌↔◌, Bool, true, false, List, [], ◌∷◌, length, set, zero, suc, refl, sym, ap, subst, ◌∙◌, inl, inr, arith, cond}
 use Rattle.std.specs.List.{All, filter, range_with_len, Contains}
 use Rattle.std.specs.List.Sorted.{IsStrictlyIncreasing}
 use Rattle.std.proofs.Math.Nat.{mul-mod_left, div-mul_cancel, le-div_iff_mul-le, mul-le-mul_right}
 use Rattle.std.proofs.lemmas.Bool.{cases_eq, cases_lt}
-use Rattle.std.proofs.lemmas.List.{get_or-replicate, get_or_append_left, get_or-append_right, get_or-take, length-take, length-append, length-replicate, get_or-set_other, get_or-set_same, length-set}
+use Rattle.std.proofs.lemmas.List.{get_or-set_other, get_or-set_same, length-set}
 use Rattle.std.proofs.lemmas.List.Elements.{filter_passes, All-filter, All-contains, All-from_get_or}
 use Rattle.std.proofs.lemmas.List.FromFn.{length-range_with_len, get_or-range_with_len}
 use Rattle.std.proofs.lemmas.List.Kept.{IsStrictlyIncreasing-filter}
 use Rattle.std.proofs.lemmas.Nat.Gcd.{dvd_of_mod-eq-zero, mod-eq-zero_of_dvd, dvd_trans}
 use Rattle.bitvec.specs.Span.{element}
-use Rattle.example_primes.specs.Primes.{HasNoDivisorBelow, IsPrime, IsSetOf}
+use Rattle.example_primes.specs.Primes.{HasNoDivisorBelow, IsSetOf}
 
 differ : true ≡ false → ⊥
 differ e = cc
-
--- of two zeros and then ones, each from number 2 on is one
-pub sieved_first : (bound : ℕ) (xs ys : List Bool) → xs ≡ replicate 2 false → ys ≡ take bound xs ++ replicate (bound - 2) true → IsSetOf (HasNoDivisorBelow 2) ys
-sieved_first bound xs ys two is n within =
-    let front : List Bool = take bound xs in
-    let back : List Bool = replicate (bound - 2) true in
-    let two_long : length xs ≡ 2 = ap (λ (us : List Bool). length us) two ∙ length-replicate 2 false in
-    let front_long = length-take bound xs in
-    let back_long = length-replicate (bound - 2) true in
-    let long : length ys ≡ length front + length back = ap (λ (us : List Bool). length us) is ∙ length-append front back in
-    let at : element ys n ≡ element (front ++ back) n = ap (λ (us : List Bool). element us n) is in
-    elim (cases_lt n 2) [
-      | inl low ↦ (
-          let inside : n < length front = omega (arith, low, within, long, front_long, back_long, two_long) in
-          let here : element ys n ≡ false = at ∙ get_or_append_left front back false n inside ∙ get_or-take bound xs n false (omega (arith, inside, front_long)) ∙ ap (λ (us : List Bool). element us n) two ∙ get_or-replicate 2 n false false low in
-          (λ on. absurd (differ (sym on ∙ here)), λ it. absurd (omega (arith, low, it.0))))
-      | inr high ↦ (
-          let whole : length front ≡ 2 = omega (arith, high, within, long, front_long, back_long, two_long) in
-          let here : element ys n ≡ true = at ∙ get_or-append_right front back 2 n false whole high ∙ get_or-replicate (bound - 2) (n - 2) true false (omega (arith, high, within, long, whole, back_long)) in
-          (λ _. (omega (arith, high), λ d more less _ _. omega (arith, more, less)), λ _. here))
-    ]
 
 -- a number that is out of the set has a divisor there already
 pub sieved_same : (p : ℕ) (xs : List Bool) → 1 < p → p < length xs → element xs p ≡ false → IsSetOf (HasNoDivisorBelow p) xs → IsSetOf (HasNoDivisorBelow (p + 1)) xs
@@ -72,13 +51,6 @@ sieved_more p xs ys long so out above n within =
       ),
       λ new. (out n here).1 ((so n here).1 (new.0, λ d more below less zero. new.1 d more (omega (arith, below)) less zero), λ it. new.1 p above (omega arith) it.0 it.1),
     )
-
--- and in the end none of the others is left
-pub sieved_all : (p : ℕ) (xs : List Bool) → length xs ≤ p → IsSetOf (HasNoDivisorBelow p) xs → IsSetOf IsPrime xs
-sieved_all p xs all so n within = (
-  λ is. let old = (so n within).0 is in (old.0, λ d more less zero. old.1 d more (omega (arith, less, within, all)) less zero),
-  λ new. (so n within).1 (new.0, λ d more _ less zero. new.1 d more less zero),
-)
 
 -- what stays while the multiples of p from two times on to before `times` times are taken out
 abbrev pub IsWithout : ℕ → ℕ → List Bool → List Bool → Type 0

@@ -51,14 +51,6 @@ pub record IsMost (used : List Bool) (from most : ℕ) : Type 0 where
   pub reached : (at : ℕ) × AreFree used at most
   pub all : (at count : ℕ) → at < from → AreFree used at count → count ≤ most
 
-pub most_none : (used : List Bool) → IsMost used 0 0
-most_none used = record {
-  inside = omega arith;
-  edge = λ some. absurd (omega (arith, some));
-  reached = (0, (omega arith, λ j _ b. absurd (omega (arith, b))));
-  all = λ at count none. absurd (omega (arith, none));
-}
-
 -- a run that begins at a block in use has none
 none_here : (used : List Bool) (at count : ℕ) → element used at ≡ true → AreFree used at count → count ≡ 0
 none_here used at count on free =

@@ -1,11 +1,11 @@
 -- What a map of words says of the blocks in them.
 use Rattle.std.proofs.Common.{◌≡◌, ◌⊎◌, inl, inr, ◌↔◌, ℕ, ◌+◌, ◌-◌, ◌*◌, ◌/◌, ◌<◌, ◌≤◌, Bool, true, false, true≢false, List, length, replicate, refl, sym, ap, ◌∙◌, subst, arith}
-use Rattle.std.specs.Prelude.{Option, None, Some, MatchOption, IsTrue, is_none, min, slice_range}
+use Rattle.std.specs.Prelude.{Option, None, Some, MatchOption, min, slice_range}
 use Rattle.std.proofs.lemmas.Bool.{cases_lt}
 use Rattle.bitvec.specs.Span.{element, with_filled}
 use Rattle.bitvec.specs.Truths.{AllAre, IsFirst}
 use Rattle.bitvec_slice.specs.Bits.{AreFree}
-use Rattle.bitvec_slice.specs.Patterns.{AreFreeFrom, IsLeast}
+use Rattle.bitvec_slice.specs.Patterns.{IsLeast}
 use Rattle.std.proofs.lemmas.List.{length-replicate}
 use Rattle.bitvec_slice.proofs.EditRangeLemmas.{filled_new, filled_kept, range_long}
 use Rattle.freemap.specs.Blocks.{IsLowest, word_count}
@@ -201,19 +201,10 @@ said_all used full from to was none = record {
   says = λ w there. was.says w (elim (cases_lt w from) [ inl before ↦ inl before | inr behind ↦ inr (omega (arith, behind, none)) ]) there;
 }
 
--- the word is not full
-pub not_full : (used : List Bool) (w b : ℕ) → IsFirstFreeOf used w b → ¬ IsFull used w
-not_full used w b first full = true≢false (sym (full b first.from first.upto first.inside) ∙ first.free)
-
 -- it is the lowest free block from the word's first on
 pub first_free_lowest : (used : List Bool) (w b : ℕ) → IsFirstFreeOf used w b → IsLowest (λ k. (w * 64 ≤ k) × AreFree used k 1) (Some b)
 first_free_lowest used w b first =
     ((first.from, first_free_one used w b first), λ k before free. true≢false (sym (first.before k free.0 before) ∙ free.1.1 k (omega arith) (omega arith)))
-
--- whether a word is full, by the lowest free block of it
-pub fullness : (used : List Bool) (w : ℕ) (o : Option ℕ) → MatchOption o (IsFull used w) (IsFirstFreeOf used w) → IsTrue (is_none o) ↔ IsFull used w
-fullness used w None full = (λ _. full, λ _. refl)
-fullness used w (Some b) first = (λ yes. absurd (true≢false (sym yes)), λ full. absurd (not_full used w b first full))
 
 -- no block of the words before word w is free: one word more
 pub none_more : (used : List Bool) (w : ℕ) → ((b : ℕ) → b < w * 64 → ¬ AreFree used b 1) → IsFull used w → (b : ℕ) → b < (w + 1) * 64 → ¬ AreFree used b 1
@@ -312,32 +303,3 @@ fresh used full n many is =
       none : (w : ℕ) → (w < 0) ⊎ (n ≤ w) → w < n → ⊥
       none w (inl before) there = omega (arith, before)
       none w (inr behind) there = omega (arith, behind, there)
-
--- the first of a run of free blocks is free
-first_of_run : (used : List Bool) (at count : ℕ) → 0 < count → AreFree used at count → AreFree used at 1
-first_of_run used at count some free = (let room = free.0 in (omega (arith, room, some), λ j a b. free.1 j a (omega (arith, b, some))))
-
--- where no block is free, no run is
-pub no_run_at_all : (used : List Bool) (count : ℕ) → 0 < count → ((b : ℕ) → ¬ AreFree used b 1) → (at : ℕ) → ¬ AreFree used at count
-no_run_at_all used count some none at free = none at (first_of_run used at count some free)
-
--- no blocks at all are free from block 0 on
-pub no_blocks : (used : List Bool) (count : ℕ) → count ≡ 0 → IsLowest (λ at. AreFree used at count) (Some 0)
-no_blocks used count none = ((omega (arith, none), λ j a b. absurd (omega (arith, none, b))), λ k before. absurd (omega (arith, before)))
-
--- the first run from the lowest free block on is the first of all
-pub run_from_first : (used : List Bool) (count first : ℕ) → 0 < count → ((k : ℕ) → k < first → ¬ AreFree used k 1) → (o : Option ℕ) → IsLowest (AreFreeFrom used first count 1) o → IsLowest (λ at. AreFree used at count) o
-run_from_first used count first some none o found = by_answer o found where
-  from_first : (at : ℕ) → AreFree used at count → AreFreeFrom used first count 1 at
-  from_first at free = (
-    elim (cases_lt at first) [
-      | inl before ↦ absurd (none at before (first_of_run used at count some free))
-      | inr from ↦ from
-    ],
-    omega arith,
-    free,
-  )
-
-  by_answer : (o : Option ℕ) → IsLowest (AreFreeFrom used first count 1) o → IsLowest (λ at. AreFree used at count) o
-  by_answer None found = λ at free. found at (from_first at free)
-  by_answer (Some at) found = (found.0.2, λ k before free. found.1 k before (from_first k free))

@@ -1,5 +1,5 @@
 -- What the bits of a memory are, once the first bit of each stretch of a span was set.
-use Rattle.std.proofs.Common.{◌≡◌, ℕ, ◌+◌, ◌-◌, ◌*◌, ◌≤◌, ◌==◌, Bool, true, false, not, if◌then◌else◌, List, [], ◌∷◌, ◌++◌, length, map, take, drop, refl, sym, ap, ◌∙◌, inl, inr, arith}
+use Rattle.std.proofs.Common.{◌≡◌, ℕ, ◌+◌, ◌-◌, ◌*◌, ◌≤◌, ◌==◌, Bool, true, false, not, if◌then◌else◌, List, [], ◌++◌, length, map, take, drop, refl, sym, ap, ◌∙◌, inl, inr, arith}
 use Rattle.std.proofs.lemmas.List.{take-map, drop-map, map-append, length-take-le, length-drop}
 use Rattle.std.proofs.lemmas.Bool.{cases_lt}
 use Rattle.std.specs.Prelude.{nat_abs, Option, Some, None, is_some, option_map, slice_set}
@@ -23,10 +23,6 @@ ends_or head tail (first, Some (body, last)) v = ((if head then first.words else
 abbrev value_or : {X : Type 0} → X → Option X → X
 value_or x (Some y) = y
 value_or x None = x
-
-no_words : {X : Type 0} (v : List X) → length v ≡ 0 → v ≡ []
-no_words [] e = refl
-no_words (x ∷ xs) e = absurd (omega (arith, e))
 
 -- the bits of words behind others, of a register of no bits too
 bits-append : (bits : ℕ) (at : ℕ → ℕ) (xs ys : List ℕ) → memory_bits bits at (xs ++ ys) ≡ memory_bits bits at xs ++ memory_bits bits at ys
