@@ -1,9 +1,9 @@
 -- The bits of an array's words: where they lie, what a slice of them has, and what an edit of their span makes of them.
 use Rattle.std.proofs.Common.{◌≡◌, ℕ, Bool, List, [], ◌∷◌, length, map, refl, sym, ap, ◌∙◌, subst, arith}
-use Rattle.bitvec.specs.Span.{Span, Fits, BecomesList, list_of}
+use Rattle.bitvec.specs.Span.{Span, Fits, BecomesList, list_of, front_span}
 use Rattle.bitvec.proofs.PartLemmas.{length-list_of}
 use Rattle.bitvec_slice.proofs.SlicePartLemmas.{whole_fits}
-use Rattle.bitvec_array.specs.Array.{array_len, array_span, bits_in}
+use Rattle.bitvec_array.specs.Array.{array_len, bits_in}
 
 -- the numbers of numbers are these
 pub numbers : (words : List ℕ) → map (λ (w : ℕ). w) words ≡ words
@@ -11,21 +11,21 @@ numbers [] = refl
 numbers (w ∷ words) = ap (λ (ws : List ℕ). w ∷ ws) (numbers words)
 
 -- the span of all bits lies in the words
-pub array-fits : (n : ℕ) → Fits 64 (array_span n) n
+pub array-fits : (n : ℕ) → Fits 64 (front_span (array_len n)) n
 array-fits n = whole_fits 64 n (array_len n) (omega arith)
 
-pub span-fits : (n : ℕ) (span : Span) (words : ℕ) → span ≡ array_span n → words ≡ n → Fits 64 span words
+pub span-fits : (n : ℕ) (span : Span) (words : ℕ) → span ≡ front_span (array_len n) → words ≡ n → Fits 64 span words
 span-fits n span words is many = subst (λ (m : ℕ). Fits 64 span m) (sym many) (subst (λ (s : Span). Fits 64 s n) (sym is) (array-fits n))
 
 pub length-bits : (at : ℕ → ℕ) (n : ℕ) (words : List ℕ) → length (bits_in at n words) ≡ array_len n
-length-bits at n words = length-list_of 64 at (array_span n) words
+length-bits at n words = length-list_of 64 at (front_span (array_len n)) words
 
-module _ (at : ℕ → ℕ) (n : ℕ) (span : Span) (is : span ≡ array_span n) where
+module _ (at : ℕ → ℕ) (n : ℕ) (span : Span) (is : span ≡ front_span (array_len n)) where
   -- the list of the span in words that are lent
   pub bits-shown : (words lent : List ℕ) → lent ≡ words → list_of 64 at span (map (λ (w : ℕ). w) lent) ≡ bits_in at n words
   bits-shown words lent out =
       ap (λ (s : Span). list_of 64 at s (map (λ (w : ℕ). w) lent)) is
-      ∙ ap (list_of 64 at (array_span n)) (numbers lent ∙ out)
+      ∙ ap (list_of 64 at (front_span (array_len n))) (numbers lent ∙ out)
 
   -- an edit of the span
   pub bits-edited : (old new : List ℕ) (f : List Bool → List Bool)

@@ -1,17 +1,13 @@
 -- The bits of words of 64 bits each, whose number is known. `at` takes an index in a word to its position in the number, and
 -- the words are a list of their numbers.
-use Rattle.std.specs.Prelude.{ℕ, pos, ◌*◌, min, Bool, List}
+use Rattle.std.specs.Prelude.{ℕ, ◌*◌, min, Bool, List}
 use Rattle.bitvec.specs.Place.{region_max_bits}
-use Rattle.bitvec.specs.Span.{Span, list_of}
+use Rattle.bitvec.specs.Span.{front_span, list_of}
 
 -- how many bits `words` words have: all, or as many as a span can have
 abbrev pub array_len : ℕ → ℕ
 array_len words = min (words * 64) region_max_bits
 
--- where they lie
-abbrev pub array_span : ℕ → Span
-array_span words = record { word = pos 0; head = 0; len = array_len words }
-
 -- which they are, in order
 abbrev pub bits_in : (ℕ → ℕ) → ℕ → List ℕ → List Bool
-bits_in at many words = list_of 64 at (array_span many) words
+bits_in at many words = list_of 64 at (front_span (array_len many)) words

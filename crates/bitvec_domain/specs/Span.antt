@@ -16,6 +16,10 @@ pub record Span : Type 0 where
 abbrev pub span_at : ℕ → ℕ → ℕ → Span
 span_at bits place len = record { word = pos (place / bits); head = place % bits; len = len }
 
+-- the first `len` bits of a memory
+abbrev pub front_span : ℕ → Span
+front_span len = record { word = pos 0; head = 0; len = len }
+
 -- The span lies within a memory of `words` words: the span's word is not negative, and its index and the number of words
 -- that the span meets are together at most `words`. So the word of an empty span is from 0 to `words`.
 abbrev pub Fits : ℕ → Span → ℕ → Type 0

@@ -9,13 +9,12 @@ use Rattle.std.proofs.lemmas.Nat.{div-add-mod'}
 use Rattle.bitvec.specs.Digit.{digit}
 use Rattle.bitvec.specs.Memory.{bit_of, memory_bits}
 use Rattle.bitvec.specs.Place.{words_met}
-use Rattle.bitvec.specs.Span.{Span, Fits, list_of, span_upto}
+use Rattle.bitvec.specs.Span.{Span, Fits, list_of, span_upto, front_span}
 use Rattle.bitvec.proofs.CopyLemmas.{word_within}
 use Rattle.bitvec.proofs.DigitLemmas.{digit-zero}
 use Rattle.bitvec.proofs.MemoryLemmas.{tabulate-from_elements, tabulate_same}
 use Rattle.bitvec.proofs.PartLemmas.{length-list_of}
 use Rattle.bitvec.proofs.PlaceLemmas.{words_met-none, words_met-some}
-use Rattle.bitvec_slice.specs.Whole.{whole_span}
 
 met_whole : (bits words count : ℕ) → count ≤ words * bits → words_met bits 0 count ≤ words
 met_whole bits words count h =
@@ -33,10 +32,10 @@ pub whole_fits : (bits words count : ℕ) → count ≤ words * bits → Fits bi
 whole_fits bits words count h = (omega (arith, ints), omega (arith, met_whole bits words count h))
 
 -- the list of the span of all bits of a memory is the list of these bits
-pub list_of_whole : (bits : ℕ) (at : ℕ → ℕ) (span : Span) (words : List ℕ) (count : ℕ) → span ≡ whole_span bits count → length words ≡ count → list_of bits at span words ≡ memory_bits bits at words
+pub list_of_whole : (bits : ℕ) (at : ℕ → ℕ) (span : Span) (words : List ℕ) (count : ℕ) → span ≡ front_span (count * bits) → length words ≡ count → list_of bits at span words ≡ memory_bits bits at words
 list_of_whole bits at span words count is_span many =
     ap (λ (s : Span). list_of bits at s words) is_span
-    ∙ ap (λ n. list_of bits at (whole_span bits n) words) (sym many)
+    ∙ ap (λ n. list_of bits at (front_span (n * bits)) words) (sym many)
     ∙ tabulate_same (length words * bits) _ _ false (λ j h. ap (bit_of bits at words) (let same : 0 * bits + 0 + j ≡ j = omega arith in same))
 
 take_first : (xs ys : List Bool) (n : ℕ) → length xs ≡ n → take n (xs ++ ys) ≡ xs

@@ -6,11 +6,11 @@ ghost use Rattle.std.specs.Prelude.{length, map};
 ghost use Rattle.bitvec.specs.BitSpan.{span_of, list_by};
 ghost use Rattle.bitvec.specs.Memory.{memory_bits};
 ghost use Rattle.bitvec.specs.Place.{region_max_bits};
-ghost use Rattle.bitvec.specs.Span.{Fits, span_upto};
+ghost use Rattle.bitvec.specs.Span.{Fits, span_upto, front_span};
 ghost use Rattle.bitvec_slice.specs.BitSlice.{slice_memory, slice_span, slice_len, slice_bits};
 ghost use Rattle.bitvec_slice.specs.BitSliceMut.{lent_memory, lent_span, lent_bits};
 ghost use Rattle.bitvec_slice.specs.Lengths.{HasLength};
-ghost use Rattle.bitvec_slice.specs.Whole.{whole_span, ShowsMemory};
+ghost use Rattle.bitvec_slice.specs.Whole.{ShowsMemory};
 ghost use Rattle.bitvec_stream.specs.Multiples.{to_multiple};
 ghost use Rattle.bitvec_stream.specs.Window.{IsKnown};
 
@@ -100,7 +100,7 @@ impl<'a, R: BitRegister, O: BitOrder<R>> BitWriter<'a, R, O> {
         requires { length memory.old * R.BITS ≤ region_max_bits }
         ensures reference { (target_memory result).ghost_name ≡ memory.entry.ghost_name }
         ensures memory { (target_memory result).now ≡ memory.old }
-        ensures span { target_span result ≡ whole_span R.BITS (length memory.old) }
+        ensures span { target_span result ≡ front_span (length memory.old * R.BITS) }
         ensures position { bits_written result ≡ 0 }
         ensures room { room result ≡ memory_bits R.BITS O.at_of (map R.number memory.old) }
         ensures whole { ShowsMemory R.BITS O.at_of (target_span result) (length memory.old) }

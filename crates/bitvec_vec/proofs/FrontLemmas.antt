@@ -8,12 +8,12 @@ use Rattle.std.proofs.lemmas.List.{get_or_append_left, get_or-take}
 use Rattle.std.proofs.lemmas.List.FromFn.{take-map-range_with_len}
 use Rattle.std.proofs.lemmas.Nat.{div-add-mod', mod_below}
 use Rattle.bitvec.specs.Digit.{digit}
-use Rattle.bitvec.specs.Span.{span_at}
+use Rattle.bitvec.specs.Span.{span_at, front_span}
 use Rattle.bitvec.proofs.MemoryLemmas.{tabulate_same}
 use Rattle.bitvec.proofs.PartLemmas.{length-list_of}
 use Rattle.bitvec.proofs.PlaceLemmas.{words_met-some}
 use Rattle.bitvec_slice.proofs.SlicePartLemmas.{whole_fits}
-use Rattle.bitvec_vec.specs.Front.{front_span, front_bits, words_for}
+use Rattle.bitvec_vec.specs.Front.{front_bits, words_for}
 
 -- the span of so many bits from the first place on
 pub front-at : (bits len : ℕ) → 0 < bits → span_at bits 0 len ≡ front_span len

@@ -6,8 +6,8 @@ use Rattle.std.specs.declared.vec.Vec.{Vec}
 use Rattle.std.proofs.lemmas.Bool.{cases_lt}
 use Rattle.std.proofs.lemmas.Int.{ints}
 use Rattle.std.proofs.lemmas.List.{length-map, map-append, take-map, take_more, take_all, with_items_is}
-use Rattle.bitvec.specs.Span.{Span, Fits, BecomesList, list_of, element}
-use Rattle.bitvec_vec.specs.Front.{front_span, front_bits, words_for}
+use Rattle.bitvec.specs.Span.{Span, Fits, BecomesList, list_of, element, front_span}
+use Rattle.bitvec_vec.specs.Front.{front_bits, words_for}
 use Rattle.bitvec_vec.proofs.FrontLemmas.{take-front, front-append, front-take, rows, words_enough, words_least}
 
 -- the span lies in as many words as its bits take

@@ -1,12 +1,8 @@
 -- The first bits of a memory. `bits` is the width of a word, `at` takes an index in a word to its position in the number,
 -- and a memory is the list of its words' numbers.
-use Rattle.std.specs.Prelude.{ℕ, pos, Bool, List}
+use Rattle.std.specs.Prelude.{ℕ, Bool, List}
 use Rattle.bitvec.specs.Place.{words_met}
-use Rattle.bitvec.specs.Span.{Span, list_of}
-
--- the span of the first `len` bits
-abbrev pub front_span : ℕ → Span
-front_span len = record { word = pos 0; head = 0; len = len }
+use Rattle.bitvec.specs.Span.{front_span, list_of}
 
 -- the first `len` bits, in order
 abbrev pub front_bits : ℕ → (ℕ → ℕ) → ℕ → List ℕ → List Bool

@@ -5,22 +5,22 @@ use Rattle.std.proofs.lemmas.List.{take-append-drop, take-set, drop-set}
 use Rattle.bitvec.specs.Digit.{digit}
 use Rattle.bitvec.specs.Memory.{bit_of}
 use Rattle.bitvec.specs.Order.{IsOneToOne}
-use Rattle.bitvec.specs.Span.{element, with_filled}
+use Rattle.bitvec.specs.Span.{element, with_filled, front_span}
 use Rattle.bitvec.specs.WordEnds.{HasNoIndex, IsFirstIndex}
 use Rattle.bitvec.proofs.BitLemmas.{bit_of-word}
 use Rattle.bitvec.proofs.PartLemmas.{element-list_of, length-list_of}
-use Rattle.freemap.specs.Blocks.{map_span, stored_blocks}
+use Rattle.freemap.specs.Blocks.{stored_blocks}
 use Rattle.freemap.specs.Summary.{IsFull, IsFirstFreeOf}
 
 -- how many blocks there are
 pub stored_long : (at : ℕ → ℕ) (blocks : ℕ) (words : List ℕ) → length (stored_blocks at blocks words) ≡ blocks
-stored_long at blocks words = length-list_of 64 at (map_span blocks) words
+stored_long at blocks words = length-list_of 64 at (front_span blocks) words
 
 -- a block of word w is a digit of it
 pub stored_at : (at : ℕ → ℕ) (blocks : ℕ) (words : List ℕ) (w i : ℕ) → i < 64 → w * 64 + i < blocks → element (stored_blocks at blocks words) (w * 64 + i) ≡ digit (slice_index words w) (at i)
 stored_at at blocks words w i small inside =
     let place : 0 * 64 + 0 + (w * 64 + i) ≡ w * 64 + i = omega arith in
-    element-list_of 64 at (map_span blocks) words (w * 64 + i) inside
+    element-list_of 64 at (front_span blocks) words (w * 64 + i) inside
     ∙ ap (bit_of 64 at words) place
     ∙ bit_of-word 64 at words w i small
 

@@ -1,17 +1,13 @@
 -- Which blocks of a store are in use: a list with a truth value for each block.
-use Rattle.std.specs.Prelude.{◌≡◌, ℕ, pos, ◌+◌, ◌*◌, ◌/◌, ◌<◌, ◌≤◌, Bool, true, List, Option, MatchOption, length}
-use Rattle.bitvec.specs.Span.{Span, element, list_of, region_max_bits}
+use Rattle.std.specs.Prelude.{◌≡◌, ℕ, ◌+◌, ◌*◌, ◌/◌, ◌<◌, ◌≤◌, Bool, true, List, Option, MatchOption, length}
+use Rattle.bitvec.specs.Span.{front_span, element, list_of, region_max_bits}
 use Rattle.bitvec_slice.specs.Bits.{AreFree}
 use Rattle.bitvec_slice.specs.Patterns.{IsLeast}
-
--- the span of the first `blocks` bits of a memory
-abbrev pub map_span : ℕ → Span
-map_span blocks = record { word = pos 0; head = 0; len = blocks }
 
 -- Whether each of `blocks` blocks is in use, as the words of a stored map say: bit after bit from the first word on, under
 -- an order of the bits of a word.
 abbrev pub stored_blocks : (ℕ → ℕ) → ℕ → List ℕ → List Bool
-stored_blocks at blocks words = list_of 64 at (map_span blocks) words
+stored_blocks at blocks words = list_of 64 at (front_span blocks) words
 
 -- how many words have `bits` bits, 64 each: the bits by 64, rounded up
 abbrev pub word_count : ℕ → ℕ

@@ -1,8 +1,8 @@
 -- What a free map shows.
 use Rattle.std.specs.Prelude.{◌≡◌, ◌+◌, ℕ, Bool, true, List, Option, MatchOption, length}
 use Rattle.std.specs.Borrow.{MutBor}
-use Rattle.bitvec.specs.Span.{BecomesList, with_filled}
-use Rattle.freemap.specs.Blocks.{map_span, stored_blocks}
+use Rattle.bitvec.specs.Span.{BecomesList, with_filled, front_span}
+use Rattle.freemap.specs.Blocks.{stored_blocks}
 use Rattle.freemap.specs.Loans.{LevelLoan, loan_of}
 use Rattle.freemap.specs.declared.map.FreeMap.{FreeMap}
 
@@ -20,7 +20,7 @@ pub record BecomesBlocks {O : Type 0} {a b : _} (old new : FreeMap O a b) (block
   pub used : in_use new ≡ blocks
   pub many : length (in_use new) ≡ length (in_use old)
   pub loan : (map_words new).ghost_name ≡ (map_words old).ghost_name
-  pub words : BecomesList 64 b.at_of (map_span (length (in_use old))) (map_words old).now (map_words new).now blocks
+  pub words : BecomesList 64 b.at_of (front_span (length (in_use old))) (map_words old).now (map_words new).now blocks
 
 -- `count` blocks from an answer on are in use afterwards, and all else is as before; after `None` the map is as before
 abbrev pub Allocates : {O : Type 0} {a b : _} → (old new : FreeMap O a b) → ℕ → Option ℕ → Type 0

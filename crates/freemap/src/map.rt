@@ -3,10 +3,10 @@
 ghost use Rattle.std.specs.Prelude.{◌≡◌, ◌↔◌, ◌+◌, ◌*◌, ◌/◌, ◌≤◌, ◌<◌, true, false, IsTrue, IsOk, IfOk, IfErr};
 ghost use Rattle.std.specs.Prelude.{MatchOption, Some, length, replicate};
 ghost use Rattle.bitvec.specs.Place.{region_max_bits};
-ghost use Rattle.bitvec.specs.Span.{KeepsOthers, BecomesList, element, with_filled};
+ghost use Rattle.bitvec.specs.Span.{KeepsOthers, BecomesList, element, with_filled, front_span};
 ghost use Rattle.bitvec_slice.specs.Bits.{AreFree, zeros_in};
 ghost use Rattle.bitvec_slice.specs.BitSlice.{slice_bits};
-ghost use Rattle.freemap.specs.Blocks.{map_span, stored_blocks, word_count, HasRoom};
+ghost use Rattle.freemap.specs.Blocks.{stored_blocks, word_count, HasRoom};
 ghost use Rattle.freemap.specs.Blocks.{AreInUse, IsLowest};
 ghost use Rattle.freemap.specs.Summary.{IsFull, IsFullFrom, IsFirstFreeOf};
 
@@ -74,7 +74,7 @@ fn fill_words<O: BitOrder<u64>>(
 )
     requires room { HasRoom (length words.old) blocks }
     requires inside { at + count ≤ blocks }
-    ensures { BecomesList 64 O.at_of (map_span blocks) words.old words.new
+    ensures { BecomesList 64 O.at_of (front_span blocks) words.old words.new
         (with_filled (stored_blocks O.at_of blocks words.old) at (at + count) used) }
 {
     let span: BitSpan<u64, O> = BitSpan::at_unchecked(0, blocks);
@@ -87,7 +87,7 @@ fn fill_words<O: BitOrder<u64>>(
 fn set_in_words<O: BitOrder<u64>>(words: &mut [u64], blocks: usize, at: usize, used: bool)
     requires room { HasRoom (length words.old) blocks }
     requires inside { at < blocks }
-    ensures { BecomesList 64 O.at_of (map_span blocks) words.old words.new
+    ensures { BecomesList 64 O.at_of (front_span blocks) words.old words.new
         (with_filled (stored_blocks O.at_of blocks words.old) at (at + 1) used) }
 {
     let pointer: BitPtr<u64, O> = BitPtr::at(at);
@@ -155,7 +155,7 @@ impl<'a, O: BitOrder<u64>> FreeMap<'a, O> {
         requires { HasRoom (length words.old) blocks }
         ensures reference { (map_words result).ghost_name ≡ words.entry.ghost_name }
         ensures free { in_use result ≡ replicate blocks false }
-        ensures others { KeepsOthers 64 O.at_of (map_span blocks) words.old
+        ensures others { KeepsOthers 64 O.at_of (front_span blocks) words.old
             (map_words result).now }
         ensures words { length (map_words result).now ≡ length words.old }
     {
@@ -171,7 +171,7 @@ impl<'a, O: BitOrder<u64>> FreeMap<'a, O> {
         ensures reference { IfOk result (λ map. (map_words map).ghost_name
             ≡ words.entry.ghost_name) }
         ensures free { IfOk result (λ map. in_use map ≡ replicate blocks false) }
-        ensures others { IfOk result (λ map. KeepsOthers 64 O.at_of (map_span blocks) words.old
+        ensures others { IfOk result (λ map. KeepsOthers 64 O.at_of (front_span blocks) words.old
             (map_words map).now) }
         ensures words { IfOk result (λ map. length (map_words map).now ≡ length words.old) }
 

@@ -4,8 +4,8 @@ ghost use Rattle.std.specs.Prelude.{◌≡◌, ⊤, ◌<◌, ◌↔◌, [], IsTr
 ghost use Rattle.std.specs.Prelude.{replicate};
 ghost use Rattle.bitvec.specs.BitSpan.{span_of};
 ghost use Rattle.bitvec.specs.Place.{region_max_bits};
-ghost use Rattle.bitvec.specs.Span.{Fits, element};
-ghost use Rattle.bitvec_array.specs.Array.{array_len, array_span, bits_in};
+ghost use Rattle.bitvec.specs.Span.{Fits, element, front_span};
+ghost use Rattle.bitvec_array.specs.Array.{array_len, bits_in};
 ghost use types.Logic.{sem};
 
 use bitvec::order::BitOrder;
@@ -19,7 +19,7 @@ const MOST: usize = 2305843009213693951;
 
 // The span of all bits of `N` words.
 pub(crate) fn span_of_all<O, const N: usize>() -> BitSpan<usize, O>
-    ensures span { span_of result ≡ array_span N }
+    ensures span { span_of result ≡ front_span (array_len N) }
     ensures len { (span_of result).len ≡ array_len N }
     ensures fits { Fits 64 (span_of result) N }
 {
@@ -136,7 +136,7 @@ impl<O: BitOrder<usize>, const N: usize> BitArray<O, N> {
     /// Its bits, for reading: a slice that begins with the first bit of its first word. Constant
     /// time.
     pub fn as_bitslice(&self) -> BitSlice<'_, usize, O>
-        ensures span { slice_span result ≡ array_span N }
+        ensures span { slice_span result ≡ front_span (array_len N) }
         ensures bits { slice_bits result ≡ array_bits self.now }
     {
         BitSlice::new(span_of_all::<O, N>(), &self.words).unwrap()
@@ -158,7 +158,7 @@ impl<O: BitOrder<usize>, const N: usize> BitArray<O, N> {
     /// ```
     pub fn as_mut_bitslice(&mut self) -> BitSliceMut<'_, usize, O>
         ensures* writes_back { sem 𝓛 (array_follows O.row N.row self.entry result) }
-        ensures span { lent_span result ≡ array_span N }
+        ensures span { lent_span result ≡ front_span (array_len N) }
         ensures bits { lent_bits result ≡ array_bits self.old }
     {
         let words = &mut self.words;

@@ -2,12 +2,12 @@
 
 ghost use Rattle.std.specs.Prelude.{◌≡◌, ◌↔◌, ◌-◌, ◌^◌, ◌<◌, IsTrue, MatchOption};
 ghost use Rattle.std.specs.Prelude.{true, false, length};
-ghost use Rattle.bitvec.specs.Span.{element};
+ghost use Rattle.bitvec.specs.Span.{element, front_span};
 ghost use Rattle.bitvec.specs.Truths.{ones_in, AllAre, IsFirst};
 ghost use Rattle.bitvec_slice.specs.Bits.{zeros_in, IsLast, ones_between, zeros_between};
 ghost use Rattle.bitvec_slice.specs.BitSlice.{slice_bits};
 ghost use Rattle.bitvec_slice.specs.SameBits.{AreSameBits};
-ghost use Rattle.bitvec_array.specs.Array.{array_span};
+ghost use Rattle.bitvec_array.specs.Array.{array_len};
 
 use crate::array::BitArray;
 use bitvec::mem::BitRegister;
@@ -119,7 +119,7 @@ impl<O: BitOrder<usize>, const N: usize> BitArray<O, N> {
     pub fn iter(&self) -> Iter<'_, usize, O>
         ensures rest { iter_left result ≡ array_bits self.now }
         ensures bound { length (iter_left result) < 2 ^ 64 }
-        ensures span { iter_span result ≡ array_span N }
+        ensures span { iter_span result ≡ front_span (array_len N) }
 
         // Facts of the type, as of the iterator of a slice for reading.
         ensures runs { GivesBitsInOrder result }

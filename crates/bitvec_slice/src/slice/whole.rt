@@ -5,8 +5,8 @@ ghost use Rattle.std.specs.Prelude.{Err, min, length, map};
 ghost use Rattle.bitvec.specs.BitSpan.{span_of};
 ghost use Rattle.bitvec.specs.Memory.{memory_bits};
 ghost use Rattle.bitvec.specs.Place.{region_max_bits};
-ghost use Rattle.bitvec.specs.Span.{Fits};
-ghost use Rattle.bitvec_slice.specs.Whole.{whole_span, ShowsMemory};
+ghost use Rattle.bitvec.specs.Span.{Fits, front_span};
+ghost use Rattle.bitvec_slice.specs.Whole.{ShowsMemory};
 
 use crate::slice::{BitSlice, BitSliceMut};
 use bitvec::index::{BitIdx, Limits};
@@ -19,7 +19,7 @@ fn span_of_all<R: BitRegister, O>(words: usize) -> Result<BitSpan<R, O>, BitSpan
     ensures accepted { IsOk result ↔ (words * R.BITS ≤ region_max_bits) }
     ensures refused { (result ≡ Err (BitSpanError.TooLong (min (words * R.BITS) usize.MAX)))
         ↔ (region_max_bits < words * R.BITS) }
-    ensures span { IfOk result (λ span. span_of span ≡ whole_span R.BITS words) }
+    ensures span { IfOk result (λ span. span_of span ≡ front_span (words * R.BITS)) }
     ensures fits { IfOk result (λ span. Fits R.BITS (span_of span) words) }
 {
     BitSpan::new(0, BitIdx::MIN, words.saturating_mul(usize::from(R::BITS)))
@@ -33,7 +33,7 @@ impl<'a, R: BitRegister, O: BitOrder<R>> BitSlice<'a, R, O> {
     pub fn all_unchecked(memory: &'a [R]) -> Self
         requires { length memory.now * R.BITS ≤ region_max_bits }
         ensures memory { slice_memory result ≡ memory.now }
-        ensures span { slice_span result ≡ whole_span R.BITS (length memory.now) }
+        ensures span { slice_span result ≡ front_span (length memory.now * R.BITS) }
         ensures bits { slice_bits result ≡ memory_bits R.BITS O.at_of (map R.number memory.now) }
         ensures whole { ShowsMemory R.BITS O.at_of (slice_span result) (length memory.now) }
     {
@@ -51,7 +51,7 @@ impl<'a, R: BitRegister, O: BitOrder<R>> BitSlice<'a, R, O> {
             ↔ (region_max_bits < bits) }
         ensures memory { IfOk result (λ slice. slice_memory slice ≡ memory.now) }
         ensures span { IfOk result (λ slice. slice_span slice
-            ≡ whole_span R.BITS (length memory.now)) }
+            ≡ front_span (length memory.now * R.BITS)) }
         ensures bits { IfOk result (λ slice. slice_bits slice
             ≡ memory_bits R.BITS O.at_of (map R.number memory.now)) }
         ensures whole { IfOk result (λ slice. ShowsMemory R.BITS O.at_of (slice_span slice)
@@ -71,7 +71,7 @@ impl<'a, R: BitRegister, O: BitOrder<R>> BitSliceMut<'a, R, O> {
         requires { length memory.old * R.BITS ≤ region_max_bits }
         ensures reference { (lent_memory result).ghost_name ≡ memory.entry.ghost_name }
         ensures memory { (lent_memory result).now ≡ memory.old }
-        ensures span { lent_span result ≡ whole_span R.BITS (length memory.old) }
+        ensures span { lent_span result ≡ front_span (length memory.old * R.BITS) }
         ensures bits { lent_bits result ≡ memory_bits R.BITS O.at_of (map R.number memory.old) }
         ensures whole { ShowsMemory R.BITS O.at_of (lent_span result) (length memory.old) }
     {
@@ -95,7 +95,7 @@ impl<'a, R: BitRegister, O: BitOrder<R>> BitSliceMut<'a, R, O> {
             ≡ memory.entry.ghost_name) }
         ensures memory { IfOk result (λ slice. (lent_memory slice).now ≡ memory.old) }
         ensures span { IfOk result (λ slice. lent_span slice
-            ≡ whole_span R.BITS (length memory.old)) }
+            ≡ front_span (length memory.old * R.BITS)) }
         ensures bits { IfOk result (λ slice. lent_bits slice
             ≡ memory_bits R.BITS O.at_of (map R.number memory.old)) }
         ensures whole { IfOk result (λ slice. ShowsMemory R.BITS O.at_of (lent_span slice)

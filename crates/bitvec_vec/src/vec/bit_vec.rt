@@ -3,8 +3,8 @@
 ghost use Rattle.std.specs.Prelude.{◌≡◌, ◌≤◌, ◌<◌, ◌*◌, ◌↔◌, [], IsTrue, length, min};
 ghost use Rattle.std.specs.Prelude.{slice_get, vec_len};
 ghost use Rattle.bitvec.specs.Place.{region_max_bits};
-ghost use Rattle.bitvec.specs.Span.{element};
-ghost use Rattle.bitvec_vec.specs.Front.{front_span, words_for};
+ghost use Rattle.bitvec.specs.Span.{element, front_span};
+ghost use Rattle.bitvec_vec.specs.Front.{words_for};
 ghost use types.Logic.{sem};
 
 use crate::vec::front::{MOST, span_of_front};

@@ -4,7 +4,8 @@ ghost use Rattle.std.specs.Prelude.{◌≡◌, ◌≤◌, ◌<◌, ◌+◌, ◌*
 ghost use Rattle.std.specs.Prelude.{vec_len, vec_capacity};
 ghost use Rattle.bitvec.specs.BitSpan.{span_of};
 ghost use Rattle.bitvec.specs.Place.{region_max_bits};
-ghost use Rattle.bitvec_vec.specs.Front.{front_span, front_bits, words_for};
+ghost use Rattle.bitvec.specs.Span.{front_span};
+ghost use Rattle.bitvec_vec.specs.Front.{front_bits, words_for};
 
 use bitvec::mem;
 use bitvec::mem::BitRegister;

@@ -2,13 +2,12 @@
 
 ghost use Rattle.std.specs.Prelude.{◌≡◌, ◌↔◌, ◌-◌, ◌^◌, ◌<◌, ◌≤◌, IsTrue, MatchOption};
 ghost use Rattle.std.specs.Prelude.{true, false, length, slice_range};
-ghost use Rattle.bitvec.specs.Span.{element};
+ghost use Rattle.bitvec.specs.Span.{element, front_span};
 ghost use Rattle.bitvec.specs.Truths.{ones_in, AllAre, IsFirst};
 ghost use Rattle.bitvec_slice.specs.Bits.{zeros_in, IsLast, ones_between, zeros_between};
 ghost use Rattle.bitvec_slice.specs.BitSlice.{slice_bits};
 ghost use Rattle.bitvec_slice.specs.Numbers.{number_le, number_be};
 ghost use Rattle.bitvec_slice.specs.SameBits.{AreSameBits};
-ghost use Rattle.bitvec_vec.specs.Front.{front_span};
 
 use crate::vec::BitVec;
 use bitvec::mem::BitRegister;

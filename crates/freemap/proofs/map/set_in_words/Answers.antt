@@ -2,9 +2,10 @@ use Rattle.std.proofs.Common.{◌≡◌, ◌/◌, ℕ, Bool, List, length, map, 
 use Rattle.std.specs.Prelude.{slice_set, pos}
 use Rattle.std.proofs.lemmas.Int.{ints}
 use Rattle.bitvec.specs.Place.{Ptr, index_of}
+use Rattle.bitvec.specs.Span.{front_span}
 use Rattle.bitvec.proofs.BecomesLemmas.{becomes-same, bit-becomes, fits-numbers, numbers-many}
 use Rattle.bitvec_slice.proofs.SlicePartLemmas.{whole_fits}
-use Rattle.freemap.specs.Blocks.{map_span, stored_blocks}
+use Rattle.freemap.specs.Blocks.{stored_blocks}
 use Rattle.freemap.proofs.MapLemmas.{edited_words}
 use Rattle.freemap.proofs.WordLemmas.{stored_long, set_filled}
 use Rattle.freemap.proofs.map.set_in_words.Goals as goal
@@ -21,7 +22,7 @@ returns g c =
     let old = c.args.words.now in
     let new = c.write.new.memory in
     let number = λ (w : ℕ). w in
-    let span = map_span blocks in
+    let span = front_span blocks in
     let place = ap (λ (p : Ptr). index_of 64 p) c.at-pointer.ensures in
     let written = bit-becomes 64 at span (map number old) (map number new) (omega arith) (fits-numbers 64 span number old (whole_fits 64 (length old) blocks c.requires.room.0)) c.args.at _ c.args.used c.requires.inside
     (omega (arith, place)) (numbers-many number old new c.write.ensures.words) c.write.ensures.bits in

@@ -1,6 +1,5 @@
 use Rattle.std.proofs.Common.{◌≡◌, ◌∙◌, false, ap, subst, length, arith}
-use Rattle.bitvec.specs.Span.{KeepsOthers}
-use Rattle.freemap.specs.Blocks.{map_span}
+use Rattle.bitvec.specs.Span.{KeepsOthers, front_span}
 use Rattle.freemap.specs.Map.{map_words, in_use}
 use Rattle.freemap.proofs.MapLemmas.{all_filled}
 use Rattle.freemap.proofs.WordLemmas.{stored_long}
@@ -23,5 +22,5 @@ returns-clause-others g c =
     let map = c.from_words_unchecked-map.result in
     let at = g.O.BitAt.at_of in
     let many : length (in_use map) ≡ c.args.blocks = ap length c.from_words_unchecked-map.ensures.stored ∙ stored_long at c.args.blocks c.args.words.now in
-    let kept = subst (λ n. KeepsOthers 64 at (map_span n) (map_words map).now (map_words c.mark.new.self).now) many c.mark.ensures.words.others in
+    let kept = subst (λ n. KeepsOthers 64 at (front_span n) (map_words map).now (map_words c.mark.new.self).now) many c.mark.ensures.words.others in
     rw (← c.from_words_unchecked-map.ensures.words) kept

@@ -1,6 +1,5 @@
 use Rattle.std.proofs.Common.{◌+◌, refl, sym, subst, arith}
-use Rattle.bitvec.specs.Span.{BecomesList, with_filled}
-use Rattle.freemap.specs.Blocks.{map_span}
+use Rattle.bitvec.specs.Span.{BecomesList, with_filled, front_span}
 use Rattle.freemap.specs.Map.{in_use}
 use Rattle.freemap.proofs.MapLemmas.{edit_shows, as_many}
 use Rattle.freemap.proofs.WordLemmas.{stored_long}
@@ -11,7 +10,7 @@ returns g c =
     let at = g.O.BitAt.at_of in
     let map = c.args.self.now in
     let new = c.set_in_words.new.words in
-    let filled = subst (λ n. BecomesList 64 at (map_span n) map.words.now new (with_filled (in_use map) c.args.at (c.args.at + 1) c.args.used)) (sym (stored_long at map.blocks map.words.now)) c.set_in_words.ensures in
+    let filled = subst (λ n. BecomesList 64 at (front_span n) map.words.now new (with_filled (in_use map) c.args.at (c.args.at + 1) c.args.used)) (sym (stored_long at map.blocks map.words.now)) c.set_in_words.ensures in
     record {
       used = edit_shows at map.blocks map.words.now new _ filled;
       many = as_many at map.blocks map.words.now new;

@@ -6,7 +6,7 @@ use Rattle.bitvec_slice.proofs.SlicePartLemmas.{list_of_whole}
 use Rattle.bitvec_slice.proofs.slice.bit_slice_mut.BitSliceMut.all.Goals as goal
 
 pub returns-in-Ok-clause-whole : goal.returns-in-Ok-clause-whole
-returns-in-Ok-clause-whole g c = λ words. list_of_whole g.R.BitRegister.BITS g.O.BitAt.at_of (lent_span c.new_unchecked.result) words _ (c.new_unchecked.ensures.span ∙ c.in-Ok.ensures.span)
+returns-in-Ok-clause-whole g c = λ words. list_of_whole g.R.BitRegister.BITS g.O.BitAt.at_of (lent_span c.new_unchecked.result) words (length c.args.memory.now) (c.new_unchecked.ensures.span ∙ c.in-Ok.ensures.span)
 
 pub returns-in-Ok-clause-bits : goal.returns-in-Ok-clause-bits
 returns-in-Ok-clause-bits g c =
@@ -16,5 +16,5 @@ returns-in-Ok-clause-bits g c =
     let slice = c.new_unchecked.result in
     let words = (lent_memory slice).now in
     let same = c.new_unchecked.ensures.memory in
-    list_of_whole width at (lent_span slice) (map number words) _ (c.new_unchecked.ensures.span ∙ c.in-Ok.ensures.span) (length-map words number ∙ ap length same)
+    list_of_whole width at (lent_span slice) (map number words) (length c.args.memory.now) (c.new_unchecked.ensures.span ∙ c.in-Ok.ensures.span) (length-map words number ∙ ap length same)
     ∙ ap (λ ws. memory_bits width at (map number ws)) same

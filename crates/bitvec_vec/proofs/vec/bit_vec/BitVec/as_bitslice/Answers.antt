@@ -1,7 +1,7 @@
 use Rattle.std.proofs.Common.{length, map, ◌≡◌, ◌∙◌, sym, ap, subst, IfSome, arith}
 use Rattle.bitvec.specs.BitSpan.{span_of, list_by}
+use Rattle.bitvec.specs.Span.{front_span}
 use Rattle.bitvec_slice.specs.BitSlice.{slice_span, slice_bits}
-use Rattle.bitvec_vec.specs.Front.{front_span}
 use Rattle.bitvec_vec.proofs.FrontLemmas.{length-front}
 use Rattle.bitvec_vec.proofs.VecLemmas.{front-fits, front-shown}
 use Rattle.bitvec_vec.proofs.vec.bit_vec.BitVec.as_bitslice.Goals as goal

@@ -1,7 +1,7 @@
 use Rattle.std.proofs.Common.{◌∙◌, map, sym, ap}
 use Rattle.std.specs.Vec.{with_items}
+use Rattle.bitvec.specs.Span.{front_span}
 use Rattle.bitvec_slice.specs.BitSliceMut.{lent_memory, lent_span}
-use Rattle.bitvec_vec.specs.Front.{front_span}
 use Rattle.bitvec_vec.proofs.FrontLemmas.{length-front}
 use Rattle.bitvec_vec.proofs.LendLemmas.{same-vec}
 use Rattle.bitvec_vec.proofs.VecLemmas.{front-shown}

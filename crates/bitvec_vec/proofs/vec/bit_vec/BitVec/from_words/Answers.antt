@@ -1,8 +1,9 @@
 use Rattle.std.proofs.Common.{◌≡◌, ◌<◌, ◌*◌, ◌∙◌, map, refl, sym, ap, arith}
 use Rattle.std.specs.Prelude.{vec_len}
 use Rattle.std.proofs.lemmas.List.{length-map}
+use Rattle.bitvec.specs.Span.{front_span}
 use Rattle.bitvec_slice.proofs.SlicePartLemmas.{list_of_whole}
-use Rattle.bitvec_vec.specs.Front.{front_span, front_bits}
+use Rattle.bitvec_vec.specs.Front.{front_bits}
 use Rattle.bitvec_vec.proofs.FrontLemmas.{words_are}
 use Rattle.bitvec_vec.proofs.vec.bit_vec.BitVec.from_words.Goals as goal
 
