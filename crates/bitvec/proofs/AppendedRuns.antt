@@ -2,7 +2,7 @@
 use Rattle.std.proofs.Common.{◌≡◌, ℕ, zero, suc, ◌+◌, Bool, true, false, cond, eqb, List, [], ◌∷◌, ◌++◌, length, length-append, take, ◌∙◌, ap, sym, refl, Some, None, arith}
 use Rattle.std.specs.Prelude.{slice_get, Option}
 use Rattle.std.proofs.lemmas.Option.{none-some}
-use Rattle.bitvec_domain.specs.Span.{Span, list_of}
+use Rattle.bitvec_span.specs.Span.{Span, list_of}
 use Rattle.bitvec.specs.declared.run.command.Command.{Command}
 use Rattle.bitvec.specs.declared.run.command.Request.{Request}
 use Rattle.bitvec.specs.declared.run.command.Reply.{Reply}

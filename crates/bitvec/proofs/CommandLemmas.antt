@@ -6,11 +6,11 @@ use Rattle.bitvec_mem.specs.Digit.{digit}
 use Rattle.bitvec_order.specs.Order.{IsOneToOne}
 use Rattle.bitvec_ptr.specs.Memory.{list_with_copy}
 use Rattle.bitvec_ptr.specs.Place.{words_met}
-use Rattle.bitvec_domain.specs.Span.{Span, Fits, BecomesList, list_of, element, word_of, with_word, with_filled}
-use Rattle.bitvec_domain.specs.Slot.{slot_of, EditsPart}
-use Rattle.bitvec_domain.proofs.BecomesLemmas.{becomes, becomes-same}
-use Rattle.bitvec_domain.proofs.PartEditLemmas.{becomes-edited, word_of-answered}
-use Rattle.bitvec_domain.proofs.PartLemmas.{bit_of-span, element-list_of, length-list_of}
+use Rattle.bitvec_span.specs.Span.{Span, Fits, BecomesList, list_of, element, word_of, with_word, with_filled}
+use Rattle.bitvec_span.specs.Slot.{slot_of, EditsPart}
+use Rattle.bitvec_span.proofs.BecomesLemmas.{becomes, becomes-same}
+use Rattle.bitvec_span.proofs.PartEditLemmas.{becomes-edited, word_of-answered}
+use Rattle.bitvec_span.proofs.PartLemmas.{bit_of-span, element-list_of, length-list_of}
 use Rattle.bitvec.specs.declared.run.command.Command.{Command}
 use Rattle.bitvec.specs.declared.run.command.Command.TheVariants.{Load, Store, Set, Clear, Invert, Read, Replace, Swap, Copy, Fill}
 use Rattle.bitvec.specs.declared.run.command.Reply.{Reply}

@@ -12,8 +12,8 @@ use Rattle.bitvec_ptr.specs.Memory.{list_with_copy}
 use Rattle.bitvec_ptr.specs.Place.{words_met}
 use Rattle.bitvec_ptr.proofs.CopyLemmas.{length-copied}
 use Rattle.bitvec_ptr.proofs.MemoryLemmas.{length-tabulate}
-use Rattle.bitvec_domain.specs.Span.{Span, list_of, element, word_of, with_word, with_filled}
-use Rattle.bitvec_domain.proofs.PartLemmas.{length-list_of}
+use Rattle.bitvec_span.specs.Span.{Span, list_of, element, word_of, with_word, with_filled}
+use Rattle.bitvec_span.proofs.PartLemmas.{length-list_of}
 use Rattle.bitvec.specs.declared.run.command.Command.{Command}
 use Rattle.bitvec.specs.declared.run.command.Command.TheVariants.{Load, Store, Set, Clear, Invert, Read, Replace, Swap, Copy, Fill}
 use Rattle.bitvec.specs.declared.run.command.Request.{Request}

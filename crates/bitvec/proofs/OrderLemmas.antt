@@ -13,8 +13,8 @@ use Rattle.std.proofs.lemmas.List.Sorted.{IsPermutation-keeps, All-permutation, 
 use Rattle.std.proofs.lemmas.Nat.{mul-le}
 use Rattle.std.proofs.lemmas.Option.{slice_get_read}
 use Rattle.bitvec_ptr.specs.Place.{place_at}
-use Rattle.bitvec_domain.specs.Span.{Span, AreDisjoint}
-use Rattle.bitvec_domain.proofs.DisjointLemmas.{disjoint-sym}
+use Rattle.bitvec_span.specs.Span.{Span, AreDisjoint}
+use Rattle.bitvec_span.proofs.DisjointLemmas.{disjoint-sym}
 use Rattle.bitvec.specs.Run.{span_in, span_or_empty, start_in}
 use Rattle.bitvec.proofs.RisingLemmas.{place_number}
 

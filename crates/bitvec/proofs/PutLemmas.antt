@@ -11,9 +11,9 @@ use Rattle.bitvec_order.specs.Order.{number_of, IsOneToOne}
 use Rattle.bitvec_order.proofs.IndexLemmas.{digit-number_of_at}
 use Rattle.bitvec_ptr.specs.Memory.{tabulate, bit_of}
 use Rattle.bitvec_ptr.proofs.MemoryLemmas.{get_or-tabulate, length-tabulate, tabulate-from_elements}
-use Rattle.bitvec_domain.specs.Span.{Span, Covers, Fits, element}
-use Rattle.bitvec_domain.proofs.BecomesLemmas.{list-kept}
-use Rattle.bitvec_domain.proofs.CoverLemmas.{covers-own}
+use Rattle.bitvec_span.specs.Span.{Span, Covers, Fits, element}
+use Rattle.bitvec_span.proofs.BecomesLemmas.{list-kept}
+use Rattle.bitvec_span.proofs.CoverLemmas.{covers-own}
 use Rattle.bitvec.specs.Run.{CanRun, IsPlaced, IsOutside}
 use Rattle.bitvec.proofs.RequestLemmas.{fits_at, apart_at}
 use Rattle.bitvec.proofs.TurnLemmas.{place_within}

@@ -8,8 +8,8 @@ use Rattle.std.proofs.lemmas.Nat.{mul-le, div-add-mod'}
 use Rattle.std.proofs.lemmas.Option.{get_or_from_slice_get}
 use Rattle.bitvec_ptr.specs.Place.{place_at}
 use Rattle.bitvec_ptr.proofs.PlaceLemmas.{words_met-some}
-use Rattle.bitvec_domain.specs.Span.{Span, Covers, Fits, AreDisjoint}
-use Rattle.bitvec_domain.proofs.DisjointLemmas.{disjoint-none, disjoint-sym}
+use Rattle.bitvec_span.specs.Span.{Span, Covers, Fits, AreDisjoint}
+use Rattle.bitvec_span.proofs.DisjointLemmas.{disjoint-none, disjoint-sym}
 
 -- the place of a bit from word 0 on is a number
 pub place_number : (bits i : ℕ) (word : ℤ) → pos 0 ≤ℤ word → place_at bits word i ≡ pos (nat_abs word * bits + i)

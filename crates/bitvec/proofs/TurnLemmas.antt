@@ -11,8 +11,8 @@ use Rattle.bitvec_ptr.specs.Memory.{memory_bits}
 use Rattle.bitvec_ptr.specs.Place.{words_met}
 use Rattle.bitvec_ptr.proofs.MemoryLemmas.{tabulate_same}
 use Rattle.bitvec_ptr.proofs.BitLemmas.{length-memory_bits, get_or-memory_bits}
-use Rattle.bitvec_domain.specs.Span.{Span, Fits, list_of, element, word_of, with_word}
-use Rattle.bitvec_domain.proofs.WordsLemmas.{met_within}
+use Rattle.bitvec_span.specs.Span.{Span, Fits, list_of, element, word_of, with_word}
+use Rattle.bitvec_span.proofs.WordsLemmas.{met_within}
 use Rattle.bitvec.specs.declared.run.command.Command.{Command}
 use Rattle.bitvec.specs.declared.run.command.Command.TheVariants.{Load, Store, Set, Clear, Invert, Read, Replace, Swap, Copy, Fill}
 use Rattle.bitvec.specs.declared.run.command.Reply.{Reply}

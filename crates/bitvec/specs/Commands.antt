@@ -4,7 +4,7 @@ use Rattle.std.specs.Prelude.{ℕ, ◌+◌, ◌%◌, Bool, true, false, not, ◌
 use Rattle.bitvec_mem.specs.Digit.{digit}
 use Rattle.bitvec_ptr.specs.Memory.{list_with_copy}
 use Rattle.bitvec_ptr.specs.Place.{words_met}
-use Rattle.bitvec_domain.specs.Span.{element, word_of, with_word, with_filled}
+use Rattle.bitvec_span.specs.Span.{element, word_of, with_word, with_filled}
 use Rattle.bitvec.specs.declared.run.command.Command.{Command}
 use Rattle.bitvec.specs.declared.run.command.Command.TheVariants.{Load, Store, Set, Clear, Invert, Read, Replace, Swap, Copy, Fill}
 use Rattle.bitvec.specs.declared.run.command.Request.{Request}

@@ -4,7 +4,7 @@
 use Rattle.std.specs.Prelude.{ℕ, ◌≡◌, ◌<◌, ◌==◌, if◌then◌else◌, List, [], ◌∷◌, slice_get, Some, All}
 use Rattle.std.specs.List.{AllZip}
 use Rattle.bitvec_mem.specs.Digit.{digit}
-use Rattle.bitvec_domain.specs.Span.{Span, list_of}
+use Rattle.bitvec_span.specs.Span.{Span, list_of}
 use Rattle.bitvec.specs.declared.run.command.Command.{Command}
 use Rattle.bitvec.specs.declared.run.command.Command.TheVariants.{Load, Store, Set, Clear, Invert, Read, Replace, Swap, Copy, Fill}
 use Rattle.bitvec.specs.declared.run.command.Request.{Request}

@@ -5,7 +5,7 @@ use Rattle.std.specs.Prelude.{ℕ, ℤ, pos, nat_abs, ◌+◌, ◌*◌, ◌≤�
 use Rattle.std.specs.List.{range_with_len}
 use Rattle.std.specs.List.Sorted.{IsPermutation}
 use Rattle.bitvec_ptr.specs.Memory.{bit_of}
-use Rattle.bitvec_domain.specs.Span.{Span, Fits, Covers, AreDisjoint, BecomesList, list_of}
+use Rattle.bitvec_span.specs.Span.{Span, Fits, Covers, AreDisjoint, BecomesList, list_of}
 use Rattle.bitvec.specs.declared.run.command.Command.{Command}
 use Rattle.bitvec.specs.declared.run.command.Request.{Request}
 use Rattle.bitvec.specs.declared.run.command.Reply.{Reply}

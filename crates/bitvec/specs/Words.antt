@@ -1,10 +1,10 @@
 -- What a command to one word of a span does to a memory, and what it answers: none where the span meets no such word.
 use Rattle.std.specs.Prelude.{ℕ, ◌≡◌, ◌<◌, ◌≤◌, Bool, List, map, Option, Some, None, slice_index}
 use Rattle.bitvec_ptr.specs.Place.{words_met}
-use Rattle.bitvec_domain.specs.declared.ptr.span.BitSpan.{BitSpan}
-use Rattle.bitvec_domain.specs.Span.{word_of}
-use Rattle.bitvec_domain.specs.BitSpan.{span_of, list_by}
-use Rattle.bitvec_domain.specs.Slot.{slot_of, EditsPart}
+use Rattle.bitvec_span.specs.declared.ptr.span.BitSpan.{BitSpan}
+use Rattle.bitvec_span.specs.Span.{word_of}
+use Rattle.bitvec_span.specs.BitSpan.{span_of, list_by}
+use Rattle.bitvec_span.specs.Slot.{slot_of, EditsPart}
 
 -- the answer is word k of the span's list
 abbrev pub LoadsWord : {R O : Type 0} {a b c d e f g : _} → BitSpan R O a b c d e f g → ℕ → (ℕ → ℕ) → List R → Option R → Type 0

@@ -4,9 +4,9 @@
 //! crate of its own below this one, which hands them on.
 #![tactic(auto)]
 
-pub use bitvec_domain::{domain, ptr};
 pub use bitvec_mem::mem;
 pub use bitvec_order::index;
+pub use bitvec_span::{domain, ptr};
 
 pub mod laws;
 pub mod order;

@@ -7,8 +7,8 @@ ghost use Rattle.std.specs.Prelude.{◌≡◌, ℕ, pos, ◌≤ℤ◌, ◌<◌, 
 ghost use Rattle.std.specs.Prelude.{nat_abs, ◌+◌, ◌*◌};
 ghost use Rattle.std.specs.Prelude.{AllPairs, List, [], ◌∷◌, length, map};
 ghost use Rattle.std.specs.Int.{w64, cast_unsigned};
-ghost use Rattle.bitvec_domain.specs.Span.{AreDisjoint, Fits};
-ghost use Rattle.bitvec_domain.specs.BitSpan.{span_of};
+ghost use Rattle.bitvec_span.specs.Span.{AreDisjoint, Fits};
+ghost use Rattle.bitvec_span.specs.BitSpan.{span_of};
 ghost use Rattle.bitvec.specs.Commands.{reply_number};
 ghost use Rattle.bitvec.specs.Run.{CanRun, IsRun, IsRising, span_in};
 

@@ -4,7 +4,7 @@ use Rattle.std.proofs.lemmas.Bool.{cases_eq, cases_lt}
 use Rattle.std.proofs.lemmas.Int.{ints}
 use Rattle.std.proofs.lemmas.Nat.{div-add-mod'}
 use Rattle.std.proofs.Math.Nat.{mul-le-mul_right}
-use Rattle.bitvec.specs.Place.{Ptr, index_of, words_met}
+use Rattle.bitvec.specs.Place.{Ptr, memory_place, words_met}
 use Rattle.bitvec.specs.Span.{Span, Fits, span_at}
 use Rattle.bitvec.specs.Steps.{IsIn, RangeIsIn}
 use Rattle.bitvec.proofs.MemoryLemmas.{place_parts}
@@ -46,8 +46,8 @@ range_within bits words start count some h =
     ]
 
 -- where a place is, by the pointer to it, and that it lies in the memory
-pub pointer_index : (bits place : ℕ) (p : Ptr) → p ≡ place_ptr bits place → index_of bits p ≡ place
-pointer_index bits place p is = subst (λ (q : Ptr). index_of bits q ≡ place) (sym is) (omega (arith, div-add-mod' place bits))
+pub pointer_index : (bits place : ℕ) (p : Ptr) → p ≡ place_ptr bits place → memory_place bits p ≡ place
+pointer_index bits place p is = subst (λ (q : Ptr). memory_place bits q ≡ place) (sym is) (omega (arith, div-add-mod' place bits))
 
 pub pointer_in : (bits words place : ℕ) (p : Ptr) → 0 < bits → p ≡ place_ptr bits place → place < words * bits → IsIn p words
 pointer_in bits words place p some is h =

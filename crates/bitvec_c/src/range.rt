@@ -3,7 +3,7 @@
 ghost use Rattle.std.specs.Prelude.{◌≡◌, ℕ, ◌+◌, ◌*◌, ◌<◌, ◌≤◌, length, map};
 ghost use Rattle.bitvec.specs.BitPtr.{ptr_of};
 ghost use Rattle.bitvec.specs.BitSpan.{span_of};
-ghost use Rattle.bitvec.specs.Place.{index_of, region_max_bits};
+ghost use Rattle.bitvec.specs.Place.{memory_place, region_max_bits};
 ghost use Rattle.bitvec.specs.Span.{Fits, span_at};
 ghost use Rattle.bitvec.specs.Steps.{IsIn, RangeIsIn};
 ghost use Rattle.bitvec_slice.specs.BitSlice.{slice_span, slice_bits};
@@ -19,7 +19,7 @@ use bitvec_slice::slice::{BitSlice, BitSliceMut};
 /// The pointer to the bit at a place.
 pub(crate) fn pointer<R: BitRegister, O>(place: usize) -> BitPtr<R, O>
     ensures pointer { ptr_of result ≡ place_ptr R.BITS place }
-    ensures index { index_of R.BITS (ptr_of result) ≡ place }
+    ensures index { memory_place R.BITS (ptr_of result) ≡ place }
     ensures inside { (words : ℕ) → place < words * R.BITS → IsIn (ptr_of result) words }
     ensures range_inside { (words count : ℕ) → place + count ≤ words * R.BITS
         → RangeIsIn R.BITS (ptr_of result) words count }

@@ -8,7 +8,7 @@ ghost use Rattle.std.specs.Prelude.{◌≡◌, ◌↔◌, ◌-◌, pos, IsTrue, 
 ghost use Rattle.std.specs.Ordering.{nat_cmp, int_cmp};
 ghost use Rattle.std.specs.declared.cmp.Ordering.TheVariants.{Less};
 ghost use Rattle.bitvec.specs.BitDomain.{bit_parts};
-ghost use Rattle.bitvec.specs.BitDomainMut.{lent_bits};
+ghost use Rattle.bitvec.specs.BitDomainMut.{lent_bit_parts};
 ghost use Rattle.bitvec.specs.BitParts.{bit_region, no_bits};
 ghost use Rattle.bitvec.specs.BitSpan.{span_of};
 
@@ -85,7 +85,7 @@ fn default_bit_domain<'a, R: BitRegister, O>() -> BitDomain<'a, R, O>
 }
 
 fn default_bit_domain_mut<'a, R: BitRegister, O>() -> BitDomainMut<'a, R, O>
-    ensures { lent_bits R.number result ≡ bit_region no_bits no_bits no_bits }
+    ensures { lent_bit_parts R.number result ≡ bit_region no_bits no_bits no_bits }
 {
     BitDomainMut::default()
 }

@@ -18,13 +18,13 @@ use Rattle.std.specs.declared.cmp.PartialOrd as PartialOrd
 use Rattle.std.specs.declared.hash.Hash as Hash
 use Rattle.std.specs.declared.fmt.Debug as Debug
 use Rattle.bitvec_mem.specs.declared.mem.BitRegister as BitRegister
-use Rattle.bitvec_domain.specs.contracts.domain.bit_words_mut.BitWordsMut as W
-use Rattle.bitvec_domain.specs.contracts.domain.bit_domain_mut.BitDomainMut as B
-use Rattle.bitvec_domain.specs.BitWordsMut.{words_memory}
-use Rattle.bitvec_domain.specs.BitDomainMut.{bit_loan_names, bit_loans_of, BitDomainRestsIfNone}
-use Rattle.bitvec_domain.specs.declared.domain.bit_domain_mut.BitDomainMut.TheVariants.{Enclave, Region}
-use Rattle.bitvec_domain.specs.BitLoans.{names_if}
-use Rattle.bitvec_domain.proofs.LoanEnds.{AllEnd}
+use Rattle.bitvec_span.specs.contracts.domain.bit_words_mut.BitWordsMut as W
+use Rattle.bitvec_span.specs.contracts.domain.bit_domain_mut.BitDomainMut as B
+use Rattle.bitvec_span.specs.BitWordsMut.{words_memory}
+use Rattle.bitvec_span.specs.BitDomainMut.{bit_loan_names, bit_loans_of, BitDomainRestsIfNone}
+use Rattle.bitvec_span.specs.declared.domain.bit_domain_mut.BitDomainMut.TheVariants.{Enclave, Region}
+use Rattle.bitvec_span.specs.BitLoans.{names_if}
+use Rattle.bitvec_span.proofs.LoanEnds.{AllEnd}
 use Rattle.tests_order.proofs.LentBitLemmas.{ends_or}
 
 module _ {M : Type 1} {𝓤 : Ura M} (𝓛 : Logic 𝓤) (κ : Lft) (R Or : RattleType) (rb : BitRegister.Ghosts R.Denot) (rd : Default.Ghosts R.Denot)

@@ -18,14 +18,14 @@ use Rattle.std.specs.declared.cmp.PartialOrd as PartialOrd
 use Rattle.std.specs.declared.hash.Hash as Hash
 use Rattle.std.specs.declared.fmt.Debug as Debug
 use Rattle.bitvec_mem.specs.declared.mem.BitRegister as BitRegister
-use Rattle.bitvec_domain.specs.contracts.domain.partial_element_mut.PartialElementMut as E
-use Rattle.bitvec_domain.specs.contracts.domain.domain_mut.DomainMut as D
-use Rattle.bitvec_domain.specs.PartialElementMut.{memory_of}
-use Rattle.bitvec_domain.specs.Loans.{loan_words, words_of_loans}
-use Rattle.bitvec_domain.specs.declared.domain.domain_mut.DomainMut.TheVariants.{Enclave, Region}
-use Rattle.bitvec_domain.specs.DomainMut.{part_name, part_loan, loan_names, loans_of, DomainRestsIfNone}
-use Rattle.bitvec_domain.specs.Lending.{EndsAs, RestsAt}
-use Rattle.bitvec_domain.proofs.LoanEnds.{AllEnd}
+use Rattle.bitvec_span.specs.contracts.domain.partial_element_mut.PartialElementMut as E
+use Rattle.bitvec_span.specs.contracts.domain.domain_mut.DomainMut as D
+use Rattle.bitvec_span.specs.PartialElementMut.{memory_of}
+use Rattle.bitvec_span.specs.Loans.{loan_words, words_of_loans}
+use Rattle.bitvec_span.specs.declared.domain.domain_mut.DomainMut.TheVariants.{Enclave, Region}
+use Rattle.bitvec_span.specs.DomainMut.{part_name, part_loan, loan_names, loans_of, DomainRestsIfNone}
+use Rattle.bitvec_span.specs.Lending.{EndsAs, RestsAt}
+use Rattle.bitvec_span.proofs.LoanEnds.{AllEnd}
 use Rattle.tests_order.proofs.FilledMemoryLemmas.{end_or}
 
 -- there is a value, or there is none

@@ -13,14 +13,14 @@ use Rattle.bitvec_ptr.specs.Memory.{bit_of}
 use Rattle.bitvec_ptr.specs.Place.{words_met, tail_of}
 use Rattle.bitvec_ptr.proofs.PlaceLemmas.{words_met-none, words_met-some}
 use Rattle.bitvec_ptr.proofs.MemoryLemmas.{tabulate-from_elements}
-use Rattle.bitvec_domain.specs.Span.{Span, Covers, Fits, BecomesList, list_of}
-use Rattle.bitvec_domain.specs.Parts.{part_head, part_tail, part_of}
-use Rattle.bitvec_domain.specs.Slot.{slot_at, edited_word}
-use Rattle.bitvec_domain.specs.Loans.{has_head, has_tail, body_words}
-use Rattle.bitvec_domain.proofs.BecomesLemmas.{becomes}
-use Rattle.bitvec_domain.proofs.PartLemmas.{inside-from_part, part-from_inside, bit_of-span}
-use Rattle.bitvec_domain.proofs.CoverLemmas.{covers-own}
-use Rattle.bitvec_domain.proofs.LoanLemmas.{rows, heads, tails}
+use Rattle.bitvec_span.specs.Span.{Span, Covers, Fits, BecomesList, list_of}
+use Rattle.bitvec_span.specs.Parts.{part_head, part_tail, part_of}
+use Rattle.bitvec_span.specs.Slot.{slot_at, edited_word}
+use Rattle.bitvec_span.specs.Loans.{has_head, has_tail, body_words}
+use Rattle.bitvec_span.proofs.BecomesLemmas.{becomes}
+use Rattle.bitvec_span.proofs.PartLemmas.{inside-from_part, part-from_inside, bit_of-span}
+use Rattle.bitvec_span.proofs.CoverLemmas.{covers-own}
+use Rattle.bitvec_span.proofs.LoanLemmas.{rows, heads, tails}
 use Rattle.tests_order.specs.FilledDomain.{word_of_bit, filled_slot_if, filled_memory}
 
 -- a word so many times, by its number

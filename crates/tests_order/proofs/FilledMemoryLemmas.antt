@@ -4,10 +4,10 @@ use Rattle.std.proofs.lemmas.List.{take-map, drop-map, map-append, length-take-l
 use Rattle.std.specs.Prelude.{nat_abs, Option, Some, None, option_map}
 use Rattle.std.proofs.lemmas.Bool.{eqb-true}
 use Rattle.bitvec_ptr.specs.Place.{words_met, tail_of}
-use Rattle.bitvec_domain.specs.Span.{Span}
-use Rattle.bitvec_domain.specs.Slot.{Slot, slot_at}
-use Rattle.bitvec_domain.specs.Loans.{Loans, is_inside, has_head, has_tail, words_before, body_words, head_slot, tail_slot, loan_at, span_loans}
-use Rattle.bitvec_domain.proofs.LoanLemmas.{rows, inside, heads, tails, loans-within}
+use Rattle.bitvec_span.specs.Span.{Span}
+use Rattle.bitvec_span.specs.Slot.{Slot, slot_at}
+use Rattle.bitvec_span.specs.Loans.{Loans, is_inside, has_head, has_tail, words_before, body_words, head_slot, tail_slot, loan_at, span_loans}
+use Rattle.bitvec_span.proofs.LoanLemmas.{rows, inside, heads, tails, loans-within}
 use Rattle.tests_order.specs.FilledDomain.{word_of_bit, filled_slot_if, filled_loan, filled_loans, filled_memory, numbers_of_words}
 
 -- the list that a loan ends as, or another where nothing was lent

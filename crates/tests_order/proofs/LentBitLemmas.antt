@@ -5,13 +5,13 @@ use Rattle.std.proofs.lemmas.Bool.{cases_lt}
 use Rattle.std.specs.Prelude.{nat_abs, Option, Some, None, is_some, option_map, slice_set}
 use Rattle.bitvec_ptr.specs.Memory.{tabulate, bit_of, memory_bits}
 use Rattle.bitvec_ptr.specs.Place.{words_met}
-use Rattle.bitvec_domain.specs.Span.{Span}
-use Rattle.bitvec_domain.specs.Slot.{Slot, slot_at}
-use Rattle.bitvec_domain.specs.Stretch.{slot_stretch, whole_stretch}
-use Rattle.bitvec_domain.specs.Loans.{Loan, Loans, is_inside, has_head, has_tail, words_before, body_words, head_slot, tail_slot, loan_at, span_loans}
-use Rattle.bitvec_domain.specs.BitLoans.{BitLoans, stretch_loan, stretch_loans}
-use Rattle.bitvec_domain.proofs.AppendLemmas.{memory_bits-append}
-use Rattle.bitvec_domain.proofs.LoanLemmas.{true_false, loans-within, inside-alone}
+use Rattle.bitvec_span.specs.Span.{Span}
+use Rattle.bitvec_span.specs.Slot.{Slot, slot_at}
+use Rattle.bitvec_span.specs.Stretch.{slot_stretch, whole_stretch}
+use Rattle.bitvec_span.specs.Loans.{Loan, Loans, is_inside, has_head, has_tail, words_before, body_words, head_slot, tail_slot, loan_at, span_loans}
+use Rattle.bitvec_span.specs.BitLoans.{BitLoans, stretch_loan, stretch_loans}
+use Rattle.bitvec_span.proofs.AppendLemmas.{memory_bits-append}
+use Rattle.bitvec_span.proofs.LoanLemmas.{true_false, loans-within, inside-alone}
 use Rattle.tests_order.specs.LentBits.{first_set, first_set_if, first_set_of, firsts_set_of, loan_bits, firsts_set}
 use Rattle.tests_order.proofs.FilledMemoryLemmas.{inside-none}
 

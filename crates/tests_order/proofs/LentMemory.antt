@@ -14,8 +14,8 @@ use denote.Shadow.{pure_i}
 use denote.Ref.{at_last}
 use borrow.Rule.Slice.Lend.{kept_f, sl_relend, sl_relent_backˡ}
 use borrow.Table.Owned.{MutSlice as OSlice}
-use Rattle.bitvec_domain.specs.Lending.{LendsNamed}
-use Rattle.bitvec_domain.proofs.LoanEnds.{AllEnd}
+use Rattle.bitvec_span.specs.Lending.{LendsNamed}
+use Rattle.bitvec_span.proofs.LoanEnds.{AllEnd}
 
 -- the same reference under another name
 abbrev pub named_as : {X : Type 0} → GName → MutBor X → MutBor X

@@ -1,8 +1,8 @@
 -- Filling the parts of a span one by one: the words behind each loan of a domain then, and what the memory is.
 use Rattle.std.specs.Prelude.{ℕ, ◌^◌, ◌-◌, Bool, if◌then◌else◌, List, ◌++◌, length, map, take, drop, replicate, slice_set, Option, Some, None, option_map}
-use Rattle.bitvec_domain.specs.Span.{Span}
-use Rattle.bitvec_domain.specs.Slot.{Slot, slot_part, edited_word}
-use Rattle.bitvec_domain.specs.Loans.{Loan, Loans, words_before, body_words, head_slot, tail_slot}
+use Rattle.bitvec_span.specs.Span.{Span}
+use Rattle.bitvec_span.specs.Slot.{Slot, slot_part, edited_word}
+use Rattle.bitvec_span.specs.Loans.{Loan, Loans, words_before, body_words, head_slot, tail_slot}
 
 -- the word whose bits are all the same
 abbrev pub word_of_bit : ℕ → Bool → ℕ

@@ -1,10 +1,10 @@
 -- Setting the first bit of each stretch that a memory is lent as: the bits behind each loan then, and those of the memory.
 use Rattle.std.specs.Prelude.{ℕ, ◌+◌, ◌*◌, ◌==◌, Bool, true, if◌then◌else◌, List, ◌++◌, map, take, drop, slice_set, Option, Some, None, option_map}
 use Rattle.bitvec_ptr.specs.Memory.{memory_bits}
-use Rattle.bitvec_domain.specs.Span.{Span}
-use Rattle.bitvec_domain.specs.Stretch.{Stretch, slot_stretch, whole_stretch}
-use Rattle.bitvec_domain.specs.Loans.{Loan, words_before, body_words, head_slot, tail_slot}
-use Rattle.bitvec_domain.specs.BitLoans.{BitLoans}
+use Rattle.bitvec_span.specs.Span.{Span}
+use Rattle.bitvec_span.specs.Stretch.{Stretch, slot_stretch, whole_stretch}
+use Rattle.bitvec_span.specs.Loans.{Loan, words_before, body_words, head_slot, tail_slot}
+use Rattle.bitvec_span.specs.BitLoans.{BitLoans}
 
 -- the bits of some words with the first bit of a stretch in them set, where the stretch has bits
 abbrev pub first_set : ℕ → (ℕ → ℕ) → Stretch → List ℕ → List Bool

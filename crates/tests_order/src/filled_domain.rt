@@ -2,19 +2,19 @@
 //! knows from the clause on the ends of the loans what the whole memory is then.
 
 ghost use Rattle.std.specs.Prelude.{◌≡◌, length, map, replicate, option_map};
-ghost use Rattle.bitvec_domain.specs.Span.{Fits};
-ghost use Rattle.bitvec_domain.specs.BitSpan.{span_of, Becomes};
-ghost use Rattle.bitvec_domain.specs.PartialElementMut.{memory_of};
-ghost use Rattle.bitvec_domain.specs.Loans.{loan_words, words_of_loans};
-ghost use Rattle.bitvec_domain.specs.DomainMut.{part_name, part_loan, loan_names, loans_of};
+ghost use Rattle.bitvec_span.specs.Span.{Fits};
+ghost use Rattle.bitvec_span.specs.BitSpan.{span_of, Becomes};
+ghost use Rattle.bitvec_span.specs.PartialElementMut.{memory_of};
+ghost use Rattle.bitvec_span.specs.Loans.{loan_words, words_of_loans};
+ghost use Rattle.bitvec_span.specs.DomainMut.{part_name, part_loan, loan_names, loans_of};
 ghost use Rattle.tests_order.specs.FilledDomain.{word_of_bit, filled_loan, filled_loans};
 ghost use Rattle.tests_order.specs.FilledDomain.{filled_memory, numbers_of_words};
 
-use bitvec_domain::domain::{DomainMut, PartialElementMut};
-use bitvec_domain::ptr::span::BitSpan;
 use bitvec_mem::mem::BitRegister;
 use bitvec_order::index::BitIdx;
 use bitvec_order::order::{BitOrder, Lsb0};
+use bitvec_span::domain::{DomainMut, PartialElementMut};
+use bitvec_span::ptr::span::BitSpan;
 
 // Makes each bit of some words the same.
 fn fill_words<R: BitRegister>(words: &mut [R], bit: bool)

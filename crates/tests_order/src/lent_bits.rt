@@ -3,17 +3,17 @@
 
 ghost use Rattle.std.specs.Prelude.{◌≡◌, length, map};
 ghost use Rattle.bitvec_ptr.specs.Memory.{memory_bits};
-ghost use Rattle.bitvec_domain.specs.Span.{Fits};
-ghost use Rattle.bitvec_domain.specs.BitSpan.{span_of};
-ghost use Rattle.bitvec_domain.specs.BitWordsMut.{words_memory};
-ghost use Rattle.bitvec_domain.specs.BitDomainMut.{words_loan, bit_loan_names, bit_loans_of};
+ghost use Rattle.bitvec_span.specs.Span.{Fits};
+ghost use Rattle.bitvec_span.specs.BitSpan.{span_of};
+ghost use Rattle.bitvec_span.specs.BitWordsMut.{words_memory};
+ghost use Rattle.bitvec_span.specs.BitDomainMut.{words_loan, bit_loan_names, bit_loans_of};
 ghost use Rattle.tests_order.specs.LentBits.{first_set_of, firsts_set_of, loan_bits, firsts_set};
 
-use bitvec_domain::domain::{BitDomainMut, BitWordsMut};
-use bitvec_domain::ptr::span::BitSpan;
 use bitvec_mem::mem::BitRegister;
 use bitvec_order::index::BitIdx;
 use bitvec_order::order::{BitOrder, Lsb0};
+use bitvec_span::domain::{BitDomainMut, BitWordsMut};
+use bitvec_span::ptr::span::BitSpan;
 
 // Sets the first bit of a stretch that has bits.
 fn with_first<'a, R: BitRegister, O: BitOrder<R>>(

@@ -1,8 +1,8 @@
 //! One command through one span, each with what it does to the span's list and to the whole memory.
 
 ghost use Rattle.std.specs.Prelude.{◌≡◌, ℕ, ◌+◌, ◌≤◌, ◌↔◌, IsTrue, length, map};
-ghost use Rattle.bitvec_domain.specs.Span.{Fits};
-ghost use Rattle.bitvec_domain.specs.BitSpan.{span_of};
+ghost use Rattle.bitvec_span.specs.Span.{Fits};
+ghost use Rattle.bitvec_span.specs.BitSpan.{span_of};
 ghost use Rattle.bitvec.specs.Commands.{reply_number};
 ghost use Rattle.bitvec.specs.Run.{IsStep};
 ghost use Rattle.bitvec.specs.declared.run.command.Command.TheVariants.{Load, Store, Set, Clear};

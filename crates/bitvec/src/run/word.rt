@@ -2,8 +2,8 @@
 
 ghost use Rattle.std.specs.Prelude.{ℕ, true, false, not, length};
 ghost use Rattle.bitvec_mem.specs.Digit.{digit};
-ghost use Rattle.bitvec_domain.specs.Span.{Fits};
-ghost use Rattle.bitvec_domain.specs.BitSpan.{span_of};
+ghost use Rattle.bitvec_span.specs.Span.{Fits};
+ghost use Rattle.bitvec_span.specs.BitSpan.{span_of};
 ghost use Rattle.bitvec.specs.Words.{LoadsWord, EditsWord};
 
 use crate::mem::BitRegister;

@@ -8,7 +8,7 @@
 ghost use Rattle.std.specs.Prelude.{◌≡◌, ℕ, ℤ, pos, nat_abs, ◌+◌, ◌*◌, ◌<◌, ◌≤◌, ◌+ℤ◌, ◌≤ℤ◌, true};
 ghost use Rattle.std.specs.Prelude.{false, length, map};
 ghost use Rattle.std.specs.Int.{int_div_euclid};
-ghost use Rattle.bitvec_ptr.specs.BitPtr.{ptr_of, index_at, bits_by, far_edge};
+ghost use Rattle.bitvec_ptr.specs.BitPtr.{ptr_of, ptr_place, bits_by, far_edge};
 ghost use Rattle.bitvec_ptr.specs.Memory.{list_with_copy, list_with};
 ghost use Rattle.bitvec_ptr.specs.Place.{place_of, words_met, region_max_bits};
 ghost use Rattle.bitvec_ptr.specs.Steps.{RangeIsIn, AreApart};
@@ -64,8 +64,8 @@ impl<R: BitRegister, O: BitOrder<R>> BitPtr<R, O> {
         ensures falling_mark { 0 < count → (writer_of writer.old).rising ≡ false
             → (writer_of writer.new).mark ≡ nat_abs (ptr_of dest).word }
         ensures bits { bits_by dest O2.at_of (writer_of writer.new).words ≡ list_with_copy
-            (bits_by self O.at_of memory.now) (index_at self)
-            (bits_by dest O2.at_of (writer_of writer.old).words) (index_at dest) count }
+            (bits_by self O.at_of memory.now) (ptr_place self)
+            (bits_by dest O2.at_of (writer_of writer.old).words) (ptr_place dest) count }
         ensures none { count ≡ 0 → writer_of writer.new ≡ writer_of writer.old }
     {
         self.combine_through::<Source, R2, O2>(memory, dest, writer, count);
@@ -118,8 +118,8 @@ impl<R: BitRegister, O: BitOrder<R>> BitPtr<R, O> {
         ensures falling_mark { 0 < count → (writer_of writer.old).rising ≡ false
             → (writer_of writer.new).mark ≡ nat_abs (ptr_of dest).word }
         ensures bits { bits_by dest O2.at_of (writer_of writer.new).words
-            ≡ list_with C.of (bits_by self O.at_of memory.now) (index_at self)
-            (bits_by dest O2.at_of (writer_of writer.old).words) (index_at dest) count }
+            ≡ list_with C.of (bits_by self O.at_of memory.now) (ptr_place self)
+            (bits_by dest O2.at_of (writer_of writer.old).words) (ptr_place dest) count }
         ensures none { count ≡ 0 → writer_of writer.new ≡ writer_of writer.old }
     {
         if count == 0 {
@@ -146,9 +146,9 @@ impl<R: BitRegister, O: BitOrder<R>> BitPtr<R, O> {
             → (writer_of writer.old).mark ≡ nat_abs (ptr_of dest).word }
         requires falling { 0 < count → (writer_of writer.old).rising ≡ false
             → (writer_of writer.old).mark ≡ far_edge dest count }
-        requires needs_rising { 0 < count → index_at dest ≤ index_at self
+        requires needs_rising { 0 < count → ptr_place dest ≤ ptr_place self
             → (writer_of writer.old).rising ≡ true }
-        requires needs_falling { 0 < count → index_at self < index_at dest
+        requires needs_falling { 0 < count → ptr_place self < ptr_place dest
             → (writer_of writer.old).rising ≡ false }
         ensures reference { (writer_memory writer.new).ghost_name
             ≡ (writer_memory writer.old).ghost_name }
@@ -162,7 +162,7 @@ impl<R: BitRegister, O: BitOrder<R>> BitPtr<R, O> {
             → (writer_of writer.new).mark ≡ nat_abs (ptr_of dest).word }
         ensures bits { let old = bits_by self O.at_of (writer_of writer.old).words
             in bits_by self O.at_of (writer_of writer.new).words
-            ≡ list_with_copy old (index_at self) old (index_at dest) count }
+            ≡ list_with_copy old (ptr_place self) old (ptr_place dest) count }
         ensures none { count ≡ 0 → writer_of writer.new ≡ writer_of writer.old }
     {
         self.combine_within_through::<Source>(dest, writer, count);
@@ -203,9 +203,9 @@ impl<R: BitRegister, O: BitOrder<R>> BitPtr<R, O> {
             → (writer_of writer.old).mark ≡ nat_abs (ptr_of dest).word }
         requires falling { 0 < count → (writer_of writer.old).rising ≡ false
             → (writer_of writer.old).mark ≡ far_edge dest count }
-        requires needs_rising { 0 < count → index_at dest ≤ index_at self
+        requires needs_rising { 0 < count → ptr_place dest ≤ ptr_place self
             → (writer_of writer.old).rising ≡ true }
-        requires needs_falling { 0 < count → index_at self < index_at dest
+        requires needs_falling { 0 < count → ptr_place self < ptr_place dest
             → (writer_of writer.old).rising ≡ false }
         ensures reference { (writer_memory writer.new).ghost_name
             ≡ (writer_memory writer.old).ghost_name }
@@ -219,7 +219,7 @@ impl<R: BitRegister, O: BitOrder<R>> BitPtr<R, O> {
             → (writer_of writer.new).mark ≡ nat_abs (ptr_of dest).word }
         ensures bits { let old = bits_by self O.at_of (writer_of writer.old).words
             in bits_by self O.at_of (writer_of writer.new).words
-            ≡ list_with C.of old (index_at self) old (index_at dest) count }
+            ≡ list_with C.of old (ptr_place self) old (ptr_place dest) count }
         ensures none { count ≡ 0 → writer_of writer.new ≡ writer_of writer.old }
     {
         if count == 0 {
@@ -256,8 +256,8 @@ impl<R: BitRegister, O: BitOrder<R>> BitPtr<R, O> {
         requires from_in { RangeIsIn R.BITS (ptr_of self) (length memory.now) count }
         requires to_in { RangeIsIn R2.BITS (ptr_of dest) (length target.old) count }
         ensures bits { bits_by dest O2.at_of target.new
-            ≡ list_with_copy (bits_by self O.at_of memory.now) (index_at self)
-            (bits_by dest O2.at_of target.old) (index_at dest) count }
+            ≡ list_with_copy (bits_by self O.at_of memory.now) (ptr_place self)
+            (bits_by dest O2.at_of target.old) (ptr_place dest) count }
         ensures words { length target.new ≡ length target.old }
     {
         let to = Cursor::at(dest);
@@ -294,8 +294,8 @@ impl<R: BitRegister, O: BitOrder<R>> BitPtr<R, O> {
         requires from_in { RangeIsIn R.BITS (ptr_of self) (length memory.now) count }
         requires to_in { RangeIsIn R2.BITS (ptr_of dest) (length target.old) count }
         ensures bits { bits_by dest O2.at_of target.new
-            ≡ list_with C.of (bits_by self O.at_of memory.now) (index_at self)
-            (bits_by dest O2.at_of target.old) (index_at dest) count }
+            ≡ list_with C.of (bits_by self O.at_of memory.now) (ptr_place self)
+            (bits_by dest O2.at_of target.old) (ptr_place dest) count }
         ensures words { length target.new ≡ length target.old }
     {
         let to = Cursor::at(dest);
@@ -317,8 +317,8 @@ impl<R: BitRegister, O: BitOrder<R>> BitPtr<R, O> {
         requires from_in { RangeIsIn R.BITS (ptr_of self) (length memory.now) count }
         requires to_in { RangeIsIn R2.BITS (ptr_of dest) (length target.old) count }
         ensures bits { bits_by dest O2.at_of target.new
-            ≡ list_with_copy (bits_by self O.at_of memory.now) (index_at self)
-            (bits_by dest O2.at_of target.old) (index_at dest) count }
+            ≡ list_with_copy (bits_by self O.at_of memory.now) (ptr_place self)
+            (bits_by dest O2.at_of target.old) (ptr_place dest) count }
         ensures words { length target.new ≡ length target.old }
     {
         self.copy_to(memory, dest, target, count);
@@ -340,8 +340,8 @@ impl<R: BitRegister, O: BitOrder<R>> BitPtr<R, O> {
         requires from_in { RangeIsIn R2.BITS (ptr_of src) (length source.now) count }
         requires to_in { RangeIsIn R.BITS (ptr_of self) (length memory.old) count }
         ensures bits { bits_by self O.at_of memory.new
-            ≡ list_with_copy (bits_by src O2.at_of source.now) (index_at src)
-            (bits_by self O.at_of memory.old) (index_at self) count }
+            ≡ list_with_copy (bits_by src O2.at_of source.now) (ptr_place src)
+            (bits_by self O.at_of memory.old) (ptr_place self) count }
         ensures words { length memory.new ≡ length memory.old }
     {
         src.copy_to(source, self, memory, count);
@@ -360,8 +360,8 @@ impl<R: BitRegister, O: BitOrder<R>> BitPtr<R, O> {
         requires from_in { RangeIsIn R2.BITS (ptr_of src) (length source.now) count }
         requires to_in { RangeIsIn R.BITS (ptr_of self) (length memory.old) count }
         ensures bits { bits_by self O.at_of memory.new
-            ≡ list_with_copy (bits_by src O2.at_of source.now) (index_at src)
-            (bits_by self O.at_of memory.old) (index_at self) count }
+            ≡ list_with_copy (bits_by src O2.at_of source.now) (ptr_place src)
+            (bits_by self O.at_of memory.old) (ptr_place self) count }
         ensures words { length memory.new ≡ length memory.old }
     {
         self.copy_from(memory, src, source, count);
@@ -378,7 +378,7 @@ impl<R: BitRegister, O: BitOrder<R>> BitPtr<R, O> {
         requires from_in { RangeIsIn R.BITS (ptr_of self) (length memory.old) count }
         requires to_in { RangeIsIn R.BITS (ptr_of dest) (length memory.old) count }
         ensures bits { let old = bits_by self O.at_of memory.old in bits_by self O.at_of memory.new
-            ≡ list_with_copy old (index_at self) old (index_at dest) count }
+            ≡ list_with_copy old (ptr_place self) old (ptr_place dest) count }
         ensures words { length memory.new ≡ length memory.old }
     {
         self.combine_within::<Source>(memory, dest, count);
@@ -404,7 +404,7 @@ impl<R: BitRegister, O: BitOrder<R>> BitPtr<R, O> {
         requires from_in { RangeIsIn R.BITS (ptr_of self) (length memory.old) count }
         requires to_in { RangeIsIn R.BITS (ptr_of dest) (length memory.old) count }
         ensures bits { let old = bits_by self O.at_of memory.old in bits_by self O.at_of memory.new
-            ≡ list_with C.of old (index_at self) old (index_at dest) count }
+            ≡ list_with C.of old (ptr_place self) old (ptr_place dest) count }
         ensures words { length memory.new ≡ length memory.old }
     {
         let to = Cursor::at(dest);
@@ -425,7 +425,7 @@ impl<R: BitRegister, O: BitOrder<R>> BitPtr<R, O> {
         requires from_in { RangeIsIn R.BITS (ptr_of src) (length memory.old) count }
         requires to_in { RangeIsIn R.BITS (ptr_of self) (length memory.old) count }
         ensures bits { let old = bits_by self O.at_of memory.old in bits_by self O.at_of memory.new
-            ≡ list_with_copy old (index_at src) old (index_at self) count }
+            ≡ list_with_copy old (ptr_place src) old (ptr_place self) count }
         ensures words { length memory.new ≡ length memory.old }
     {
         src.copy_within(memory, self, count);
@@ -448,7 +448,7 @@ impl<R: BitRegister, O: BitOrder<R>> BitPtr<R, O> {
             ≤ℤ isize.MAX }
         requires apart { AreApart R.BITS (ptr_of self) (ptr_of dest) count }
         ensures bits { let old = bits_by self O.at_of memory.old in bits_by self O.at_of memory.new
-            ≡ list_with_copy old (index_at self) old (index_at dest) count }
+            ≡ list_with_copy old (ptr_place self) old (ptr_place dest) count }
         ensures words { length memory.new ≡ length memory.old }
     {
         self.copy_within(memory, dest, count);

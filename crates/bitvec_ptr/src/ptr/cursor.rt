@@ -2,7 +2,7 @@
 
 ghost use Rattle.std.specs.Prelude.{◌≡◌, ⊤, ℕ, pos, nat_abs, ◌+◌, ◌-◌, ◌*◌, ◌<◌, ◌≤◌, ◌≤ℤ◌, true};
 ghost use Rattle.std.specs.Prelude.{false, length, map};
-ghost use Rattle.bitvec_ptr.specs.BitPtr.{ptr_of, index_at};
+ghost use Rattle.bitvec_ptr.specs.BitPtr.{ptr_of, ptr_place};
 ghost use Rattle.bitvec_ptr.specs.Memory.{bit_of};
 
 use crate::ptr::single::{BitPtr, bit_at};
@@ -12,7 +12,7 @@ use bitvec_order::order::BitOrder;
 use std::alloc::AllocError;
 use std::marker::PhantomData;
 
-// A offset from the first of a memory on: the index of a word, and that of a bit in it.
+// A place counted from the first of a memory on: the index of a word, and that of a bit in it.
 //
 // It is no single number, since the places of a long memory pass the type.
 #[derive_where(Copy)]
@@ -34,7 +34,7 @@ impl<R: BitRegister> Clone for Cursor<R> {
 }
 
 impl<R: BitRegister> Cursor<R> {
-    ghost use Rattle.bitvec_ptr.specs.Cursor.{offset};
+    ghost use Rattle.bitvec_ptr.specs.Cursor.{cursor_place};
 
     // The place of a bit of a word.
     pub(super) fn new(word: usize, bit: u8) -> Self
@@ -54,7 +54,7 @@ impl<R: BitRegister> Cursor<R> {
         requires { pos 0 ≤ℤ (ptr_of pointer).word }
         ensures word { result.word ≡ nat_abs (ptr_of pointer).word }
         ensures bit { result.bit ≡ (ptr_of pointer).bit }
-        ensures place { offset result ≡ index_at pointer }
+        ensures place { cursor_place result ≡ ptr_place pointer }
     {
         Cursor::new(pointer.address() as usize, pointer.bit().into_inner())
     }
@@ -62,7 +62,7 @@ impl<R: BitRegister> Cursor<R> {
     // The next place.
     pub(super) fn next(self) -> Self
         requires { self.word < usize.MAX }
-        ensures { offset result ≡ offset self + 1 }
+        ensures { cursor_place result ≡ cursor_place self + 1 }
     {
         if self.bit < R::MASK {
             Cursor::new(self.word, self.bit + 1)
@@ -73,8 +73,8 @@ impl<R: BitRegister> Cursor<R> {
 
     // The place `count` places on.
     pub(super) fn advanced(self, count: usize) -> Self
-        requires { offset self + count < 18446744073709551616 * R.BITS }
-        ensures { offset result ≡ offset self + count }
+        requires { cursor_place self + count < 18446744073709551616 * R.BITS }
+        ensures { cursor_place result ≡ cursor_place self + count }
     {
         let width = usize::from(R::BITS);
         let bit = usize::from(self.bit) + count % width;
@@ -85,8 +85,8 @@ impl<R: BitRegister> Cursor<R> {
     #[inline(always)]
     pub(super) fn words_on<R2: BitRegister>(self, count: usize) -> Self
         requires short { count * R2.BITS ≤ usize.MAX }
-        requires inside { offset self + count * R2.BITS < 18446744073709551616 * R.BITS }
-        ensures place { offset result ≡ offset self + count * R2.BITS }
+        requires inside { cursor_place self + count * R2.BITS < 18446744073709551616 * R.BITS }
+        ensures place { cursor_place result ≡ cursor_place self + count * R2.BITS }
         ensures bit { R.BITS ≡ R2.BITS → result.bit ≡ self.bit }
     {
         if R::BITS == R2::BITS {
@@ -100,8 +100,8 @@ impl<R: BitRegister> Cursor<R> {
 
     // Whether the place is at or before another.
     pub(super) fn is_at_most(self, other: Self) -> bool
-        ensures yes { result ≡ true → offset self ≤ offset other }
-        ensures no { result ≡ false → offset other < offset self }
+        ensures yes { result ≡ true → cursor_place self ≤ cursor_place other }
+        ensures no { result ≡ false → cursor_place other < cursor_place self }
     {
         if self.word == other.word {
             return self.bit <= other.bit;
@@ -112,7 +112,7 @@ impl<R: BitRegister> Cursor<R> {
     // The bit at the place.
     pub(super) fn read<O: BitOrder<R>>(self, memory: &[R]) -> bool
         requires { self.word < length memory.now }
-        ensures { result ≡ bit_of R.BITS O.at_of (map R.number memory.now) (offset self) }
+        ensures { result ≡ bit_of R.BITS O.at_of (map R.number memory.now) (cursor_place self) }
     {
         bit_at::<R, O>(memory[self.word], BitIdx::new_unchecked(self.bit))
     }

@@ -344,7 +344,7 @@ pub(crate) fn with_bit<R: BitRegister, O: BitOrder<R>>(word: R, index: BitIdx<R>
 }
 
 impl<R: BitRegister, O: BitOrder<R>> BitPtr<R, O> {
-    ghost use Rattle.bitvec_ptr.specs.BitPtr.{ptr_of, index_at, bits_by};
+    ghost use Rattle.bitvec_ptr.specs.BitPtr.{ptr_of, ptr_place, bits_by};
 
     /// The pointer's bit in a memory that has its word: [`is_in`](BitPtr::is_in) is the test.
     /// Constant time.
@@ -360,7 +360,7 @@ impl<R: BitRegister, O: BitOrder<R>> BitPtr<R, O> {
     /// ```
     pub fn read(self, memory: &[R]) -> bool
         requires { IsIn (ptr_of self) (length memory.now) }
-        ensures { slice_get (bits_by self O.at_of memory.now) (index_at self) ≡ Some result }
+        ensures { slice_get (bits_by self O.at_of memory.now) (ptr_place self) ≡ Some result }
     {
         bit_at::<R, O>(memory[self.word as usize], self.bit())
     }
@@ -379,7 +379,7 @@ impl<R: BitRegister, O: BitOrder<R>> BitPtr<R, O> {
     pub fn write(self, memory: &mut [R], bit: bool)
         requires { IsIn (ptr_of self) (length memory.old) }
         ensures bits { bits_by self O.at_of memory.new ≡ slice_set (bits_by self O.at_of memory.old)
-            (index_at self) bit }
+            (ptr_place self) bit }
         ensures words { length memory.new ≡ length memory.old }
     {
         let at = self.word as usize;
@@ -390,10 +390,10 @@ impl<R: BitRegister, O: BitOrder<R>> BitPtr<R, O> {
     /// Constant time.
     pub fn replace(self, memory: &mut [R], bit: bool) -> bool
         requires { IsIn (ptr_of self) (length memory.old) }
-        ensures previous { slice_get (bits_by self O.at_of memory.old) (index_at self)
+        ensures previous { slice_get (bits_by self O.at_of memory.old) (ptr_place self)
             ≡ Some result }
         ensures bits { bits_by self O.at_of memory.new ≡ slice_set (bits_by self O.at_of memory.old)
-            (index_at self) bit }
+            (ptr_place self) bit }
         ensures words { length memory.new ≡ length memory.old }
     {
         let previous = self.read(memory);
@@ -412,10 +412,10 @@ impl<R: BitRegister, O: BitOrder<R>> BitPtr<R, O> {
         requires self_in { IsIn (ptr_of self) (length memory.old) }
         requires with_in { IsIn (ptr_of with) (length other.old) }
         ensures bits { bits_by self O.at_of memory.new ≡ slice_set (bits_by self O.at_of memory.old)
-            (index_at self) (bit_of R2.BITS O2.at_of (map R2.number other.old) (index_at with)) }
+            (ptr_place self) (bit_of R2.BITS O2.at_of (map R2.number other.old) (ptr_place with)) }
         ensures other_bits { bits_by with O2.at_of other.new ≡ slice_set
-            (bits_by with O2.at_of other.old) (index_at with)
-            (bit_of R.BITS O.at_of (map R.number memory.old) (index_at self)) }
+            (bits_by with O2.at_of other.old) (ptr_place with)
+            (bit_of R.BITS O.at_of (map R.number memory.old) (ptr_place self)) }
         ensures words { length memory.new ≡ length memory.old }
         ensures other_words { length other.new ≡ length other.old }
     {
@@ -431,7 +431,7 @@ impl<R: BitRegister, O: BitOrder<R>> BitPtr<R, O> {
         requires self_in { IsIn (ptr_of self) (length memory.old) }
         requires with_in { IsIn (ptr_of with) (length memory.old) }
         ensures bits { bits_by self O.at_of memory.new ≡ swap (bits_by self O.at_of memory.old)
-            (index_at self) (index_at with) }
+            (ptr_place self) (ptr_place with) }
         ensures words { length memory.new ≡ length memory.old }
     {
         let theirs = with.read(memory);

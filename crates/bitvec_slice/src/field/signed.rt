@@ -277,9 +277,9 @@ impl<'a, R: BitRegister, O: Sequential<R>> BitSliceMut<'a, R, O> {
         ensures stored { let count = length (lent_bits self.old)
             in BecomesBits self.old self.new (field_list false R.BITS O.RISES
             (lent_span self.old).head count (complement_of count (N.number value))) }
-        ensures loaded { let count = length (lent_bits self.old)
-            in FitsSignedDigits count (N.number value) → signed_of count (field_number false R.BITS O.RISES
-            (lent_span self.new).head (lent_bits self.new)) ≡ N.number value }
+        ensures loaded { let count = length (lent_bits self.old) in FitsSignedDigits count (N.number
+            value) → signed_of count (field_number false R.BITS O.RISES (lent_span self.new).head
+            (lent_bits self.new)) ≡ N.number value }
     {
         self.store_le(value.to_i128().cast_unsigned());
     }
@@ -295,9 +295,9 @@ impl<'a, R: BitRegister, O: Sequential<R>> BitSliceMut<'a, R, O> {
         ensures stored { let count = length (lent_bits self.old)
             in BecomesBits self.old self.new (field_list true R.BITS O.RISES
             (lent_span self.old).head count (complement_of count (N.number value))) }
-        ensures loaded { let count = length (lent_bits self.old)
-            in FitsSignedDigits count (N.number value) → signed_of count (field_number true R.BITS O.RISES
-            (lent_span self.new).head (lent_bits self.new)) ≡ N.number value }
+        ensures loaded { let count = length (lent_bits self.old) in FitsSignedDigits count (N.number
+            value) → signed_of count (field_number true R.BITS O.RISES (lent_span self.new).head
+            (lent_bits self.new)) ≡ N.number value }
     {
         self.store_be(value.to_i128().cast_unsigned());
     }

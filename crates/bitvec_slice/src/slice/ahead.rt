@@ -79,12 +79,11 @@ impl<'a, R: BitRegister, O: BitOrder<R>> Ahead<'a, R, O> {
     #[inline(always)]
     fn found(&self, end: usize) -> Option<(usize, R, u8)>
         requires { end ≤ slice_len self.now.slice }
-        ensures { let upto = stretch_end R.BITS (slice_span self.now.slice).head
-            (slice_len self.now.slice)
-            in MatchOption result
-            (AllBetween (not self.now.bit) (slice_bits self.now.slice) self.now.next end)
-            (λ it. IsFound R.BITS O.at_of (slice_span self.now.slice).head (slice_bits self.now.slice)
-            self.now.bit self.now.next (upto it.0) it.0 (R.number it.1) it.2) }
+        ensures { let upto = stretch_end R.BITS (slice_span self.now.slice).head (slice_len
+            self.now.slice) in MatchOption result (AllBetween (not self.now.bit) (slice_bits
+            self.now.slice) self.now.next end) (λ it. IsFound R.BITS O.at_of (slice_span
+            self.now.slice).head (slice_bits self.now.slice) self.now.bit self.now.next (upto it.0)
+            it.0 (R.number it.1) it.2) }
     {
         match first_index::<R, O>(self.left) {
             Some(index) => Some((self.word, self.left, index)),

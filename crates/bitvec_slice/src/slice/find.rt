@@ -199,8 +199,8 @@ impl<'a, R: BitRegister, O: BitOrder<R>> BitSlice<'a, R, O> {
         requires start { k * R.BITS ≤ (slice_span self.now).head + from }
         requires end { (slice_span self.now).head + upto ≤ (k + 1) * R.BITS }
         requires inside { upto ≤ slice_len self.now }
-        ensures { IsChosen R.BITS O.at_of (slice_span self.now).head (slice_bits self.now) k from upto
-            bit (R.number result) }
+        ensures { IsChosen R.BITS O.at_of (slice_span self.now).head (slice_bits self.now) k from
+            upto bit (R.number result) }
     {
         let start = k * mem::bits_of::<R>();
         let low = (self.head() + from - start) as u8;

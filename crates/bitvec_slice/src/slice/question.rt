@@ -118,8 +118,8 @@ impl<'a, R: BitRegister, O: BitOrder<R>> BitSlice<'a, R, O> {
         other: &BitSlice<'_, R2, O2>,
     ) -> Option<usize>
         requires { slice_len other.now ≡ slice_len self.now }
-        ensures { let alone = zip_with (λ x y. x && not y) (slice_bits self.now) (slice_bits other.now)
-            in MatchOption result (AllAre false alone) (IsFirst true alone) }
+        ensures { let alone = zip_with (λ x y. x && not y) (slice_bits self.now) (slice_bits
+            other.now) in MatchOption result (AllAre false alone) (IsFirst true alone) }
     {
         let (here, there) = (self.span, other.span);
         here.first_with::<AndNot, R2, O2>(self.memory, there, other.memory)

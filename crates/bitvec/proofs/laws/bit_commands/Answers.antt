@@ -1,7 +1,7 @@
 use Rattle.std.proofs.Common.{◌≡◌, ℕ, Bool, List, ap, ◌∙◌, refl, subst}
 use Rattle.std.specs.List.{AllZip}
 use Rattle.std.proofs.lemmas.List.Elements.{recursion_from_All}
-use Rattle.bitvec_domain.specs.Span.{Span, list_of}
+use Rattle.bitvec_span.specs.Span.{Span, list_of}
 use Rattle.bitvec.specs.declared.run.command.Reply.{Reply}
 use Rattle.bitvec.specs.Commands.{alone, own_commands}
 use Rattle.bitvec.specs.Laws.{IsBitCommand, IsSameNumber, AreSameReplies}

@@ -1,6 +1,6 @@
 use Rattle.std.proofs.Common.{◌≡◌, ℕ, ◌<◌, Bool, List, subst, arith}
 use Rattle.std.specs.List.{AllZip}
-use Rattle.bitvec_domain.specs.Span.{Span, list_of}
+use Rattle.bitvec_span.specs.Span.{Span, list_of}
 use Rattle.bitvec.specs.declared.run.command.Reply.{Reply}
 use Rattle.bitvec.specs.Commands.{alone, own_commands}
 use Rattle.bitvec.specs.Laws.{IsTurned, AreSameReplies}

@@ -1,7 +1,7 @@
 use Rattle.std.proofs.Common.{arith, rules, inl, inr}
 use Rattle.std.proofs.lemmas.Bool.{cases_eq}
-use Rattle.bitvec_domain.specs.BitSpan.{span_of}
-use Rattle.bitvec_domain.specs.Span.{AreDisjoint}
+use Rattle.bitvec_span.specs.BitSpan.{span_of}
+use Rattle.bitvec_span.specs.Span.{AreDisjoint}
 use Rattle.bitvec.proofs.LaterLemmas.{later_from_rest, rest_from_later}
 use Rattle.bitvec.proofs.run.are_apart.Goals as goal
 

@@ -1,6 +1,6 @@
 use Rattle.std.proofs.Common.{ℕ, ◌<◌, length, get_or}
-use Rattle.bitvec_domain.specs.BitSpan.{span_of}
-use Rattle.bitvec_domain.specs.Span.{AreDisjoint}
+use Rattle.bitvec_span.specs.BitSpan.{span_of}
+use Rattle.bitvec_span.specs.Span.{AreDisjoint}
 use Rattle.bitvec.proofs.run.are_apart.Given as goal
 
 -- each span so far is apart from each later one

@@ -1,7 +1,7 @@
 use Rattle.std.proofs.Common.{◌<◌, length, rules}
-use Rattle.bitvec_domain.specs.BitSpan.{span_of}
-use Rattle.bitvec_domain.specs.Span.{AreDisjoint}
-use Rattle.bitvec_domain.proofs.DisjointLemmas.{disjoint-sym}
+use Rattle.bitvec_span.specs.BitSpan.{span_of}
+use Rattle.bitvec_span.specs.Span.{AreDisjoint}
+use Rattle.bitvec_span.proofs.DisjointLemmas.{disjoint-sym}
 use Rattle.bitvec.proofs.LaterLemmas.{all_before}
 use Rattle.bitvec.proofs.run.can_run.Goals as goal
 use Rattle.bitvec.proofs.run.can_run.Goals.{then-all_fit, else-all_fit}

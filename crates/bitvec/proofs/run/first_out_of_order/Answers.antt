@@ -3,8 +3,8 @@ use Rattle.std.specs.Prelude.{nat_abs}
 use Rattle.std.proofs.lemmas.Int.{ints}
 use Rattle.std.proofs.lemmas.Option.{slice_get_read}
 use Rattle.bitvec_ptr.proofs.PlaceLemmas.{words_met-none}
-use Rattle.bitvec_domain.specs.BitSpan.{span_of}
-use Rattle.bitvec_domain.specs.Span.{Fits}
+use Rattle.bitvec_span.specs.BitSpan.{span_of}
+use Rattle.bitvec_span.specs.Span.{Fits}
 use Rattle.bitvec.proofs.RisingLemmas.{AllBelow, each_more, fits_from_end, place_number, one_more_rises, one_more_empty}
 use Rattle.bitvec.proofs.run.first_out_of_order.Goals as goal
 use Rattle.bitvec.proofs.run.first_out_of_order.Goals.{then-not-is_empty+else-start-upto+else-limit-end, else-not-is_empty}

@@ -1,6 +1,6 @@
 use Rattle.std.proofs.Common.{ℕ, ◌<◌, get_or}
-use Rattle.bitvec_domain.specs.BitSpan.{span_of}
-use Rattle.bitvec_domain.specs.Span.{Fits}
+use Rattle.bitvec_span.specs.BitSpan.{span_of}
+use Rattle.bitvec_span.specs.Span.{Fits}
 use Rattle.bitvec.proofs.RisingLemmas.{AreApartBelow, AllBelow}
 use Rattle.bitvec.proofs.run.first_out_of_order.Given as goal
 

@@ -1,6 +1,6 @@
 use Rattle.std.proofs.Common.{◌<◌, length, map, sym, subst, arith}
 use Rattle.std.proofs.lemmas.List.{take_all, take_more, take_more_set, map_push}
-use Rattle.bitvec_domain.specs.BitSpan.{span_of}
+use Rattle.bitvec_span.specs.BitSpan.{span_of}
 use Rattle.bitvec.specs.Run.{CanRun}
 use Rattle.bitvec.proofs.AppendedRuns.{run-none, run-more}
 use Rattle.bitvec.proofs.run.run.Goals as goal

@@ -1,5 +1,5 @@
 use Rattle.std.proofs.Common.{take, map}
-use Rattle.bitvec_domain.specs.BitSpan.{span_of}
+use Rattle.bitvec_span.specs.BitSpan.{span_of}
 use Rattle.bitvec.specs.Commands.{reply_number}
 use Rattle.bitvec.specs.Run.{IsRun}
 use Rattle.bitvec.proofs.run.run.Given as goal

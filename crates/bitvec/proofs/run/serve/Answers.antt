@@ -1,7 +1,7 @@
 use Rattle.std.proofs.Common.{arith, sym, subst, ℕ, refl}
 use Rattle.std.proofs.lemmas.List.{length-map}
 use Rattle.std.proofs.lemmas.Option.{slice_get_read}
-use Rattle.bitvec_domain.specs.BitSpan.{span_of}
+use Rattle.bitvec_span.specs.BitSpan.{span_of}
 use Rattle.bitvec.specs.Run.{CanRun}
 use Rattle.bitvec.proofs.RequestLemmas.{run-one, run-no_span}
 use Rattle.bitvec.proofs.run.serve.Goals as goal

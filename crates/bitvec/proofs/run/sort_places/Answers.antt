@@ -3,7 +3,7 @@ use Rattle.std.specs.List.{range_with_len}
 use Rattle.std.specs.List.Sorted.{IsPermutation}
 use Rattle.std.proofs.lemmas.List.Sorted.{IsNonDecreasingBy-from_sort_by_key}
 use Rattle.bitvec_ptr.proofs.PlaceOrder.{bit_below}
-use Rattle.bitvec_domain.specs.BitSpan.{span_of}
+use Rattle.bitvec_span.specs.BitSpan.{span_of}
 use Rattle.bitvec.specs.Run.{span_in}
 use Rattle.bitvec.proofs.OrderLemmas.{key_of, below_in_order, numbered, rises_from_sort}
 use Rattle.bitvec.proofs.run.sort_places.Goals as goal

@@ -4,8 +4,8 @@ use Rattle.std.proofs.lemmas.List.{get_or_default}
 use Rattle.std.proofs.lemmas.Option.{slice_get_read}
 use Rattle.std.specs.Prelude.{nat_abs}
 use Rattle.bitvec_ptr.specs.Place.{place_at}
-use Rattle.bitvec_domain.specs.BitSpan.{span_of}
-use Rattle.bitvec_domain.specs.Span.{Span, AreDisjoint}
+use Rattle.bitvec_span.specs.BitSpan.{span_of}
+use Rattle.bitvec_span.specs.Span.{Span, AreDisjoint}
 use Rattle.bitvec.specs.Run.{span_in, start_in}
 use Rattle.bitvec.proofs.OrderLemmas.{IsEndOf, apart_along, apart_back, below_in_order, meet_from_numbers, span_in-at, span_in-read}
 use Rattle.bitvec.proofs.RisingLemmas.{AllBelow, pair_at, place_number, one_more_rises, one_more_empty}

@@ -1,4 +1,4 @@
-use Rattle.bitvec_domain.specs.BitSpan.{span_of}
+use Rattle.bitvec_span.specs.BitSpan.{span_of}
 use Rattle.bitvec.specs.Run.{span_in}
 use Rattle.bitvec.proofs.OrderLemmas.{IsEndOf}
 use Rattle.bitvec.proofs.RisingLemmas.{AreApartBelow, AllBelow}

@@ -9,7 +9,7 @@ ghost use Rattle.std.specs.Prelude.{◌≡◌, ◌↔◌, ℕ, ◌+◌, ◌-◌,
 ghost use Rattle.std.specs.Prelude.{false, length, map, slice_index};
 ghost use Rattle.bitvec_mem.specs.Digit.{digit};
 ghost use Rattle.bitvec_order.specs.Order.{IsMaskOf, Rises, Falls};
-ghost use Rattle.bitvec_ptr.specs.Cursor.{offset};
+ghost use Rattle.bitvec_ptr.specs.Cursor.{cursor_place};
 ghost use Rattle.bitvec_ptr.specs.Memory.{bit_of};
 ghost use Rattle.bitvec_ptr.specs.Ways.{AreSame, Allows};
 ghost use Rattle.bitvec_ptr.specs.WordWriter.{writer_of};
@@ -425,9 +425,9 @@ fn gathered_across_widths<R: BitRegister, O: BitOrder<R>, R2: BitRegister, O2: B
 ) -> R2
     requires bit_in { bit + count ≤ R2.BITS }
     requires way { Allows way R.BITS O.at_of R2.BITS O2.at_of from.bit bit }
-    requires from_in { offset from + count ≤ length source.now * R.BITS }
+    requires from_in { cursor_place from + count ≤ length source.now * R.BITS }
     ensures inside { (j : ℕ) → j < count → digit (R2.number result) (O2.at_of (bit + j))
-        ≡ bit_of R.BITS O.at_of (map R.number source.now) (offset from + j) }
+        ≡ bit_of R.BITS O.at_of (map R.number source.now) (cursor_place from + j) }
     ensures outside { (j : ℕ) → j < R2.BITS → (j < bit) ⊎ (bit + count ≤ j)
         → digit (R2.number result) (O2.at_of j) ≡ digit (R2.number word) (O2.at_of j) }
 {
@@ -457,7 +457,7 @@ fn gathered_across_widths<R: BitRegister, O: BitOrder<R>, R2: BitRegister, O2: B
 fn pair_from<R: BitRegister>(source: &[R], from: Cursor<R>, count: u8) -> (R, R)
     requires some { 0 < count }
     requires most { count ≤ R.BITS }
-    requires from_in { offset from + count ≤ length source.now * R.BITS }
+    requires from_in { cursor_place from + count ≤ length source.now * R.BITS }
     ensures low { R.number result.0 ≡ slice_index (map R.number source.now) from.word }
     ensures high { R.BITS < from.bit + count → R.number result.1
         ≡ slice_index (map R.number source.now) (from.word + 1) }
@@ -474,7 +474,7 @@ fn pair_from<R: BitRegister>(source: &[R], from: Cursor<R>, count: u8) -> (R, R)
 pub(super) fn pair_in<R: BitRegister>(writer: &WordWriter<R>, from: Cursor<R>, count: u8) -> (R, R)
     requires some { 0 < count }
     requires most { count ≤ R.BITS }
-    requires from_in { offset from + count ≤ length (writer_of writer.now).words * R.BITS }
+    requires from_in { cursor_place from + count ≤ length (writer_of writer.now).words * R.BITS }
     ensures low { R.number result.0 ≡ slice_index (map R.number (writer_of writer.now).words)
         from.word }
     ensures high { R.BITS < from.bit + count → R.number result.1
@@ -501,9 +501,9 @@ pub(super) fn gathered_from<R: BitRegister, O: BitOrder<R>, R2: BitRegister, O2:
     requires some { 0 < count }
     requires bit_in { bit + count ≤ R2.BITS }
     requires way { Allows way R.BITS O.at_of R2.BITS O2.at_of from.bit bit }
-    requires from_in { offset from + count ≤ length source.now * R.BITS }
+    requires from_in { cursor_place from + count ≤ length source.now * R.BITS }
     ensures inside { (j : ℕ) → j < count → digit (R2.number result) (O2.at_of (bit + j))
-        ≡ bit_of R.BITS O.at_of (map R.number source.now) (offset from + j) }
+        ≡ bit_of R.BITS O.at_of (map R.number source.now) (cursor_place from + j) }
     ensures outside { (j : ℕ) → j < R2.BITS → (j < bit) ⊎ (bit + count ≤ j)
         → digit (R2.number result) (O2.at_of j) ≡ digit (R2.number word) (O2.at_of j) }
 {

@@ -5,7 +5,7 @@ ghost use Rattle.std.specs.Prelude.{◌≡◌, ◌⊎◌, ℕ, ◌+◌, ◌*◌,
 ghost use Rattle.std.specs.Prelude.{MatchOption};
 ghost use Rattle.bitvec_mem.specs.Digit.{digit, count_below};
 ghost use Rattle.bitvec_mem.specs.Ones.{HasNoOne};
-ghost use Rattle.bitvec_ptr.specs.Cursor.{offset};
+ghost use Rattle.bitvec_ptr.specs.Cursor.{cursor_place};
 ghost use Rattle.bitvec_ptr.specs.Pairs.{pair_of, NoneBelow, IsFirstBelow};
 ghost use Rattle.bitvec_ptr.specs.Place.{words_met};
 ghost use Rattle.bitvec_ptr.specs.Ways.{Allows};
@@ -36,10 +36,10 @@ fn question_word<C: Combine, R: BitRegister, O: BitOrder<R>, R2: BitRegister, O2
     requires bit_in { bit + count ≤ R.BITS }
     requires way { Allows way R2.BITS O2.at_of R.BITS O.at_of from.bit bit }
     requires to_in { to < length memory.now }
-    requires from_in { offset from + count ≤ length other.now * R2.BITS }
+    requires from_in { cursor_place from + count ≤ length other.now * R2.BITS }
     ensures inside { (j : ℕ) → j < count → digit (R.number result) (O.at_of (bit + j))
         ≡ pair_of C.of R.BITS O.at_of (map R.number memory.now) (to * R.BITS + bit) R2.BITS
-        O2.at_of (map R2.number other.now) (offset from) j }
+        O2.at_of (map R2.number other.now) (cursor_place from) j }
     ensures outside { (j : ℕ) → j < R.BITS → (j < bit) ⊎ (bit + count ≤ j)
         → digit (R.number result) (O.at_of j) ≡ false }
 {
@@ -63,9 +63,9 @@ fn count_word<C: Combine, R: BitRegister, O: BitOrder<R>, R2: BitRegister, O2: B
     requires bit_in { bit + count ≤ R.BITS }
     requires way { Allows way R2.BITS O2.at_of R.BITS O.at_of from.bit bit }
     requires to_in { to < length memory.now }
-    requires from_in { offset from + count ≤ length other.now * R2.BITS }
+    requires from_in { cursor_place from + count ≤ length other.now * R2.BITS }
     ensures { result ≡ count_below (pair_of C.of R.BITS O.at_of (map R.number memory.now)
-        (to * R.BITS + bit) R2.BITS O2.at_of (map R2.number other.now) (offset from)) count }
+        (to * R.BITS + bit) R2.BITS O2.at_of (map R2.number other.now) (cursor_place from)) count }
 {
     let both = question_word::<C, R, O, R2, O2>(way, memory, to, other, from, bit, count);
     both.count_ones() as usize
@@ -84,9 +84,9 @@ fn count_row<C: Combine, R: BitRegister, O: BitOrder<R>, R2: BitRegister, O2: Bi
     requires way { Allows way R2.BITS O2.at_of R.BITS O.at_of from.bit 0 }
     requires short { count * R.BITS ≤ usize.MAX }
     requires to_in { to + count ≤ length memory.now }
-    requires from_in { offset from + count * R.BITS ≤ length other.now * R2.BITS }
-    ensures { result ≡ count_below (pair_of C.of R.BITS O.at_of (map R.number memory.now)
-        (to * R.BITS) R2.BITS O2.at_of (map R2.number other.now) (offset from)) (count * R.BITS) }
+    requires from_in { cursor_place from + count * R.BITS ≤ length other.now * R2.BITS }
+    ensures { result ≡ count_below (pair_of C.of R.BITS O.at_of (map R.number memory.now) (to *
+        R.BITS) R2.BITS O2.at_of (map R2.number other.now) (cursor_place from)) (count * R.BITS) }
 {
     let mut total = 0;
     for k in 0..count {
@@ -109,9 +109,9 @@ fn count_one_way<C: Combine, R: BitRegister, O: BitOrder<R>, R2: BitRegister, O2
     requires some { 0 < count }
     requires way { Allows way R2.BITS O2.at_of R.BITS O.at_of from.bit to.bit }
     requires to_in { to.word + words_met R.BITS to.bit count ≤ length memory.now }
-    requires from_in { offset from + count ≤ length other.now * R2.BITS }
+    requires from_in { cursor_place from + count ≤ length other.now * R2.BITS }
     ensures { result ≡ count_below (pair_of C.of R.BITS O.at_of (map R.number memory.now)
-        (offset to) R2.BITS O2.at_of (map R2.number other.now) (offset from)) count }
+        (cursor_place to) R2.BITS O2.at_of (map R2.number other.now) (cursor_place from)) count }
 {
     if is_in_one_word::<R>(to.bit, count) {
         let all = count as u8;
@@ -141,9 +141,9 @@ pub(super) fn count_pairs<
 >(memory: &[R], to: Cursor<R>, other: &[R2], from: Cursor<R2>, count: usize) -> usize
     requires some { 0 < count }
     requires to_in { to.word + words_met R.BITS to.bit count ≤ length memory.now }
-    requires from_in { offset from + count ≤ length other.now * R2.BITS }
+    requires from_in { cursor_place from + count ≤ length other.now * R2.BITS }
     ensures { result ≡ count_below (pair_of C.of R.BITS O.at_of (map R.number memory.now)
-        (offset to) R2.BITS O2.at_of (map R2.number other.now) (offset from)) count }
+        (cursor_place to) R2.BITS O2.at_of (map R2.number other.now) (cursor_place from)) count }
 {
     match way_of::<R2, O2, R, O>(from.bit, to.bit) {
         Way::Whole => {
@@ -175,9 +175,9 @@ fn first_in_word<C: Combine, R: BitRegister, O: BitOrder<R>, R2: BitRegister, O2
     requires bit_in { bit + count ≤ R.BITS }
     requires way { Allows way R2.BITS O2.at_of R.BITS O.at_of from.bit bit }
     requires to_in { to < length memory.now }
-    requires from_in { offset from + count ≤ length other.now * R2.BITS }
+    requires from_in { cursor_place from + count ≤ length other.now * R2.BITS }
     ensures { let both = pair_of C.of R.BITS O.at_of (map R.number memory.now) (to * R.BITS + bit)
-        R2.BITS O2.at_of (map R2.number other.now) (offset from)
+        R2.BITS O2.at_of (map R2.number other.now) (cursor_place from)
         in MatchOption result (NoneBelow both count) (IsFirstBelow both count) }
 {
     let both = question_word::<C, R, O, R2, O2>(way, memory, to, other, from, bit, count);
@@ -200,10 +200,10 @@ fn joined_row<C: Combine, R: BitRegister, O: BitOrder<R>, R2: BitRegister, O2: B
     requires way { Allows way R2.BITS O2.at_of R.BITS O.at_of from.bit 0 }
     requires short { count * R.BITS ≤ usize.MAX }
     requires to_in { to + count ≤ length memory.now }
-    requires from_in { offset from + count * R.BITS ≤ length other.now * R2.BITS }
+    requires from_in { cursor_place from + count * R.BITS ≤ length other.now * R2.BITS }
     ensures { HasNoOne R.BITS (R.number result) → NoneBelow (pair_of C.of R.BITS O.at_of
         (map R.number memory.now) (to * R.BITS) R2.BITS O2.at_of (map R2.number other.now)
-        (offset from)) (count * R.BITS) }
+        (cursor_place from)) (count * R.BITS) }
 {
     let mut joined = R::ZERO;
     for k in 0..count {
@@ -226,9 +226,9 @@ fn first_by_words<C: Combine, R: BitRegister, O: BitOrder<R>, R2: BitRegister, O
     requires way { Allows way R2.BITS O2.at_of R.BITS O.at_of from.bit 0 }
     requires short { count * R.BITS ≤ usize.MAX }
     requires to_in { to + count ≤ length memory.now }
-    requires from_in { offset from + count * R.BITS ≤ length other.now * R2.BITS }
+    requires from_in { cursor_place from + count * R.BITS ≤ length other.now * R2.BITS }
     ensures { let both = pair_of C.of R.BITS O.at_of (map R.number memory.now) (to * R.BITS)
-        R2.BITS O2.at_of (map R2.number other.now) (offset from)
+        R2.BITS O2.at_of (map R2.number other.now) (cursor_place from)
         in MatchOption result (NoneBelow both (count * R.BITS))
         (IsFirstBelow both (count * R.BITS)) }
 {
@@ -256,9 +256,9 @@ fn first_in_block<C: Combine, R: BitRegister, O: BitOrder<R>, R2: BitRegister, O
     requires way { Allows way R2.BITS O2.at_of R.BITS O.at_of from.bit 0 }
     requires short { count * R.BITS ≤ usize.MAX }
     requires to_in { to + count ≤ length memory.now }
-    requires from_in { offset from + count * R.BITS ≤ length other.now * R2.BITS }
+    requires from_in { cursor_place from + count * R.BITS ≤ length other.now * R2.BITS }
     ensures { let both = pair_of C.of R.BITS O.at_of (map R.number memory.now) (to * R.BITS)
-        R2.BITS O2.at_of (map R2.number other.now) (offset from)
+        R2.BITS O2.at_of (map R2.number other.now) (cursor_place from)
         in MatchOption result (NoneBelow both (count * R.BITS))
         (IsFirstBelow both (count * R.BITS)) }
 {
@@ -282,9 +282,9 @@ fn first_in_row<C: Combine, R: BitRegister, O: BitOrder<R>, R2: BitRegister, O2:
     requires way { Allows way R2.BITS O2.at_of R.BITS O.at_of from.bit 0 }
     requires short { count * R.BITS ≤ usize.MAX }
     requires to_in { to + count ≤ length memory.now }
-    requires from_in { offset from + count * R.BITS ≤ length other.now * R2.BITS }
+    requires from_in { cursor_place from + count * R.BITS ≤ length other.now * R2.BITS }
     ensures { let both = pair_of C.of R.BITS O.at_of (map R.number memory.now) (to * R.BITS)
-        R2.BITS O2.at_of (map R2.number other.now) (offset from)
+        R2.BITS O2.at_of (map R2.number other.now) (cursor_place from)
         in MatchOption result (NoneBelow both (count * R.BITS))
         (IsFirstBelow both (count * R.BITS)) }
 {
@@ -314,10 +314,10 @@ fn first_one_way<C: Combine, R: BitRegister, O: BitOrder<R>, R2: BitRegister, O2
     requires some { 0 < count }
     requires way { Allows way R2.BITS O2.at_of R.BITS O.at_of from.bit to.bit }
     requires to_in { to.word + words_met R.BITS to.bit count ≤ length memory.now }
-    requires from_in { offset from + count ≤ length other.now * R2.BITS }
-    ensures { let both = pair_of C.of R.BITS O.at_of (map R.number memory.now) (offset to) R2.BITS
-        O2.at_of (map R2.number other.now) (offset from)
-        in MatchOption result (NoneBelow both count) (IsFirstBelow both count) }
+    requires from_in { cursor_place from + count ≤ length other.now * R2.BITS }
+    ensures { let both = pair_of C.of R.BITS O.at_of (map R.number memory.now) (cursor_place to)
+        R2.BITS O2.at_of (map R2.number other.now) (cursor_place from) in MatchOption result
+        (NoneBelow both count) (IsFirstBelow both count) }
 {
     if is_in_one_word::<R>(to.bit, count) {
         let all = count as u8;
@@ -356,10 +356,10 @@ pub(super) fn first_pair<
 >(memory: &[R], to: Cursor<R>, other: &[R2], from: Cursor<R2>, count: usize) -> Option<usize>
     requires some { 0 < count }
     requires to_in { to.word + words_met R.BITS to.bit count ≤ length memory.now }
-    requires from_in { offset from + count ≤ length other.now * R2.BITS }
-    ensures { let both = pair_of C.of R.BITS O.at_of (map R.number memory.now) (offset to) R2.BITS
-        O2.at_of (map R2.number other.now) (offset from)
-        in MatchOption result (NoneBelow both count) (IsFirstBelow both count) }
+    requires from_in { cursor_place from + count ≤ length other.now * R2.BITS }
+    ensures { let both = pair_of C.of R.BITS O.at_of (map R.number memory.now) (cursor_place to)
+        R2.BITS O2.at_of (map R2.number other.now) (cursor_place from) in MatchOption result
+        (NoneBelow both count) (IsFirstBelow both count) }
 {
     match way_of::<R2, O2, R, O>(from.bit, to.bit) {
         Way::Whole => {

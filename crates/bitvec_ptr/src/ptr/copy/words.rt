@@ -8,7 +8,7 @@
 ghost use Rattle.std.specs.Prelude.{◌≡◌, ℕ, ◌+◌, ◌-◌, ◌*◌, ◌<◌, ◌≤◌, true, false, length, map};
 ghost use Rattle.std.specs.Prelude.{slice_index, List};
 ghost use Rattle.bitvec_ptr.specs.Combinations.{HasCombined, HasCombinedWithin};
-ghost use Rattle.bitvec_ptr.specs.Cursor.{offset};
+ghost use Rattle.bitvec_ptr.specs.Cursor.{cursor_place};
 ghost use Rattle.bitvec_ptr.specs.Place.{words_met};
 ghost use Rattle.bitvec_ptr.specs.Ways.{Allows};
 ghost use Rattle.bitvec_ptr.specs.WordWriter.{writer_of};
@@ -37,12 +37,12 @@ fn combine_word<C: Combine, R: BitRegister, O: BitOrder<R>, R2: BitRegister, O2:
     requires some { 0 < count }
     requires bit_in { bit + count ≤ R2.BITS }
     requires way { Allows way R.BITS O.at_of R2.BITS O2.at_of from.bit bit }
-    requires from_in { offset from + count ≤ length source.now * R.BITS }
+    requires from_in { cursor_place from + count ≤ length source.now * R.BITS }
     requires to_in { to < length (writer_of writer.old).words }
     requires rising { (writer_of writer.old).rising ≡ true → (writer_of writer.old).mark ≤ to }
     requires falling { (writer_of writer.old).rising ≡ false → to < (writer_of writer.old).mark }
-    ensures { HasCombined C.of R.BITS O.at_of R.number source.now (offset from) R2.BITS O2.at_of
-        R2.number writer.old writer.new (to * R2.BITS + bit) count to 1 }
+    ensures { HasCombined C.of R.BITS O.at_of R.number source.now (cursor_place from) R2.BITS
+        O2.at_of R2.number writer.old writer.new (to * R2.BITS + bit) count to 1 }
 {
     let old = writer.get(to);
     let theirs = gathered_from::<R, O, R2, O2>(way, source, from, C::ground(old), bit, count);
@@ -96,12 +96,12 @@ fn combine_word_within<C: Combine, R: BitRegister, O: BitOrder<R>>(
     requires some { 0 < count }
     requires bit_in { bit + count ≤ R.BITS }
     requires way { Allows way R.BITS O.at_of R.BITS O.at_of from.bit bit }
-    requires from_in { offset from + count ≤ length (writer_of writer.old).words * R.BITS }
+    requires from_in { cursor_place from + count ≤ length (writer_of writer.old).words * R.BITS }
     requires to_in { to < length (writer_of writer.old).words }
     requires rising { (writer_of writer.old).rising ≡ true → (writer_of writer.old).mark ≤ to }
     requires falling { (writer_of writer.old).rising ≡ false → to < (writer_of writer.old).mark }
-    ensures { HasCombinedWithin C.of R.BITS O.at_of R.number (offset from) writer.old writer.new (to
-        * R.BITS + bit) count to 1 }
+    ensures { HasCombinedWithin C.of R.BITS O.at_of R.number (cursor_place from) writer.old
+        writer.new (to * R.BITS + bit) count to 1 }
 {
     let (low, high) = pair_in(writer, from, count);
     combine_pair::<C, R, O>(way, low, high, from.bit, writer, to, bit, count);
@@ -118,12 +118,12 @@ fn combine_row_rising<
 >(way: Way, source: &[R], from: Cursor<R>, writer: &mut WordWriter<R2>, to: usize, count: usize)
     requires way { Allows way R.BITS O.at_of R2.BITS O2.at_of from.bit 0 }
     requires short { count * R2.BITS ≤ usize.MAX }
-    requires from_in { offset from + count * R2.BITS ≤ length source.now * R.BITS }
+    requires from_in { cursor_place from + count * R2.BITS ≤ length source.now * R.BITS }
     requires to_in { to + count ≤ length (writer_of writer.old).words }
     requires direction { (writer_of writer.old).rising ≡ true }
     requires stands { (writer_of writer.old).mark ≡ to }
-    ensures { HasCombined C.of R.BITS O.at_of R.number source.now (offset from) R2.BITS O2.at_of
-        R2.number writer.old writer.new (to * R2.BITS) (count * R2.BITS) to count }
+    ensures { HasCombined C.of R.BITS O.at_of R.number source.now (cursor_place from) R2.BITS
+        O2.at_of R2.number writer.old writer.new (to * R2.BITS) (count * R2.BITS) to count }
 {
     for k in 0..count {
         let read = from.words_on::<R2>(k);
@@ -142,12 +142,12 @@ fn combine_row_falling<
 >(way: Way, source: &[R], from: Cursor<R>, writer: &mut WordWriter<R2>, to: usize, count: usize)
     requires way { Allows way R.BITS O.at_of R2.BITS O2.at_of from.bit 0 }
     requires short { count * R2.BITS ≤ usize.MAX }
-    requires from_in { offset from + count * R2.BITS ≤ length source.now * R.BITS }
+    requires from_in { cursor_place from + count * R2.BITS ≤ length source.now * R.BITS }
     requires to_in { to + count ≤ length (writer_of writer.old).words }
     requires direction { (writer_of writer.old).rising ≡ false }
     requires stands { (writer_of writer.old).mark ≡ to + count }
-    ensures { HasCombined C.of R.BITS O.at_of R.number source.now (offset from) R2.BITS O2.at_of
-        R2.number writer.old writer.new (to * R2.BITS) (count * R2.BITS) to count }
+    ensures { HasCombined C.of R.BITS O.at_of R.number source.now (cursor_place from) R2.BITS
+        O2.at_of R2.number writer.old writer.new (to * R2.BITS) (count * R2.BITS) to count }
 {
     for done in 0..count {
         let k = count - 1 - done;
@@ -205,7 +205,7 @@ fn last_of_block<R: BitRegister>(from: Cursor<R>) -> usize
 // so that LLVM orders the operations of all four alike and makes them side by side.
 #[inline(always)]
 fn block_in<R: BitRegister>(writer: &WordWriter<R>, from: Cursor<R>) -> (R, R, R, R, R)
-    requires { offset from + 4 * R.BITS ≤ length (writer_of writer.now).words * R.BITS }
+    requires { cursor_place from + 4 * R.BITS ≤ length (writer_of writer.now).words * R.BITS }
     ensures one { R.number result.0 ≡ slice_index (map R.number (writer_of writer.now).words)
         from.word }
     ensures two { R.number result.1 ≡ slice_index (map R.number (writer_of writer.now).words)
@@ -237,12 +237,12 @@ fn combine_block_rising_within<C: Combine, R: BitRegister, O: BitOrder<R>>(
     requires way { Allows way R.BITS O.at_of R.BITS O.at_of from.bit 0 }
     requires shifts_up { way ≡ Way.Rising → 0 < from.bit }
     requires shifts_down { way ≡ Way.Falling → 0 < from.bit }
-    requires from_in { offset from + 4 * R.BITS ≤ length (writer_of writer.old).words * R.BITS }
+    requires from_in { cursor_place from + 4 * R.BITS ≤ length (writer_of writer.old).words * R.BITS }
     requires to_in { to + 4 ≤ length (writer_of writer.old).words }
     requires direction { (writer_of writer.old).rising ≡ true }
     requires stands { (writer_of writer.old).mark ≡ to }
-    ensures { HasCombinedWithin C.of R.BITS O.at_of R.number (offset from) writer.old writer.new (to
-        * R.BITS) (4 * R.BITS) to 4 }
+    ensures { HasCombinedWithin C.of R.BITS O.at_of R.number (cursor_place from) writer.old
+        writer.new (to * R.BITS) (4 * R.BITS) to 4 }
 {
     let (one, two, three, four, five) = block_in(writer, from);
     let bit = from.bit;
@@ -263,12 +263,12 @@ fn combine_block_falling_within<C: Combine, R: BitRegister, O: BitOrder<R>>(
     requires way { Allows way R.BITS O.at_of R.BITS O.at_of from.bit 0 }
     requires shifts_up { way ≡ Way.Rising → 0 < from.bit }
     requires shifts_down { way ≡ Way.Falling → 0 < from.bit }
-    requires from_in { offset from + 4 * R.BITS ≤ length (writer_of writer.old).words * R.BITS }
+    requires from_in { cursor_place from + 4 * R.BITS ≤ length (writer_of writer.old).words * R.BITS }
     requires to_in { to + 4 ≤ length (writer_of writer.old).words }
     requires direction { (writer_of writer.old).rising ≡ false }
     requires stands { (writer_of writer.old).mark ≡ to + 4 }
-    ensures { HasCombinedWithin C.of R.BITS O.at_of R.number (offset from) writer.old writer.new (to
-        * R.BITS) (4 * R.BITS) to 4 }
+    ensures { HasCombinedWithin C.of R.BITS O.at_of R.number (cursor_place from) writer.old
+        writer.new (to * R.BITS) (4 * R.BITS) to 4 }
 {
     let (one, two, three, four, five) = block_in(writer, from);
     let bit = from.bit;
@@ -290,13 +290,14 @@ fn combine_few_rising_within<C: Combine, R: BitRegister, O: BitOrder<R>>(
 )
     requires way { Allows way R.BITS O.at_of R.BITS O.at_of from.bit 0 }
     requires short { count * R.BITS ≤ usize.MAX }
-    requires from_in { offset from + count * R.BITS ≤ length (writer_of writer.old).words * R.BITS }
+    requires from_in { cursor_place from + count * R.BITS ≤ length (writer_of writer.old).words *
+        R.BITS }
     requires to_in { to + count ≤ length (writer_of writer.old).words }
-    requires before { to * R.BITS ≤ offset from }
+    requires before { to * R.BITS ≤ cursor_place from }
     requires direction { (writer_of writer.old).rising ≡ true }
     requires stands { (writer_of writer.old).mark ≡ to }
-    ensures { HasCombinedWithin C.of R.BITS O.at_of R.number (offset from) writer.old writer.new (to
-        * R.BITS) (count * R.BITS) to count }
+    ensures { HasCombinedWithin C.of R.BITS O.at_of R.number (cursor_place from) writer.old
+        writer.new (to * R.BITS) (count * R.BITS) to count }
 {
     for k in 0..count {
         let read = from.words_on::<R>(k);
@@ -316,13 +317,14 @@ fn combine_few_falling_within<C: Combine, R: BitRegister, O: BitOrder<R>>(
 )
     requires way { Allows way R.BITS O.at_of R.BITS O.at_of from.bit 0 }
     requires short { count * R.BITS ≤ usize.MAX }
-    requires from_in { offset from + count * R.BITS ≤ length (writer_of writer.old).words * R.BITS }
+    requires from_in { cursor_place from + count * R.BITS ≤ length (writer_of writer.old).words *
+        R.BITS }
     requires to_in { to + count ≤ length (writer_of writer.old).words }
-    requires behind { offset from ≤ to * R.BITS }
+    requires behind { cursor_place from ≤ to * R.BITS }
     requires direction { (writer_of writer.old).rising ≡ false }
     requires stands { (writer_of writer.old).mark ≡ to + count }
-    ensures { HasCombinedWithin C.of R.BITS O.at_of R.number (offset from) writer.old writer.new (to
-        * R.BITS) (count * R.BITS) to count }
+    ensures { HasCombinedWithin C.of R.BITS O.at_of R.number (cursor_place from) writer.old
+        writer.new (to * R.BITS) (count * R.BITS) to count }
 {
     for done in 0..count {
         let k = count - 1 - done;
@@ -344,13 +346,14 @@ fn combine_row_rising_within<C: Combine, R: BitRegister, O: BitOrder<R>>(
 )
     requires way { Allows way R.BITS O.at_of R.BITS O.at_of from.bit 0 }
     requires short { count * R.BITS ≤ usize.MAX }
-    requires from_in { offset from + count * R.BITS ≤ length (writer_of writer.old).words * R.BITS }
+    requires from_in { cursor_place from + count * R.BITS ≤ length (writer_of writer.old).words *
+        R.BITS }
     requires to_in { to + count ≤ length (writer_of writer.old).words }
-    requires before { to * R.BITS ≤ offset from }
+    requires before { to * R.BITS ≤ cursor_place from }
     requires direction { (writer_of writer.old).rising ≡ true }
     requires stands { (writer_of writer.old).mark ≡ to }
-    ensures { HasCombinedWithin C.of R.BITS O.at_of R.number (offset from) writer.old writer.new (to
-        * R.BITS) (count * R.BITS) to count }
+    ensures { HasCombinedWithin C.of R.BITS O.at_of R.number (cursor_place from) writer.old
+        writer.new (to * R.BITS) (count * R.BITS) to count }
 {
     if way != Way::Whole && from.bit == 0 {
         combine_few_rising_within::<C, R, O>(way, from, writer, to, count);
@@ -378,13 +381,14 @@ fn combine_row_falling_within<C: Combine, R: BitRegister, O: BitOrder<R>>(
 )
     requires way { Allows way R.BITS O.at_of R.BITS O.at_of from.bit 0 }
     requires short { count * R.BITS ≤ usize.MAX }
-    requires from_in { offset from + count * R.BITS ≤ length (writer_of writer.old).words * R.BITS }
+    requires from_in { cursor_place from + count * R.BITS ≤ length (writer_of writer.old).words *
+        R.BITS }
     requires to_in { to + count ≤ length (writer_of writer.old).words }
-    requires behind { offset from ≤ to * R.BITS }
+    requires behind { cursor_place from ≤ to * R.BITS }
     requires direction { (writer_of writer.old).rising ≡ false }
     requires stands { (writer_of writer.old).mark ≡ to + count }
-    ensures { HasCombinedWithin C.of R.BITS O.at_of R.number (offset from) writer.old writer.new (to
-        * R.BITS) (count * R.BITS) to count }
+    ensures { HasCombinedWithin C.of R.BITS O.at_of R.number (cursor_place from) writer.old
+        writer.new (to * R.BITS) (count * R.BITS) to count }
 {
     if way != Way::Whole && from.bit == 0 {
         combine_few_falling_within::<C, R, O>(way, from, writer, to, count);
@@ -450,14 +454,15 @@ pub(super) fn sections_of<R: BitRegister, R2: BitRegister>(
 ) -> Sections<R>
     requires bit_in { bit < R2.BITS }
     requires more { R2.BITS < bit + count }
-    requires inside { offset from + count < 18446744073709551616 * R.BITS }
+    requires inside { cursor_place from + count < 18446744073709551616 * R.BITS }
     ensures first { result.first ≡ R2.BITS - bit }
     ensures all { R2.BITS - bit + (result.whole * R2.BITS + result.last) ≡ count }
     ensures some { 0 < result.last }
     ensures most { result.last ≤ R2.BITS }
     ensures met { words_met R2.BITS bit count ≡ result.whole + 2 }
-    ensures middle { offset result.middle ≡ offset from + (R2.BITS - bit) }
-    ensures end { offset result.end ≡ offset from + (R2.BITS - bit + result.whole * R2.BITS) }
+    ensures middle { cursor_place result.middle ≡ cursor_place from + (R2.BITS - bit) }
+    ensures end { cursor_place result.end ≡ cursor_place from + (R2.BITS - bit + result.whole *
+        R2.BITS) }
     ensures middle_starts { R.BITS ≡ R2.BITS → from.bit ≡ bit → result.middle.bit ≡ 0 }
     ensures end_starts { R.BITS ≡ R2.BITS → from.bit ≡ bit → result.end.bit ≡ 0 }
 {
@@ -492,13 +497,14 @@ pub(super) fn combine_rising<
 )
     requires some { 0 < count }
     requires way { Allows way R.BITS O.at_of R2.BITS O2.at_of from.bit to.bit }
-    requires from_in { offset from + count ≤ length source.now * R.BITS }
+    requires from_in { cursor_place from + count ≤ length source.now * R.BITS }
     requires to_in { to.word + words_met R2.BITS to.bit count ≤ length
         (writer_of writer.old).words }
     requires direction { (writer_of writer.old).rising ≡ true }
     requires stands { (writer_of writer.old).mark ≡ to.word }
-    ensures { HasCombined C.of R.BITS O.at_of R.number source.now (offset from) R2.BITS O2.at_of
-        R2.number writer.old writer.new (offset to) count to.word (words_met R2.BITS to.bit count) }
+    ensures { HasCombined C.of R.BITS O.at_of R.number source.now (cursor_place from) R2.BITS
+        O2.at_of R2.number writer.old writer.new (cursor_place to) count to.word (words_met R2.BITS
+        to.bit count) }
 {
     if is_in_one_word::<R2>(to.bit, count) {
         combine_word::<C, R, O, R2, O2>(way, source, from, writer, to.word, to.bit, count as u8);
@@ -537,13 +543,14 @@ pub(super) fn combine_falling<
 )
     requires some { 0 < count }
     requires way { Allows way R.BITS O.at_of R2.BITS O2.at_of from.bit to.bit }
-    requires from_in { offset from + count ≤ length source.now * R.BITS }
+    requires from_in { cursor_place from + count ≤ length source.now * R.BITS }
     requires to_in { to.word + words_met R2.BITS to.bit count ≤ length
         (writer_of writer.old).words }
     requires direction { (writer_of writer.old).rising ≡ false }
     requires stands { (writer_of writer.old).mark ≡ to.word + words_met R2.BITS to.bit count }
-    ensures { HasCombined C.of R.BITS O.at_of R.number source.now (offset from) R2.BITS O2.at_of
-        R2.number writer.old writer.new (offset to) count to.word (words_met R2.BITS to.bit count) }
+    ensures { HasCombined C.of R.BITS O.at_of R.number source.now (cursor_place from) R2.BITS
+        O2.at_of R2.number writer.old writer.new (cursor_place to) count to.word (words_met R2.BITS
+        to.bit count) }
 {
     if is_in_one_word::<R2>(to.bit, count) {
         combine_word::<C, R, O, R2, O2>(way, source, from, writer, to.word, to.bit, count as u8);
@@ -576,13 +583,13 @@ pub(super) fn combine_rising_within<C: Combine, R: BitRegister, O: BitOrder<R>>(
 )
     requires some { 0 < count }
     requires way { Allows way R.BITS O.at_of R.BITS O.at_of from.bit to.bit }
-    requires from_in { offset from + count ≤ length (writer_of writer.old).words * R.BITS }
+    requires from_in { cursor_place from + count ≤ length (writer_of writer.old).words * R.BITS }
     requires to_in { to.word + words_met R.BITS to.bit count ≤ length (writer_of writer.old).words }
-    requires before { offset to ≤ offset from }
+    requires before { cursor_place to ≤ cursor_place from }
     requires direction { (writer_of writer.old).rising ≡ true }
     requires stands { (writer_of writer.old).mark ≡ to.word }
-    ensures { HasCombinedWithin C.of R.BITS O.at_of R.number (offset from) writer.old writer.new
-        (offset to) count to.word (words_met R.BITS to.bit count) }
+    ensures { HasCombinedWithin C.of R.BITS O.at_of R.number (cursor_place from) writer.old
+        writer.new (cursor_place to) count to.word (words_met R.BITS to.bit count) }
 {
     if is_in_one_word::<R>(to.bit, count) {
         combine_word_within::<C, R, O>(way, from, writer, to.word, to.bit, count as u8);
@@ -608,13 +615,13 @@ pub(super) fn combine_falling_within<C: Combine, R: BitRegister, O: BitOrder<R>>
 )
     requires some { 0 < count }
     requires way { Allows way R.BITS O.at_of R.BITS O.at_of from.bit to.bit }
-    requires from_in { offset from + count ≤ length (writer_of writer.old).words * R.BITS }
+    requires from_in { cursor_place from + count ≤ length (writer_of writer.old).words * R.BITS }
     requires to_in { to.word + words_met R.BITS to.bit count ≤ length (writer_of writer.old).words }
-    requires behind { offset from ≤ offset to }
+    requires behind { cursor_place from ≤ cursor_place to }
     requires direction { (writer_of writer.old).rising ≡ false }
     requires stands { (writer_of writer.old).mark ≡ to.word + words_met R.BITS to.bit count }
-    ensures { HasCombinedWithin C.of R.BITS O.at_of R.number (offset from) writer.old writer.new
-        (offset to) count to.word (words_met R.BITS to.bit count) }
+    ensures { HasCombinedWithin C.of R.BITS O.at_of R.number (cursor_place from) writer.old
+        writer.new (cursor_place to) count to.word (words_met R.BITS to.bit count) }
 {
     if is_in_one_word::<R>(to.bit, count) {
         combine_word_within::<C, R, O>(way, from, writer, to.word, to.bit, count as u8);
@@ -640,14 +647,15 @@ fn combine_one_way<C: Combine, R: BitRegister, O: BitOrder<R>, R2: BitRegister, 
 )
     requires some { 0 < count }
     requires way { Allows way R.BITS O.at_of R2.BITS O2.at_of from.bit to.bit }
-    requires from_in { offset from + count ≤ length source.now * R.BITS }
+    requires from_in { cursor_place from + count ≤ length source.now * R.BITS }
     requires to_in { to.word + words_met R2.BITS to.bit count ≤ length
         (writer_of writer.old).words }
     requires rising { (writer_of writer.old).rising ≡ true → (writer_of writer.old).mark ≡ to.word }
     requires falling { (writer_of writer.old).rising ≡ false → (writer_of writer.old).mark
         ≡ to.word + words_met R2.BITS to.bit count }
-    ensures { HasCombined C.of R.BITS O.at_of R.number source.now (offset from) R2.BITS O2.at_of
-        R2.number writer.old writer.new (offset to) count to.word (words_met R2.BITS to.bit count) }
+    ensures { HasCombined C.of R.BITS O.at_of R.number source.now (cursor_place from) R2.BITS
+        O2.at_of R2.number writer.old writer.new (cursor_place to) count to.word (words_met R2.BITS
+        to.bit count) }
 {
     if writer.is_rising() {
         combine_rising::<C, R, O, R2, O2>(way, source, from, writer, to, count);
@@ -668,14 +676,15 @@ pub(super) fn combine_bits<
     O2: BitOrder<R2>,
 >(source: &[R], from: Cursor<R>, writer: &mut WordWriter<R2>, to: Cursor<R2>, count: usize)
     requires some { 0 < count }
-    requires from_in { offset from + count ≤ length source.now * R.BITS }
+    requires from_in { cursor_place from + count ≤ length source.now * R.BITS }
     requires to_in { to.word + words_met R2.BITS to.bit count ≤ length
         (writer_of writer.old).words }
     requires rising { (writer_of writer.old).rising ≡ true → (writer_of writer.old).mark ≡ to.word }
     requires falling { (writer_of writer.old).rising ≡ false → (writer_of writer.old).mark
         ≡ to.word + words_met R2.BITS to.bit count }
-    ensures { HasCombined C.of R.BITS O.at_of R.number source.now (offset from) R2.BITS O2.at_of
-        R2.number writer.old writer.new (offset to) count to.word (words_met R2.BITS to.bit count) }
+    ensures { HasCombined C.of R.BITS O.at_of R.number source.now (cursor_place from) R2.BITS
+        O2.at_of R2.number writer.old writer.new (cursor_place to) count to.word (words_met R2.BITS
+        to.bit count) }
 {
     match way_of::<R, O, R2, O2>(from.bit, to.bit) {
         Way::Whole => {
@@ -707,15 +716,15 @@ fn combine_one_way_within<C: Combine, R: BitRegister, O: BitOrder<R>>(
 )
     requires some { 0 < count }
     requires way { Allows way R.BITS O.at_of R.BITS O.at_of from.bit to.bit }
-    requires from_in { offset from + count ≤ length (writer_of writer.old).words * R.BITS }
+    requires from_in { cursor_place from + count ≤ length (writer_of writer.old).words * R.BITS }
     requires to_in { to.word + words_met R.BITS to.bit count ≤ length (writer_of writer.old).words }
-    requires before { (writer_of writer.old).rising ≡ true → offset to ≤ offset from }
-    requires behind { (writer_of writer.old).rising ≡ false → offset from ≤ offset to }
+    requires before { (writer_of writer.old).rising ≡ true → cursor_place to ≤ cursor_place from }
+    requires behind { (writer_of writer.old).rising ≡ false → cursor_place from ≤ cursor_place to }
     requires rising { (writer_of writer.old).rising ≡ true → (writer_of writer.old).mark ≡ to.word }
     requires falling { (writer_of writer.old).rising ≡ false → (writer_of writer.old).mark
         ≡ to.word + words_met R.BITS to.bit count }
-    ensures { HasCombinedWithin C.of R.BITS O.at_of R.number (offset from) writer.old writer.new
-        (offset to) count to.word (words_met R.BITS to.bit count) }
+    ensures { HasCombinedWithin C.of R.BITS O.at_of R.number (cursor_place from) writer.old
+        writer.new (cursor_place to) count to.word (words_met R.BITS to.bit count) }
 {
     if writer.is_rising() {
         combine_rising_within::<C, R, O>(way, from, writer, to, count);
@@ -735,15 +744,15 @@ pub(super) fn combine_bits_within<C: Combine, R: BitRegister, O: BitOrder<R>>(
     count: usize,
 )
     requires some { 0 < count }
-    requires from_in { offset from + count ≤ length (writer_of writer.old).words * R.BITS }
+    requires from_in { cursor_place from + count ≤ length (writer_of writer.old).words * R.BITS }
     requires to_in { to.word + words_met R.BITS to.bit count ≤ length (writer_of writer.old).words }
-    requires before { (writer_of writer.old).rising ≡ true → offset to ≤ offset from }
-    requires behind { (writer_of writer.old).rising ≡ false → offset from ≤ offset to }
+    requires before { (writer_of writer.old).rising ≡ true → cursor_place to ≤ cursor_place from }
+    requires behind { (writer_of writer.old).rising ≡ false → cursor_place from ≤ cursor_place to }
     requires rising { (writer_of writer.old).rising ≡ true → (writer_of writer.old).mark ≡ to.word }
     requires falling { (writer_of writer.old).rising ≡ false → (writer_of writer.old).mark
         ≡ to.word + words_met R.BITS to.bit count }
-    ensures { HasCombinedWithin C.of R.BITS O.at_of R.number (offset from) writer.old writer.new
-        (offset to) count to.word (words_met R.BITS to.bit count) }
+    ensures { HasCombinedWithin C.of R.BITS O.at_of R.number (cursor_place from) writer.old
+        writer.new (cursor_place to) count to.word (words_met R.BITS to.bit count) }
 {
     match way_of::<R, O, R, O>(from.bit, to.bit) {
         Way::Whole => {

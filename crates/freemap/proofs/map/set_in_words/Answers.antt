@@ -1,7 +1,7 @@
 use Rattle.std.proofs.Common.{◌≡◌, ◌/◌, ℕ, Bool, List, length, map, refl, ap, arith}
 use Rattle.std.specs.Prelude.{slice_set, pos}
 use Rattle.std.proofs.lemmas.Int.{ints}
-use Rattle.bitvec.specs.Place.{Ptr, index_of}
+use Rattle.bitvec.specs.Place.{Ptr, memory_place}
 use Rattle.bitvec.specs.Span.{front_span}
 use Rattle.bitvec.proofs.BecomesLemmas.{becomes-same, bit-becomes, fits-numbers, numbers-many}
 use Rattle.bitvec_slice.proofs.SlicePartLemmas.{whole_fits}
@@ -23,7 +23,7 @@ returns g c =
     let new = c.write.new.memory in
     let number = λ (w : ℕ). w in
     let span = front_span blocks in
-    let place = ap (λ (p : Ptr). index_of 64 p) c.at-pointer.ensures in
+    let place = ap (λ (p : Ptr). memory_place 64 p) c.at-pointer.ensures in
     let written = bit-becomes 64 at span (map number old) (map number new) (omega arith) (fits-numbers 64 span number old (whole_fits 64 (length old) blocks c.requires.room.0)) c.args.at _ c.args.used c.requires.inside
     (omega (arith, place)) (numbers-many number old new c.write.ensures.words) c.write.ensures.bits in
     let edit = edited_words at blocks span refl old new (λ (us : List Bool). slice_set us c.args.at c.args.used) written in

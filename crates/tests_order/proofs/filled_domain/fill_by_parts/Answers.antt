@@ -1,5 +1,5 @@
 use Rattle.bitvec_ptr.proofs.PlaceOrder.{bit_below}
-use Rattle.bitvec_domain.specs.BitSpan.{span_of}
+use Rattle.bitvec_span.specs.BitSpan.{span_of}
 use Rattle.tests_order.proofs.FilledBitLemmas.{filled-becomes}
 use Rattle.tests_order.proofs.filled_domain.fill_by_parts.Goals as goal
 

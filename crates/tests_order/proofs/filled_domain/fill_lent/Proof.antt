@@ -40,24 +40,24 @@ use denote.Triple.Clauses.{Lasts, lasts}
 use denote.Triple.Call.{calls_at, calls_at_last}
 use denote.Triple.Table.{framed}
 use denote.Triple.Walked.{Stays, stay_dropped, stay_slice, walk_of, Goes-dropped, Goes-slice}
-use Rattle.bitvec_domain.specs.Span.{Span, Fits}
-use Rattle.bitvec_domain.specs.BitSpan.{span_of}
-use Rattle.bitvec_domain.specs.Parts.{parts_of, is_enclave, HasShortBody}
-use Rattle.bitvec_domain.specs.Lending.{LendsNamed}
-use Rattle.bitvec_domain.specs.Loans.{words_before, body_words, span_loans, words_of_loans}
-use Rattle.bitvec_domain.specs.PartialElementMut.{memory_of}
-use Rattle.bitvec_domain.specs.declared.domain.domain_mut.DomainMut.TheVariants.{Enclave}
-use Rattle.bitvec_domain.specs.DomainMut.{loan_names, loans_of, lent_parts, DomainRestsIfNone}
+use Rattle.bitvec_span.specs.Span.{Span, Fits}
+use Rattle.bitvec_span.specs.BitSpan.{span_of}
+use Rattle.bitvec_span.specs.Parts.{parts_of, is_enclave, HasShortBody}
+use Rattle.bitvec_span.specs.Lending.{LendsNamed}
+use Rattle.bitvec_span.specs.Loans.{words_before, body_words, span_loans, words_of_loans}
+use Rattle.bitvec_span.specs.PartialElementMut.{memory_of}
+use Rattle.bitvec_span.specs.declared.domain.domain_mut.DomainMut.TheVariants.{Enclave}
+use Rattle.bitvec_span.specs.DomainMut.{loan_names, loans_of, lent_parts, DomainRestsIfNone}
 use Rattle.tests_order.proofs.LentMemory.{named_as, Kept, lends_whole, whole_back, whole_end}
 use Rattle.tests_order.specs.FilledDomain.{filled_loans, filled_memory, numbers_of_words}
 use Rattle.tests_order.proofs.FilledMemoryLemmas.{filled-whole}
 use Rattle.tests_order.proofs.DomainEnds.{some_or_none, words_or, AllRest, none_rests, dropped_rests}
-use Rattle.bitvec_domain.specs.contracts.ptr.span.BitSpan as S
-use Rattle.bitvec_domain.proofs.ptr.span.BitSpan.TheLaws.{the_told as span_told, the_row_laws as span_laws, the_plain as span_plain}
-use Rattle.bitvec_domain.specs.contracts.domain.domain_mut.DomainMut as D
-use Rattle.bitvec_domain.proofs.domain.domain_mut.DomainMut.TheLaws.{the_row_laws as domain_laws}
-use Rattle.bitvec_domain.specs.contracts.domain.partial_element_mut.PartialElementMut as E
-use Rattle.bitvec_domain.proofs.domain.partial_element_mut.PartialElementMut.TheLaws.{the_told as part_told, the_row_laws as part_laws}
+use Rattle.bitvec_span.specs.contracts.ptr.span.BitSpan as S
+use Rattle.bitvec_span.proofs.ptr.span.BitSpan.TheLaws.{the_told as span_told, the_row_laws as span_laws, the_plain as span_plain}
+use Rattle.bitvec_span.specs.contracts.domain.domain_mut.DomainMut as D
+use Rattle.bitvec_span.proofs.domain.domain_mut.DomainMut.TheLaws.{the_row_laws as domain_laws}
+use Rattle.bitvec_span.specs.contracts.domain.partial_element_mut.PartialElementMut as E
+use Rattle.bitvec_span.proofs.domain.partial_element_mut.PartialElementMut.TheLaws.{the_told as part_told, the_row_laws as part_laws}
 use Rattle.std.specs.contracts.option.Option as OP
 use Rattle.std.proofs.option.Option.TheLaws.{the_told as option_told, the_row_laws as option_laws}
 use Rattle.std.proofs.VecSteps.Shapes.{after, head, arm_body}
@@ -65,14 +65,14 @@ use Rattle.tests_order.specs.contracts.filled_domain.fill_lent as f
 use Rattle.tests_order.specs.contracts.filled_domain.fill_lent.Key.{name as #fill}
 use Rattle.tests_order.proofs.filled_domain.fill_lent.Statement.{statement}
 use Rattle.tests_order.proofs.filled_domain.fill_lent.Code as code
-use Rattle.bitvec_domain.specs.contracts.ptr.span.BitSpan.domain_mut as g
-use Rattle.bitvec_domain.proofs.ptr.span.BitSpan.domain_mut.Met.{met}
+use Rattle.bitvec_span.specs.contracts.ptr.span.BitSpan.domain_mut as g
+use Rattle.bitvec_span.proofs.ptr.span.BitSpan.domain_mut.Met.{met}
 use Rattle.tests_order.specs.contracts.filled_domain.filled_domain as h
 use Rattle.tests_order.proofs.filled_domain.filled_domain.Met.{met as met_h}
-use Rattle.bitvec_domain.specs.contracts.domain.domain_mut.DomainMut.enclave as k
-use Rattle.bitvec_domain.proofs.domain.domain_mut.DomainMut.enclave.Met.{met as met_k}
-use Rattle.bitvec_domain.specs.contracts.domain.partial_element_mut.PartialElementMut.drop as r
-use Rattle.bitvec_domain.proofs.domain.partial_element_mut.PartialElementMut.drop.Met.{met as met_r}
+use Rattle.bitvec_span.specs.contracts.domain.domain_mut.DomainMut.enclave as k
+use Rattle.bitvec_span.proofs.domain.domain_mut.DomainMut.enclave.Met.{met as met_k}
+use Rattle.bitvec_span.specs.contracts.domain.partial_element_mut.PartialElementMut.drop as r
+use Rattle.bitvec_span.proofs.domain.partial_element_mut.PartialElementMut.drop.Met.{met as met_r}
 use Rattle.tests_order.proofs.Destruct++none.drop.Code.{code as nothing_to_drop}
 
 pub fill_lent_spec : {M : Type 1} → statement M
@@ -121,7 +121,7 @@ fill_lent_spec {M = M} 𝓤 𝓛 𝓜 𝓡 wired X O L LO copy rb rbd rc rcd rd 
     nothing ! $ move ! (1 ∷ 0 ∷ []) $ fjoin ! $ owned ! Spans _ mk s₀ _ is_span $ fjoin ! $ move ! (1 ∷ 0 ∷ []) $ join ! $
     use0 𝓛 (raw (fact 𝓤 (Fits rb.BITS span len))) (fact_i 𝓤 _ (emp 𝓤) fits) $ use0 𝓛 (raw (fact 𝓤 (κs.1.1.0 ⊑ O.lives))) (fact_i 𝓤 _ (emp 𝓤) alive_o) $ join ! $ use0 𝓛 (raw (fact 𝓤 (αs ⊑ X.lives))) (fact_i 𝓤 _ (emp 𝓤) alive') $ join ! $ move ! (1 ∷ 0 ∷ []) $ join ! $
     use1 𝓛 (raw (G.pre z)) (id⊢ 𝓤 _) $
-    calls_at ! (framed 𝓤 H 𝓜 𝓣) G (met 𝓤 𝓛 𝓜 𝓡 (code.calls-bitvec_domain::ptr::span::BitSpan::domain_mut 𝓡.env wired) X O L LO copy rb rbd rc rcd rd rdd re red rp rpd ro rod rq rqd rh rhd rg rgd m1 m2 m3 m4 m5 m6 m7 m8 m9) z (and_then ! (get ! refl) (and_then ! (get ! refl) (no_more !))) (λ v.
+    calls_at ! (framed 𝓤 H 𝓜 𝓣) G (met 𝓤 𝓛 𝓜 𝓡 (code.calls-bitvec_span::ptr::span::BitSpan::domain_mut 𝓡.env wired) X O L LO copy rb rbd rc rcd rd rdd re red rp rpd ro rod rq rqd rh rhd rg rgd m1 m2 m3 m4 m5 m6 m7 m8 m9) z (and_then ! (get ! refl) (and_then ! (get ! refl) (no_more !))) (λ v.
     use1 𝓛 (later (some (λ (e : Dom.Denot). ((‵ (flft αs (left t)) ⊛ ‵ others') ⊛ ‵ (Dom.own_val e (v ∷ []))) ⊛ some (λ (ws : Lasts (g.ended X O rb rbd rc rcd rd rdd re red rp rpd ro rod rq rqd rh rhd rg rgd) κs' (s₀, (s, tt))). ‵ (lasts (g.ended X O rb rbd rc rcd rd rdd re red rp rpd ro rod rq rqd rh rhd rg rgd) κs' (s₀, (s, tt)) ws)
     ⊛ ‵ (LendsNamed R s i n (loan_names e)) ⊛ raw (fact 𝓤 (lent_parts rb.number e ≡ parts_of rb.BITS span (map rb.number xs))) ⊛ raw (fact 𝓤 (loans_of e ≡ span_loans rb.BITS span xs)) ⊛ raw (fact 𝓤 (HasShortBody rb.BITS (lent_parts rb.number e))))))) (id⊢ 𝓤 _) $ await ! tt $ pick ! (λ e. split ! $ split ! $ move ! (2 ∷ []) $ pick ! (λ ws. split ! $ drop ! $
     split ! $ move ! (1 ∷ []) $ split ! $ drop ! $ split ! $ heard ! _ (λ lent. heard ! _ (λ short. move ! (2 ∷ []) $ peeks ! Dom (Is Dom) (shows 𝓛 Dom) e (v ∷ []) (λ as_domain. let good = ((LD.lawful 𝓛).typed e (v ∷ []) as_domain).0 in
@@ -141,7 +141,7 @@ fill_lent_spec {M = M} 𝓤 𝓛 𝓜 𝓡 wired X O L LO copy rb rbd rc rcd rd 
     let z3 : Q.Ghost = ((κs', qs', (bounds', tt), (d, tt), (w ∷ [], tt)), tt) in
     nothing ! $ move ! (1 ∷ 0 ∷ []) $ fjoin ! $ move ! (1 ∷ 0 ∷ []) $ join ! $ nothing ! $ use0 𝓛 (raw (fact 𝓤 (κs.1.1.0 ⊑ O.lives))) (fact_i 𝓤 _ (emp 𝓤) alive_o) $ join ! $ use0 𝓛 (raw (fact 𝓤 (αs ⊑ X.lives))) (fact_i 𝓤 _ (emp 𝓤) alive') $ join ! $ move ! (1 ∷ 0 ∷ []) $ join ! $
     use1 𝓛 (raw (Q.pre z3)) (id⊢ 𝓤 _) $
-    calls_at ! (framed 𝓤 H 𝓜 𝓣) Q (met_k 𝓤 𝓛 𝓜 𝓡 (code.calls-bitvec_domain::domain::domain_mut::DomainMut::enclave 𝓡.env wired) X O L LO copy rb rbd rc rcd rd rdd re red rp rpd ro rod rq rqd rh rhd rg rgd m1 m2 m3 m4 m5 m6 m7 m8 m9) z3 (and_then ! (get ! refl) (no_more !)) (λ u.
+    calls_at ! (framed 𝓤 H 𝓜 𝓣) Q (met_k 𝓤 𝓛 𝓜 𝓡 (code.calls-bitvec_span::domain::domain_mut::DomainMut::enclave 𝓡.env wired) X O L LO copy rb rbd rc rcd rd rdd re red rp rpd ro rod rq rqd rh rhd rg rgd m1 m2 m3 m4 m5 m6 m7 m8 m9) z3 (and_then ! (get ! refl) (no_more !)) (λ u.
     let Part : RattleType = E.the_row lft R Or rb rd rp ro rq rh rg in let LE = part_laws lft R Or rb rd rp ro rq rh rg LR LOr in let told_e = part_told lft R Or rb rd rp ro rq rh rg LR LOr in
     let Answer : RattleType = OP.the_row Part in let LA = option_laws Part LE in let told_a = option_told Part LE told_e in
     use1 𝓛 (later (some (λ (o : Answer.Denot). ((‵ (flft αs (left t)) ⊛ ‵ others') ⊛ ‵ (Answer.own_val o (u ∷ []))) ⊛ some (λ (ys : Lasts (k.ended X O rb rbd rc rcd rd rdd re red rp rpd ro rod rq rqd rh rhd rg rgd) κs' (d, tt)). ‵ (lasts (k.ended X O rb rbd rc rcd rd rdd re red rp rpd ro rod rq rqd rh rhd rg rgd) κs' (d, tt) ys)
@@ -169,7 +169,7 @@ fill_lent_spec {M = M} 𝓤 𝓛 𝓜 𝓡 wired X O L LO copy rb rbd rc rcd rd 
           let z4 : W.Ghost = ((κs', qs', (bounds', tt), (part, tt), (pv ∷ [], tt)), tt) in
           nothing ! $ move ! (1 ∷ 0 ∷ []) $ fjoin ! $ move ! (1 ∷ 0 ∷ []) $ join ! $ nothing ! $ use0 𝓛 (raw (fact 𝓤 (κs.1.1.0 ⊑ O.lives))) (fact_i 𝓤 _ (emp 𝓤) alive_o) $ join ! $ use0 𝓛 (raw (fact 𝓤 (αs ⊑ X.lives))) (fact_i 𝓤 _ (emp 𝓤) alive') $ join ! $ move ! (1 ∷ 0 ∷ []) $ join ! $
           use1 𝓛 (raw (W.pre z4)) (id⊢ 𝓤 _) $
-          calls_at_last ! (framed 𝓤 H 𝓜 𝓣) W (met_r 𝓤 𝓛 𝓜 𝓡 (code.calls-bitvec_domain::domain::partial_element_mut::PartialElementMut::drop 𝓡.env wired) X O L LO copy rb rbd rc rcd rd rdd re red rp rpd ro rod rq rqd rh rhd rg rgd nothing_dropped m1 m2 m3 m4 m5 m6 m7 m8 m9
+          calls_at_last ! (framed 𝓤 H 𝓜 𝓣) W (met_r 𝓤 𝓛 𝓜 𝓡 (code.calls-bitvec_span::domain::partial_element_mut::PartialElementMut::drop 𝓡.env wired) X O L LO copy rb rbd rc rcd rd rdd re red rp rpd ro rod rq rqd rh rhd rg rgd nothing_dropped m1 m2 m3 m4 m5 m6 m7 m8 m9
           (glues "tests_order::Destruct++none::drop" 𝓡.env (code.calls-tests_order::Destruct++none::drop 𝓡.env wired) O LO M 𝓤 𝓛 𝓜 𝓡)) z4 (and_then ! (get ! refl) (no_more !)) (λ g.
           let Ends : Type 0 = Lasts (r.ended X O rb rbd rc rcd rd rdd re red rp rpd ro rod rq rqd rh rhd rg rgd nothing_dropped) κs' (part, tt) in
           use1 𝓛 (later (some (λ (b : Unit {0}). ((‵ (flft αs (left t)) ⊛ ‵ others') ⊛ ‵ (unit.own_val b (g ∷ []))) ⊛ some (λ (es : Ends). ‵ (lasts (r.ended X O rb rbd rc rcd rd rdd re red rp rpd ro rod rq rqd rh rhd rg rgd nothing_dropped) κs' (part, tt) es)

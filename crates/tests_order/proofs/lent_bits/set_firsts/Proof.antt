@@ -39,28 +39,28 @@ use denote.Triple.Clauses.{Lasts, lasts}
 use denote.Triple.Call.{calls_at, calls_at_last}
 use denote.Triple.Table.{framed}
 use denote.Triple.Walked.{Stays, stay_dropped, stay_slice, walk_of, Goes-dropped, Goes-slice}
-use Rattle.bitvec_domain.specs.Span.{Span, Fits}
-use Rattle.bitvec_domain.specs.BitSpan.{span_of}
-use Rattle.bitvec_domain.specs.Parts.{parts_of}
-use Rattle.bitvec_domain.specs.Lending.{LendsNamed}
-use Rattle.bitvec_domain.specs.Loans.{has_head, has_tail, words_before, body_words, span_loans}
-use Rattle.bitvec_domain.specs.BitWordsMut.{words_memory}
-use Rattle.bitvec_domain.specs.BitDomainMut.{lent_bits, bit_loan_names, bit_loans_of, BitDomainRestsIfNone}
-use Rattle.bitvec_domain.specs.declared.domain.bit_domain_mut.BitDomainMut.TheVariants.{Enclave}
-use Rattle.bitvec_domain.specs.BitLoans.{names_if, stretch_loans}
-use Rattle.bitvec_domain.specs.BitParts.{bit_parts_of, is_bit_enclave}
+use Rattle.bitvec_span.specs.Span.{Span, Fits}
+use Rattle.bitvec_span.specs.BitSpan.{span_of}
+use Rattle.bitvec_span.specs.Parts.{parts_of}
+use Rattle.bitvec_span.specs.Lending.{LendsNamed}
+use Rattle.bitvec_span.specs.Loans.{has_head, has_tail, words_before, body_words, span_loans}
+use Rattle.bitvec_span.specs.BitWordsMut.{words_memory}
+use Rattle.bitvec_span.specs.BitDomainMut.{lent_bit_parts, bit_loan_names, bit_loans_of, BitDomainRestsIfNone}
+use Rattle.bitvec_span.specs.declared.domain.bit_domain_mut.BitDomainMut.TheVariants.{Enclave}
+use Rattle.bitvec_span.specs.BitLoans.{names_if, stretch_loans}
+use Rattle.bitvec_span.specs.BitParts.{bit_parts_of, is_bit_enclave}
 use Rattle.bitvec_ptr.specs.Memory.{memory_bits}
 use Rattle.tests_order.proofs.LentMemory.{named_as, Kept, lends_whole, whole_back, whole_end}
 use Rattle.tests_order.specs.LentBits.{firsts_set_of, loan_bits, firsts_set}
 use Rattle.tests_order.proofs.LentBitLemmas.{ends_or, firsts-whole}
 use Rattle.tests_order.proofs.DomainEnds.{some_or_none}
 use Rattle.tests_order.proofs.BitDomainEnds.{AllRest, none_rests, dropped_rests}
-use Rattle.bitvec_domain.specs.contracts.ptr.span.BitSpan as S
-use Rattle.bitvec_domain.proofs.ptr.span.BitSpan.TheLaws.{the_told as span_told, the_row_laws as span_laws, the_plain as span_plain}
-use Rattle.bitvec_domain.specs.contracts.domain.bit_domain_mut.BitDomainMut as D
-use Rattle.bitvec_domain.proofs.domain.bit_domain_mut.BitDomainMut.TheLaws.{the_row_laws as domain_laws}
-use Rattle.bitvec_domain.specs.contracts.domain.bit_words_mut.BitWordsMut as E
-use Rattle.bitvec_domain.proofs.domain.bit_words_mut.BitWordsMut.TheLaws.{the_told as part_told, the_row_laws as part_laws}
+use Rattle.bitvec_span.specs.contracts.ptr.span.BitSpan as S
+use Rattle.bitvec_span.proofs.ptr.span.BitSpan.TheLaws.{the_told as span_told, the_row_laws as span_laws, the_plain as span_plain}
+use Rattle.bitvec_span.specs.contracts.domain.bit_domain_mut.BitDomainMut as D
+use Rattle.bitvec_span.proofs.domain.bit_domain_mut.BitDomainMut.TheLaws.{the_row_laws as domain_laws}
+use Rattle.bitvec_span.specs.contracts.domain.bit_words_mut.BitWordsMut as E
+use Rattle.bitvec_span.proofs.domain.bit_words_mut.BitWordsMut.TheLaws.{the_told as part_told, the_row_laws as part_laws}
 use Rattle.std.specs.contracts.option.Option as OP
 use Rattle.std.proofs.option.Option.TheLaws.{the_told as option_told, the_row_laws as option_laws}
 use Rattle.std.proofs.VecSteps.Shapes.{after, head, arm_body}
@@ -68,14 +68,14 @@ use Rattle.tests_order.specs.contracts.lent_bits.set_firsts as f
 use Rattle.tests_order.specs.contracts.lent_bits.set_firsts.Key.{name as #set}
 use Rattle.tests_order.proofs.lent_bits.set_firsts.Statement.{statement}
 use Rattle.tests_order.proofs.lent_bits.set_firsts.Code as code
-use Rattle.bitvec_domain.specs.contracts.ptr.span.BitSpan.bit_domain_mut as g
-use Rattle.bitvec_domain.proofs.ptr.span.BitSpan.bit_domain_mut.Met.{met}
+use Rattle.bitvec_span.specs.contracts.ptr.span.BitSpan.bit_domain_mut as g
+use Rattle.bitvec_span.proofs.ptr.span.BitSpan.bit_domain_mut.Met.{met}
 use Rattle.tests_order.specs.contracts.lent_bits.with_firsts as h
 use Rattle.tests_order.proofs.lent_bits.with_firsts.Met.{met as met_h}
-use Rattle.bitvec_domain.specs.contracts.domain.bit_domain_mut.BitDomainMut.enclave as k
-use Rattle.bitvec_domain.proofs.domain.bit_domain_mut.BitDomainMut.enclave.Met.{met as met_k}
-use Rattle.bitvec_domain.specs.contracts.domain.bit_words_mut.BitWordsMut.drop as r
-use Rattle.bitvec_domain.proofs.domain.bit_words_mut.BitWordsMut.drop.Met.{met as met_r}
+use Rattle.bitvec_span.specs.contracts.domain.bit_domain_mut.BitDomainMut.enclave as k
+use Rattle.bitvec_span.proofs.domain.bit_domain_mut.BitDomainMut.enclave.Met.{met as met_k}
+use Rattle.bitvec_span.specs.contracts.domain.bit_words_mut.BitWordsMut.drop as r
+use Rattle.bitvec_span.proofs.domain.bit_words_mut.BitWordsMut.drop.Met.{met as met_r}
 use Rattle.tests_order.proofs.Destruct++none.drop.Code.{code as nothing_to_drop}
 
 pub set_firsts_spec : {M : Type 1} → statement M
@@ -124,9 +124,9 @@ set_firsts_spec {M = M} 𝓤 𝓛 𝓜 𝓡 wired X O L LO copy rb rbd rc rcd rd
     nothing ! $ move ! (1 ∷ 0 ∷ []) $ fjoin ! $ owned ! Spans _ mk s₀ _ is_span $ fjoin ! $ move ! (1 ∷ 0 ∷ []) $ join ! $
     use0 𝓛 (raw (fact 𝓤 (Fits rb.BITS span len))) (fact_i 𝓤 _ (emp 𝓤) fits) $ use0 𝓛 (raw (fact 𝓤 (κs.1.1.0 ⊑ O.lives))) (fact_i 𝓤 _ (emp 𝓤) alive_o) $ join ! $ use0 𝓛 (raw (fact 𝓤 (αs ⊑ X.lives))) (fact_i 𝓤 _ (emp 𝓤) alive') $ join ! $ move ! (1 ∷ 0 ∷ []) $ join ! $
     use1 𝓛 (raw (G.pre z)) (id⊢ 𝓤 _) $
-    calls_at ! (framed 𝓤 H 𝓜 𝓣) G (met 𝓤 𝓛 𝓜 𝓡 (code.calls-bitvec_domain::ptr::span::BitSpan::bit_domain_mut 𝓡.env wired) X O L LO copy rb rbd rc rcd rd rdd re red rp rpd ro rod rq rqd rh rhd rg rgd m1 m2 m3 m4 m5 m6 m7 m8 m9) z (and_then ! (get ! refl) (and_then ! (get ! refl) (no_more !))) (λ v.
+    calls_at ! (framed 𝓤 H 𝓜 𝓣) G (met 𝓤 𝓛 𝓜 𝓡 (code.calls-bitvec_span::ptr::span::BitSpan::bit_domain_mut 𝓡.env wired) X O L LO copy rb rbd rc rcd rd rdd re red rp rpd ro rod rq rqd rh rhd rg rgd m1 m2 m3 m4 m5 m6 m7 m8 m9) z (and_then ! (get ! refl) (and_then ! (get ! refl) (no_more !))) (λ v.
     use1 𝓛 (later (some (λ (e : Dom.Denot). ((‵ (flft αs (left t)) ⊛ ‵ others') ⊛ ‵ (Dom.own_val e (v ∷ []))) ⊛ some (λ (ws : Lasts (g.ended X O rb rbd rc rcd rd rdd re red rp rpd ro rod rq rqd rh rhd rg rgd) κs' (s₀, (s, tt))). ‵ (lasts (g.ended X O rb rbd rc rcd rd rdd re red rp rpd ro rod rq rqd rh rhd rg rgd) κs' (s₀, (s, tt)) ws)
-    ⊛ ‵ (LendsNamed R s i n (names_if hh ht (bit_loan_names e))) ⊛ raw (fact 𝓤 (lent_bits rb.number e ≡ bit_parts_of rb.BITS (parts_of rb.BITS span (map rb.number xs)))) ⊛ raw (fact 𝓤 (bit_loans_of e ≡ stretch_loans rb.BITS (span_loans rb.BITS span xs))))))) (id⊢ 𝓤 _) $ await ! tt $ pick ! (λ e. split ! $ split ! $ move ! (2 ∷ []) $ pick ! (λ ws. split ! $ drop ! $
+    ⊛ ‵ (LendsNamed R s i n (names_if hh ht (bit_loan_names e))) ⊛ raw (fact 𝓤 (lent_bit_parts rb.number e ≡ bit_parts_of rb.BITS (parts_of rb.BITS span (map rb.number xs)))) ⊛ raw (fact 𝓤 (bit_loans_of e ≡ stretch_loans rb.BITS (span_loans rb.BITS span xs))))))) (id⊢ 𝓤 _) $ await ! tt $ pick ! (λ e. split ! $ split ! $ move ! (2 ∷ []) $ pick ! (λ ws. split ! $ drop ! $
     split ! $ move ! (1 ∷ []) $ split ! $ drop ! $ heard ! _ (λ lent. move ! (2 ∷ []) $ peeks ! Dom (Is Dom) (shows 𝓛 Dom) e (v ∷ []) (λ as_domain. let good = ((LD.lawful 𝓛).typed e (v ∷ []) as_domain).0 in
     -- [the domain; what the loan ends as; the tokens; what the lender keeps; the way back]
     lands_as ! refl refl good $
@@ -144,11 +144,11 @@ set_firsts_spec {M = M} 𝓤 𝓛 𝓜 𝓡 wired X O L LO copy rb rbd rc rcd rd
     let z3 : Q.Ghost = ((κs', qs', (bounds', tt), (d, tt), (w ∷ [], tt)), tt) in
     nothing ! $ move ! (1 ∷ 0 ∷ []) $ fjoin ! $ move ! (1 ∷ 0 ∷ []) $ join ! $ nothing ! $ use0 𝓛 (raw (fact 𝓤 (κs.1.1.0 ⊑ O.lives))) (fact_i 𝓤 _ (emp 𝓤) alive_o) $ join ! $ use0 𝓛 (raw (fact 𝓤 (αs ⊑ X.lives))) (fact_i 𝓤 _ (emp 𝓤) alive') $ join ! $ move ! (1 ∷ 0 ∷ []) $ join ! $
     use1 𝓛 (raw (Q.pre z3)) (id⊢ 𝓤 _) $
-    calls_at ! (framed 𝓤 H 𝓜 𝓣) Q (met_k 𝓤 𝓛 𝓜 𝓡 (code.calls-bitvec_domain::domain::bit_domain_mut::BitDomainMut::enclave 𝓡.env wired) X O L LO copy rb rbd rc rcd rd rdd re red rp rpd ro rod rq rqd rh rhd rg rgd m1 m2 m3 m4 m5 m6 m7 m8 m9) z3 (and_then ! (get ! refl) (no_more !)) (λ u.
+    calls_at ! (framed 𝓤 H 𝓜 𝓣) Q (met_k 𝓤 𝓛 𝓜 𝓡 (code.calls-bitvec_span::domain::bit_domain_mut::BitDomainMut::enclave 𝓡.env wired) X O L LO copy rb rbd rc rcd rd rdd re red rp rpd ro rod rq rqd rh rhd rg rgd m1 m2 m3 m4 m5 m6 m7 m8 m9) z3 (and_then ! (get ! refl) (no_more !)) (λ u.
     let Part : RattleType = E.the_row lft R Or rb rd rp ro rq rh rg in let LE = part_laws lft R Or rb rd rp ro rq rh rg LR LOr in let told_e = part_told lft R Or rb rd rp ro rq rh rg LR LOr in
     let Answer : RattleType = OP.the_row Part in let LA = option_laws Part LE in let told_a = option_told Part LE told_e in
     use1 𝓛 (later (some (λ (o : Answer.Denot). ((‵ (flft αs (left t)) ⊛ ‵ others') ⊛ ‵ (Answer.own_val o (u ∷ []))) ⊛ some (λ (ys : Lasts (k.ended X O rb rbd rc rcd rd rdd re red rp rpd ro rod rq rqd rh rhd rg rgd) κs' (d, tt)). ‵ (lasts (k.ended X O rb rbd rc rcd rd rdd re red rp rpd ro rod rq rqd rh rhd rg rgd) κs' (d, tt) ys)
-    ⊛ ‵ (BitDomainRestsIfNone R d o) ⊛ raw (fact 𝓤 (MatchOption o (is_bit_enclave (lent_bits rb.number d) ≡ false) (λ part. d ≡ Enclave part))))))) (id⊢ 𝓤 _) $ await ! tt $ pick ! (λ o. split ! $ split ! $ move ! (2 ∷ []) $ pick ! (λ ys. split ! $ drop ! $ split ! $ move ! (1 ∷ []) $ heard ! _ (λ chosen.
+    ⊛ ‵ (BitDomainRestsIfNone R d o) ⊛ raw (fact 𝓤 (MatchOption o (is_bit_enclave (lent_bit_parts rb.number d) ≡ false) (λ part. d ≡ Enclave part))))))) (id⊢ 𝓤 _) $ await ! tt $ pick ! (λ o. split ! $ split ! $ move ! (2 ∷ []) $ pick ! (λ ys. split ! $ drop ! $ split ! $ move ! (1 ∷ []) $ heard ! _ (λ chosen.
     -- [what each loan ends as, where there is no answer; the tokens; the answer; what the loan ends as; what the lender keeps; the way back]
     move ! (2 ∷ []) $ peeks ! Answer (Is Answer) (shows 𝓛 Answer) o (u ∷ []) (λ as_answer.
     let Ev : Env 𝓤 H = env fn.locals l in let chooses : Body = head (after 6 fn.body) in
@@ -159,7 +159,7 @@ set_firsts_spec {M = M} 𝓤 𝓛 𝓜 𝓡 wired X O L LO copy rb rbd rc rcd rd
           let part = some_part.0 in let pv : Val = told_e.val part in let is_some = some_part.1 in
           let spelled : u ∷ [] ≡ live 1 (vcons pv vnil) ∷ [] = told_a.tells o (u ∷ []) as_answer ∙ ap (λ (x : Answer.Denot). told_a.val x ∷ []) is_some in
           let good_o = ((LA.lawful 𝓛).typed o (live 1 (vcons pv vnil) ∷ []) (subst (λ (us : List Val). Is Answer o us) spelled as_answer)).0 in
-          let is : d ≡ Enclave part = subst (λ (x : Answer.Denot). MatchOption x (is_bit_enclave (lent_bits rb.number d) ≡ false) (λ part. d ≡ Enclave part)) is_some chosen in
+          let is : d ≡ Enclave part = subst (λ (x : Answer.Denot). MatchOption x (is_bit_enclave (lent_bit_parts rb.number d) ≡ false) (λ part. d ≡ Enclave part)) is_some chosen in
           rewrite ! 0 (λ (x : Answer.Denot). ‵ (Answer.own_val x (u ∷ []))) is_some refl $ fpick ! (λ us. fsplit ! $ drop ! $ fpick ! (λ vss. fsplit ! $ drop ! $ fsplit ! $ move ! (1 ∷ []) $ drop ! $
           use1 𝓛 (‵ (Part.own_val part vss.0)) (id⊢ 𝓤 _) $ peeks ! Part (Is Part) (shows 𝓛 Part) part vss.0 (λ as_part. let p0 : vss.0 ≡ pv ∷ [] = told_e.tells part vss.0 as_part in
           let good_e = ((LE.lawful 𝓛).typed part (pv ∷ []) (subst (λ (us : List Val). Is Part part us) p0 as_part)).0 in
@@ -172,7 +172,7 @@ set_firsts_spec {M = M} 𝓤 𝓛 𝓜 𝓡 wired X O L LO copy rb rbd rc rcd rd
           let z4 : W.Ghost = ((κs', qs', (bounds', tt), (part, tt), (pv ∷ [], tt)), tt) in
           nothing ! $ move ! (1 ∷ 0 ∷ []) $ fjoin ! $ move ! (1 ∷ 0 ∷ []) $ join ! $ nothing ! $ use0 𝓛 (raw (fact 𝓤 (κs.1.1.0 ⊑ O.lives))) (fact_i 𝓤 _ (emp 𝓤) alive_o) $ join ! $ use0 𝓛 (raw (fact 𝓤 (αs ⊑ X.lives))) (fact_i 𝓤 _ (emp 𝓤) alive') $ join ! $ move ! (1 ∷ 0 ∷ []) $ join ! $
           use1 𝓛 (raw (W.pre z4)) (id⊢ 𝓤 _) $
-          calls_at_last ! (framed 𝓤 H 𝓜 𝓣) W (met_r 𝓤 𝓛 𝓜 𝓡 (code.calls-bitvec_domain::domain::bit_words_mut::BitWordsMut::drop 𝓡.env wired) X O L LO copy rb rbd rc rcd rd rdd re red rp rpd ro rod rq rqd rh rhd rg rgd nothing_dropped m1 m2 m3 m4 m5 m6 m7 m8 m9
+          calls_at_last ! (framed 𝓤 H 𝓜 𝓣) W (met_r 𝓤 𝓛 𝓜 𝓡 (code.calls-bitvec_span::domain::bit_words_mut::BitWordsMut::drop 𝓡.env wired) X O L LO copy rb rbd rc rcd rd rdd re red rp rpd ro rod rq rqd rh rhd rg rgd nothing_dropped m1 m2 m3 m4 m5 m6 m7 m8 m9
           (glues "tests_order::Destruct++none::drop" 𝓡.env (code.calls-tests_order::Destruct++none::drop 𝓡.env wired) O LO M 𝓤 𝓛 𝓜 𝓡)) z4 (and_then ! (get ! refl) (no_more !)) (λ g.
           let Ends : Type 0 = Lasts (r.ended X O rb rbd rc rcd rd rdd re red rp rpd ro rod rq rqd rh rhd rg rgd nothing_dropped) κs' (part, tt) in
           use1 𝓛 (later (some (λ (b : Unit {0}). ((‵ (flft αs (left t)) ⊛ ‵ others') ⊛ ‵ (unit.own_val b (g ∷ []))) ⊛ some (λ (es : Ends). ‵ (lasts (r.ended X O rb rbd rc rcd rd rdd re red rp rpd ro rod rq rqd rh rhd rg rgd nothing_dropped) κs' (part, tt) es)

@@ -43,7 +43,7 @@ use Rattle.bitvec.specs.Run.{CanRun}
 use Rattle.bits_lib.specs.View.{view_memory, part_spans}
 use Rattle.bits_lib.proofs.Rests.{let_go, rests_none, rests_some}
 use Rattle.bitvec.specs.contracts.ptr.span.BitSpan as S
-use Rattle.bitvec.below.bitvec_domain.proofs.ptr.span.BitSpan.TheLaws.{the_told as span_told, the_row_laws as span_laws, the_row_plain as span_plain}
+use Rattle.bitvec.below.bitvec_span.proofs.ptr.span.BitSpan.TheLaws.{the_told as span_told, the_row_laws as span_laws, the_row_plain as span_plain}
 use Rattle.bits_lib.specs.contracts.view.Parts as P
 use Rattle.bits_lib.proofs.view.Parts.TheLaws.{the_row_laws as parts_laws}
 use Rattle.bits_lib.specs.contracts.view.Parts.new as f

@@ -1,5 +1,5 @@
 use Rattle.std.proofs.Common.{◌+◌, ◌≤◌, map, refl, arith, rules}
-use Rattle.bitvec_domain.specs.BitSpan.{span_of}
+use Rattle.bitvec_span.specs.BitSpan.{span_of}
 use Rattle.bitvec.proofs.CommandLemmas.{past-copy, step-copy}
 use Rattle.bitvec.proofs.run.steps.copy.Goals as goal
 

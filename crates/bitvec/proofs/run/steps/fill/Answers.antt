@@ -1,7 +1,7 @@
 use Rattle.std.proofs.Common.{◌≡◌, ◌-◌, ◌≤◌, ◌++◌, map, take, drop, replicate, ap, refl, arith, rules}
-use Rattle.bitvec_domain.specs.Span.{Span, list_of}
-use Rattle.bitvec_domain.specs.BitSpan.{span_of}
-use Rattle.bitvec_domain.proofs.BecomesLemmas.{fits-numbers, becomes-same}
+use Rattle.bitvec_span.specs.Span.{Span, list_of}
+use Rattle.bitvec_span.specs.BitSpan.{span_of}
+use Rattle.bitvec_span.proofs.BecomesLemmas.{fits-numbers, becomes-same}
 use Rattle.bitvec.proofs.CommandLemmas.{past-fill, step-fill}
 use Rattle.bitvec.proofs.run.steps.fill.Goals as goal
 

@@ -1,5 +1,5 @@
 use Rattle.std.proofs.Common.{map, refl}
-use Rattle.bitvec_domain.specs.BitSpan.{span_of}
+use Rattle.bitvec_span.specs.BitSpan.{span_of}
 use Rattle.bitvec.specs.declared.run.command.Command.TheVariants.{Load}
 use Rattle.bitvec.proofs.CommandLemmas.{past-word, step-load}
 use Rattle.bitvec.proofs.run.steps.load.Goals as goal

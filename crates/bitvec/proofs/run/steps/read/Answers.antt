@@ -1,5 +1,5 @@
 use Rattle.std.proofs.Common.{map, refl, arith}
-use Rattle.bitvec_domain.specs.BitSpan.{span_of}
+use Rattle.bitvec_span.specs.BitSpan.{span_of}
 use Rattle.bitvec.specs.declared.run.command.Command.TheVariants.{Read}
 use Rattle.bitvec.proofs.CommandLemmas.{past-bit, step-read}
 use Rattle.bitvec.proofs.run.steps.read.Goals as goal

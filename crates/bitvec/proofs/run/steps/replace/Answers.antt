@@ -1,5 +1,5 @@
 use Rattle.std.proofs.Common.{map, refl, arith}
-use Rattle.bitvec_domain.specs.BitSpan.{span_of}
+use Rattle.bitvec_span.specs.BitSpan.{span_of}
 use Rattle.bitvec.specs.declared.run.command.Command.TheVariants.{Replace}
 use Rattle.bitvec.proofs.CommandLemmas.{past-bit, step-replace}
 use Rattle.bitvec.proofs.run.steps.replace.Goals as goal

@@ -1,7 +1,7 @@
 use Rattle.std.proofs.Common.{map, ap, refl}
 use Rattle.bitvec_ptr.proofs.PlaceOrder.{bit_below}
-use Rattle.bitvec_domain.specs.BitSpan.{span_of}
-use Rattle.bitvec_domain.proofs.BecomesLemmas.{fits-numbers}
+use Rattle.bitvec_span.specs.BitSpan.{span_of}
+use Rattle.bitvec_span.proofs.BecomesLemmas.{fits-numbers}
 use Rattle.bitvec.specs.declared.run.command.Command.TheVariants.{Set}
 use Rattle.bitvec.proofs.CommandLemmas.{past-word, step-set}
 use Rattle.bitvec.proofs.run.steps.set.Goals as goal

@@ -1,5 +1,5 @@
 use Rattle.std.proofs.Common.{◌<◌, map, refl, arith}
-use Rattle.bitvec_domain.specs.BitSpan.{span_of}
+use Rattle.bitvec_span.specs.BitSpan.{span_of}
 use Rattle.bitvec.proofs.CommandLemmas.{past-swap, step-swap}
 use Rattle.bitvec.proofs.run.steps.swap.Goals as goal
 use Rattle.bitvec.proofs.run.steps.swap.Goals.{else-index-len-via-then-index-len+else-with-len, else-index-len-via-else-index-len}

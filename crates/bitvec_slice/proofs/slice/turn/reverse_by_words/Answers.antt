@@ -7,7 +7,7 @@ use mir.Val.{to_z, of_z}
 use borrow.Rule.Slice.PartMut.{put_mid}
 use Rattle.bitvec.specs.BitPtr.{ptr_of}
 use Rattle.bitvec.specs.Memory.{memory_bits, list_with_copy}
-use Rattle.bitvec.specs.Place.{index_of, words_met, tail_of}
+use Rattle.bitvec.specs.Place.{memory_place, words_met, tail_of}
 use Rattle.bitvec.specs.BitSpan.{span_of}
 use Rattle.bitvec.specs.Span.{Span, Fits}
 use Rattle.bitvec.proofs.BecomesLemmas.{fits-numbers, numbers-many, span-becomes}
@@ -90,8 +90,8 @@ returns g c =
       len = refl;
       words = numbers-many number part c.copy_within.new.memory c.copy_within.ensures.words;
       copied = c.copy_within.ensures.bits
-          ∙ (λ m. list_with_copy (memory_bits width at turned) (index_of width (pointer m)) (memory_bits width at turned)
-          (index_of width (c.to_bitptr.ensures.pointer m)) (c.len.ensures m));
+          ∙ (λ m. list_with_copy (memory_bits width at turned) (memory_place width (pointer m)) (memory_bits width at turned)
+          (memory_place width (c.to_bitptr.ensures.pointer m)) (c.len.ensures m));
     }) in
     let head_is = read-word number memory a first c.index-memory-first.result is_first (omega (arith, c.requires.fits.1, some_words)) c.index-memory-first.is in
     let tail_is = read-word number memory (a + met - 1) (first + (n - 1)) c.index-memory-first-2.result (omega (arith, is_first, c.elements-elements.ensures.value, some_words)) (omega (arith, c.requires.fits.1, some_words)) c.index-memory-first-2.is in

@@ -4,7 +4,7 @@ use Rattle.std.proofs.lemmas.List.Edits.{swap_is}
 use Rattle.std.proofs.lemmas.Option.{get_or_from_slice_get, slice_get_within}
 use Rattle.bitvec_ptr.specs.BitPtr.{ptr_of}
 use Rattle.bitvec_ptr.specs.Memory.{memory_bits}
-use Rattle.bitvec_ptr.specs.Place.{index_of}
+use Rattle.bitvec_ptr.specs.Place.{memory_place}
 use Rattle.bitvec_ptr.proofs.ptr.single.BitPtr.swap_within.Goals as goal
 
 -- two elements of a list, each written over the other
@@ -21,5 +21,5 @@ returns-clause-bits g c =
     let R = g.R.BitRegister in
     let bits = memory_bits R.BITS g.O.BitAt.at_of in
     exchanged (bits (map R.number c.args.memory.now)) (bits (map R.number c.replace-ours.new.memory)) (bits (map R.number c.write.new.memory))
-    (index_of R.BITS (ptr_of c.args.self)) (index_of R.BITS (ptr_of c.args.with)) c.replace-ours.result c.read-theirs.result
+    (memory_place R.BITS (ptr_of c.args.self)) (memory_place R.BITS (ptr_of c.args.with)) c.replace-ours.result c.read-theirs.result
     c.replace-ours.ensures.previous c.read-theirs.ensures c.replace-ours.ensures.bits c.write.ensures.bits

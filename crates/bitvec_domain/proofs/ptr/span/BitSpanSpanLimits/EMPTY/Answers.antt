@@ -1,6 +1,0 @@
-use Rattle.std.proofs.Common.{refl}
-use Rattle.bitvec_domain.proofs.SameSpans.{span_same}
-use Rattle.bitvec_domain.proofs.ptr.span.BitSpanSpanLimits.EMPTY.Goals as goal
-
-pub returns : goal.returns
-returns g c = span_same _ _ refl refl refl

@@ -1,0 +1,10 @@
+use Rattle.std.proofs.Common.{map}
+use Rattle.bitvec_span.specs.BitSpan.{span_of}
+use Rattle.bitvec_span.proofs.FillWordLemmas.{Fills}
+use Rattle.bitvec_span.proofs.ptr.span.BitSpan.fill_between.Given as goal
+
+-- the words behind the first and before word k are filled
+abbrev pub invariant-loop-k : goal.invariant-loop-k
+invariant-loop-k g l =
+    let number = g.R.BitRegister.number in
+    Fills g.R.BitRegister.BITS g.O.BitAt.at_of (span_of l.fn.self) l.bit (map number l.fn.memory) 1 l.k (map number l.memory)
