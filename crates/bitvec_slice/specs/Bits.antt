@@ -1,5 +1,5 @@
 -- Lists of truth values: what is counted and found in one.
-use Rattle.std.specs.Prelude.{◌≡◌, ℕ, ◌+◌, ◌-◌, ◌<◌, ◌≤◌, Bool, false, not, List, length}
+use Rattle.std.specs.Prelude.{◌≡◌, ℕ, ◌+◌, ◌-◌, ◌<◌, ◌≤◌, Bool, false, not, List, length, Option, MatchOption}
 use Rattle.std.specs.List.{filter, range_with_len}
 use Rattle.bitvec.specs.Digit.{count_below}
 use Rattle.bitvec.specs.Span.{element}
@@ -11,6 +11,10 @@ zeros_in xs = count_below (λ i. not (element xs i)) (length xs)
 -- element i of a list is the last that is `bit`
 abbrev pub IsLast : Bool → List Bool → ℕ → Type 0
 IsLast bit xs i = (i < length xs) × (element xs i ≡ bit) × ((j : ℕ) → i < j → j < length xs → element xs j ≡ not bit)
+
+-- the last element of a list, if it has one
+abbrev pub IsLastOf : List Bool → Option Bool → Type 0
+IsLastOf xs result = MatchOption result (length xs ≡ 0) (λ bit. (0 < length xs) × (bit ≡ element xs (length xs - 1)))
 
 -- every element of a list from index `from` to before index `upto` is `bit`
 abbrev pub AllBetween : Bool → List Bool → ℕ → ℕ → Type 0
@@ -35,6 +39,11 @@ EndsWith bit xs n = (n ≤ length xs) × ((j : ℕ) → length xs ≤ j + n → 
 -- the `count` elements of a list from element i on are there, and false
 abbrev pub AreFree : List Bool → ℕ → ℕ → Type 0
 AreFree xs i count = (i + count ≤ length xs) × ((j : ℕ) → i ≤ j → j < i + count → element xs j ≡ false)
+
+-- the first index from which on `count` elements of a list are there and false, if there is one
+abbrev pub IsFirstFree : List Bool → ℕ → Option ℕ → Type 0
+IsFirstFree xs count result =
+    MatchOption result ((i : ℕ) → ¬ AreFree xs i count) (λ i. AreFree xs i count × ((k : ℕ) → k < i → ¬ AreFree xs k count))
 
 -- the indices of the elements of a list that are true, from index `from` to before index `upto`, in rising order
 abbrev pub ones_between : List Bool → ℕ → ℕ → List ℕ

@@ -38,6 +38,10 @@ digit_place big bits rises head len j =
 abbrev pub field_number : Bool → ℕ → Bool → ℕ → List Bool → ℕ
 field_number big bits rises head xs = number_of (digit_place big bits rises head (length xs)) (element xs) (length xs)
 
+-- a number has the elements of a list as digits: its digit at `digit_place` of j is element j
+abbrev pub HasFieldDigits : Bool → ℕ → Bool → ℕ → List Bool → ℕ → Type 0
+HasFieldDigits big bits rises head xs n = (j : ℕ) → j < length xs → digit n (digit_place big bits rises head (length xs) j) ≡ element xs j
+
 -- the list of a number: its element j is the digit at `digit_place` of j
 abbrev pub field_list : Bool → ℕ → Bool → ℕ → ℕ → ℕ → List Bool
 field_list big bits rises head len number = tabulate len (λ j. digit number (digit_place big bits rises head len j))

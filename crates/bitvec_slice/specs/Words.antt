@@ -1,5 +1,5 @@
 -- Words of a memory that have the digits of a number, and words merged of two.
-use Rattle.std.specs.Prelude.{◌≡◌, ℕ, ◌+◌, ◌-◌, ◌*◌, ◌%◌, ◌<◌, ◌≤◌, ◌&&◌, Bool, nat_le, nat_lt, if◌then◌else◌, List, slice_index}
+use Rattle.std.specs.Prelude.{◌≡◌, ℕ, ◌+◌, ◌-◌, ◌*◌, ◌/◌, ◌%◌, ◌<◌, ◌≤◌, ◌&&◌, Bool, nat_le, nat_lt, if◌then◌else◌, List, slice_index}
 use Rattle.bitvec.specs.Digit.{digit}
 use Rattle.bitvec.specs.Span.{Span, with_word}
 
@@ -23,3 +23,12 @@ HasWord bits span k = (span.head ≤ k * bits) × (k * bits + bits ≤ span.head
 -- a list with the digits of a word, by an order's positions, in place of the elements that lie in word k
 abbrev pub with_digits : ℕ → (ℕ → ℕ) → ℕ → List Bool → ℕ → ℕ → List Bool
 with_digits bits at head xs k w = with_word bits head xs k (λ j. digit w (at ((head + j) % bits)))
+
+-- The word w has the elements of a span that lie in the k-th word which the span meets: the digit of w at the position of
+-- element j is `value` of j.
+abbrev pub HasElements : ℕ → (ℕ → ℕ) → Span → ℕ → ℕ → (ℕ → Bool) → Type 0
+HasElements bits at span k w value = (j : ℕ) → j < span.len → (span.head + j) / bits ≡ k → digit w (at ((span.head + j) % bits)) ≡ value j
+
+-- the ones of the word w are the positions of a span's elements in its k-th word
+abbrev pub IsPartMask : ℕ → (ℕ → ℕ) → Span → ℕ → ℕ → Type 0
+IsPartMask bits at span k w = (i : ℕ) → i < bits → digit w (at i) ≡ (nat_le span.head (k * bits + i) && nat_lt (k * bits + i) (span.head + span.len))

@@ -6,15 +6,15 @@
 //! highest.
 
 ghost use Rattle.std.specs.Prelude.{◌≡◌, ℕ, ◌+◌, ◌-◌, ◌*◌, ◌/◌, ◌<◌, ◌≤◌, ◌==◌, ◌&&◌, ◌^◌, ◌%◌};
-ghost use Rattle.std.specs.Prelude.{Bool, true, false, not, nat_le, nat_lt, if◌then◌else◌};
+ghost use Rattle.std.specs.Prelude.{Bool, true, false, not, nat_lt, if◌then◌else◌};
 ghost use Rattle.std.specs.Prelude.{length, map, refl};
 ghost use Rattle.bitvec.specs.BitSpan.{span_of, list_by, Becomes};
 ghost use Rattle.bitvec.specs.Digit.{digit};
 ghost use Rattle.bitvec.specs.Place.{words_met};
 ghost use Rattle.bitvec.specs.Span.{Fits, element, with_word};
 ghost use Rattle.bitvec_slice.specs.Field.{IsSequential, stretch_start, stretch_end};
-ghost use Rattle.bitvec_slice.specs.Field.{digit_place, field_number, field_list};
-ghost use Rattle.bitvec_slice.specs.Words.{merged_digit, digit_from};
+ghost use Rattle.bitvec_slice.specs.Field.{digit_place, field_number, field_list, HasFieldDigits};
+ghost use Rattle.bitvec_slice.specs.Words.{merged_digit, digit_from, HasElements, IsPartMask};
 
 mod digits;
 mod signed;
@@ -139,9 +139,8 @@ pub(crate) fn word_met<R: BitRegister, O: BitOrder<R>>(
 ) -> R
     requires fits { Fits R.BITS (span_of span) (length memory.now) }
     requires met { k < words_met R.BITS (span_of span).head (span_of span).len }
-    ensures { (j : ℕ) → j < (span_of span).len → ((span_of span).head + j) / R.BITS ≡ k
-        → digit (R.number result) (O.at_of (((span_of span).head + j) % R.BITS))
-        ≡ element (list_by span O.at_of memory.now) j }
+    ensures { HasElements R.BITS O.at_of (span_of span) k (R.number result) (element (list_by span
+        O.at_of memory.now)) }
 {
     let words = &memory[span.address() as usize..];
     words[k]
@@ -325,10 +324,8 @@ fn word_digits<R: BitRegister, O: Sequential<R>, N: BitRegister>(
 ) -> R
     requires met { k < words_met R.BITS (span_of span).head (span_of span).len }
     requires small { (span_of span).len ≤ N.BITS }
-    ensures { (j : ℕ) → j < (span_of span).len → ((span_of span).head + j) / R.BITS ≡ k
-        → digit (R.number result) (O.at_of (((span_of span).head + j) % R.BITS))
-        ≡ digit (N.number value)
-        (digit_place big R.BITS O.RISES (span_of span).head (span_of span).len j) }
+    ensures { HasElements R.BITS O.at_of (span_of span) k (R.number result) (λ j. digit (N.number
+        value) (digit_place big R.BITS O.RISES (span_of span).head (span_of span).len j)) }
 {
     let part = value.shr(place::<R, O, N>(span, k, big));
     low_digits::<R, N>(part).shl(shift::<R, O>(span, k))
@@ -339,9 +336,7 @@ fn word_digits<R: BitRegister, O: Sequential<R>, N: BitRegister>(
 #[inline(always)]
 fn word_mask<R: BitRegister, O: Sequential<R>>(span: BitSpan<R, O>, k: usize) -> R
     requires { k < words_met R.BITS (span_of span).head (span_of span).len }
-    ensures { (i : ℕ) → i < R.BITS → digit (R.number result) (O.at_of i)
-        ≡ (nat_le (span_of span).head (k * R.BITS + i)
-        && nat_lt (k * R.BITS + i) ((span_of span).head + (span_of span).len)) }
+    ensures { IsPartMask R.BITS O.at_of (span_of span) k (R.number result) }
 {
     let (start, end) = stretch(span, k);
     low_ones::<R>(end - start).shl(shift::<R, O>(span, k))
@@ -359,14 +354,10 @@ pub(crate) fn put_word<R: BitRegister, O: BitOrder<R>>(
 )
     requires fits { Fits R.BITS (span_of span) (length memory.old) }
     requires met { k < words_met R.BITS (span_of span).head (span_of span).len }
-    requires mask { (i : ℕ) → i < R.BITS → digit (R.number mask) (O.at_of i)
-        ≡ (nat_le (span_of span).head (k * R.BITS + i)
-        && nat_lt (k * R.BITS + i) ((span_of span).head + (span_of span).len)) }
-    ensures { (f : ℕ → Bool) → ((j : ℕ) → j < (span_of span).len
-        → ((span_of span).head + j) / R.BITS ≡ k
-        → digit (R.number word) (O.at_of (((span_of span).head + j) % R.BITS)) ≡ f j)
-        → Becomes span O.at_of memory.old memory.new
-        (with_word R.BITS (span_of span).head (list_by span O.at_of memory.old) k f) }
+    requires mask { IsPartMask R.BITS O.at_of (span_of span) k (R.number mask) }
+    ensures { (f : ℕ → Bool) → HasElements R.BITS O.at_of (span_of span) k (R.number word) f →
+        Becomes span O.at_of memory.old memory.new (with_word R.BITS (span_of span).head (list_by
+        span O.at_of memory.old) k f) }
 {
     let place = span.address() as usize + k;
     let old = memory[place];
@@ -550,10 +541,8 @@ impl<'a, R: BitRegister, O: Sequential<R>> BitSlice<'a, R, O> {
         requires { slice_len self.now ≤ N.BITS }
         ensures number { N.number result
             ≡ field_number false R.BITS O.RISES (slice_span self.now).head (slice_bits self.now) }
-        ensures digits { (j : ℕ) → j < length (slice_bits self.now) → digit (N.number result)
-            (digit_place false R.BITS O.RISES (slice_span self.now).head
-            (length (slice_bits self.now)) j)
-            ≡ element (slice_bits self.now) j }
+        ensures digits { HasFieldDigits false R.BITS O.RISES (slice_span self.now).head (slice_bits
+            self.now) (N.number result) }
         ensures rising { O.RISES ≡ true → (j : ℕ) → j < length (slice_bits self.now)
             → digit (N.number result) j ≡ element (slice_bits self.now) j }
         ensures past { (j : ℕ) → length (slice_bits self.now) ≤ j
@@ -584,13 +573,10 @@ impl<'a, R: BitRegister, O: Sequential<R>> BitSlice<'a, R, O> {
         requires { slice_len self.now ≤ N.BITS }
         ensures number { N.number result
             ≡ field_number true R.BITS O.RISES (slice_span self.now).head (slice_bits self.now) }
-        ensures digits { (j : ℕ) → j < length (slice_bits self.now) → digit (N.number result)
-            (digit_place true R.BITS O.RISES (slice_span self.now).head
-            (length (slice_bits self.now)) j)
-            ≡ element (slice_bits self.now) j }
-        ensures falling { O.RISES ≡ false → (j : ℕ) → j < length (slice_bits self.now)
-            → digit (N.number result) j
-            ≡ element (slice_bits self.now) (length (slice_bits self.now) - 1 - j) }
+        ensures digits { HasFieldDigits true R.BITS O.RISES (slice_span self.now).head (slice_bits
+            self.now) (N.number result) }
+        ensures falling { let xs = slice_bits self.now in O.RISES ≡ false → (j : ℕ) → j < length xs
+            → digit (N.number result) j ≡ element xs (length xs - 1 - j) }
         ensures past { (j : ℕ) → length (slice_bits self.now) ≤ j
             → digit (N.number result) j ≡ false }
     {
@@ -608,10 +594,8 @@ impl<'a, R: BitRegister, O: Sequential<R>> BitSliceMut<'a, R, O> {
         requires { lent_len self.now ≤ N.BITS }
         ensures number { N.number result
             ≡ field_number false R.BITS O.RISES (lent_span self.now).head (lent_bits self.now) }
-        ensures digits { (j : ℕ) → j < length (lent_bits self.now) → digit (N.number result)
-            (digit_place false R.BITS O.RISES (lent_span self.now).head
-            (length (lent_bits self.now)) j)
-            ≡ element (lent_bits self.now) j }
+        ensures digits { HasFieldDigits false R.BITS O.RISES (lent_span self.now).head (lent_bits
+            self.now) (N.number result) }
         ensures rising { O.RISES ≡ true → (j : ℕ) → j < length (lent_bits self.now)
             → digit (N.number result) j ≡ element (lent_bits self.now) j }
         ensures past { (j : ℕ) → length (lent_bits self.now) ≤ j
@@ -626,13 +610,10 @@ impl<'a, R: BitRegister, O: Sequential<R>> BitSliceMut<'a, R, O> {
         requires { lent_len self.now ≤ N.BITS }
         ensures number { N.number result
             ≡ field_number true R.BITS O.RISES (lent_span self.now).head (lent_bits self.now) }
-        ensures digits { (j : ℕ) → j < length (lent_bits self.now) → digit (N.number result)
-            (digit_place true R.BITS O.RISES (lent_span self.now).head
-            (length (lent_bits self.now)) j)
-            ≡ element (lent_bits self.now) j }
-        ensures falling { O.RISES ≡ false → (j : ℕ) → j < length (lent_bits self.now)
-            → digit (N.number result) j
-            ≡ element (lent_bits self.now) (length (lent_bits self.now) - 1 - j) }
+        ensures digits { HasFieldDigits true R.BITS O.RISES (lent_span self.now).head (lent_bits
+            self.now) (N.number result) }
+        ensures falling { let xs = lent_bits self.now in O.RISES ≡ false → (j : ℕ) → j < length xs →
+            digit (N.number result) j ≡ element xs (length xs - 1 - j) }
         ensures past { (j : ℕ) → length (lent_bits self.now) ≤ j
             → digit (N.number result) j ≡ false }
     {

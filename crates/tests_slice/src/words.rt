@@ -4,9 +4,9 @@ ghost use Rattle.std.specs.Prelude.{◌≡◌, ℕ, ◌+◌, ◌/◌, ◌%◌, �
 ghost use Rattle.std.specs.Prelude.{IsTrue, IsFalse, MatchOption};
 ghost use Rattle.bitvec.specs.Digit.{digit};
 ghost use Rattle.bitvec.specs.Span.{element};
-ghost use Rattle.bitvec_slice.specs.BitSlice.{slice_span, slice_len, slice_bits};
+ghost use Rattle.bitvec_slice.specs.BitSlice.{slice_span, slice_bits};
 ghost use Rattle.bitvec_slice.specs.BitSliceMut.{lent_span, lent_len, lent_bits, BecomesBits};
-ghost use Rattle.bitvec_slice.specs.Words.{HasWord, with_digits};
+ghost use Rattle.bitvec_slice.specs.Words.{HasWord, HasElements, with_digits};
 
 use bitvec::mem::BitRegister;
 use bitvec::order::{BitOrder, Msb0};
@@ -29,10 +29,9 @@ fn clear_word<R: BitRegister, O: BitOrder<R>>(bits: &mut BitSliceMut<'_, R, O>, 
 
 /// A word, where a slice has it whole.
 fn word_of<R: BitRegister, O: BitOrder<R>>(bits: BitSlice<'_, R, O>, k: usize) -> Option<R>
-    ensures { MatchOption result (¬ HasWord R.BITS (slice_span bits.entry) k) (λ word.
-        (j : ℕ) → j < slice_len bits.entry → ((slice_span bits.entry).head + j) / R.BITS ≡ k
-        → digit (R.number word) (O.at_of (((slice_span bits.entry).head + j) % R.BITS))
-        ≡ element (slice_bits bits.entry) j) }
+    ensures { MatchOption result (¬ HasWord R.BITS (slice_span bits.entry) k) (λ word. HasElements
+        R.BITS O.at_of (slice_span bits.entry) k (R.number word) (element (slice_bits bits.entry)))
+        }
 {
     if bits.has_word(k) {
         Some(bits.whole_word(k))

@@ -1,10 +1,10 @@
 //! What an array is asked without a change, by the calls of its bits' slice, which has more.
 
-ghost use Rattle.std.specs.Prelude.{◌≡◌, ◌↔◌, ◌-◌, ◌^◌, ◌<◌, IsTrue, MatchOption};
+ghost use Rattle.std.specs.Prelude.{◌≡◌, ◌↔◌, ◌^◌, ◌<◌, IsTrue, MatchOption};
 ghost use Rattle.std.specs.Prelude.{true, false, length};
 ghost use Rattle.bitvec.specs.Span.{element, front_span};
 ghost use Rattle.bitvec.specs.Truths.{ones_in, AllAre, IsFirst};
-ghost use Rattle.bitvec_slice.specs.Bits.{zeros_in, IsLast, ones_between, zeros_between};
+ghost use Rattle.bitvec_slice.specs.Bits.{zeros_in, IsLast, IsLastOf, ones_between, zeros_between};
 ghost use Rattle.bitvec_slice.specs.BitSlice.{slice_bits};
 ghost use Rattle.bitvec_slice.specs.SameBits.{AreSameBits};
 ghost use Rattle.bitvec_array.specs.Array.{array_len};
@@ -31,9 +31,7 @@ impl<O: BitOrder<usize>, const N: usize> BitArray<O, N> {
 
     /// The last bit, and `None` where there are no bits. Constant time.
     pub fn last(&self) -> Option<bool>
-        ensures { MatchOption result (length (array_bits self.now) ≡ 0)
-            (λ bit. (0 < length (array_bits self.now))
-            × (bit ≡ element (array_bits self.now) (length (array_bits self.now) - 1))) }
+        ensures { IsLastOf (array_bits self.now) result }
     {
         self.as_bitslice().last()
     }

@@ -133,9 +133,7 @@ impl<'a, R: BitRegister, O: BitOrder<R>> BitSlice<'a, R, O> {
 
     /// The last bit, and `None` where there are no bits. Constant time.
     pub fn last(&self) -> Option<bool>
-        ensures { MatchOption result (length (slice_bits self.now) ≡ 0)
-            (λ bit. (0 < length (slice_bits self.now))
-            × (bit ≡ element (slice_bits self.now) (length (slice_bits self.now) - 1))) }
+        ensures { IsLastOf (slice_bits self.now) result }
     {
         let count = self.len();
         if count == 0 {

@@ -6,6 +6,7 @@
 
 ghost use Rattle.std.specs.Prelude.{◌≡◌, ℕ, ◌+◌, ◌-◌, ◌*◌, ◌^◌, ◌<◌, ◌≤◌, true, false, MatchOption};
 ghost use Rattle.bitvec.specs.Digit.{digit};
+ghost use Rattle.bitvec.specs.Pairs.{IsFirstBelow};
 ghost use Rattle.bitvec.specs.Place.{words_met};
 ghost use Rattle.bitvec_slice.specs.FreeRuns.{digit_of, behind, AreStarts, AllPass, IsFirstRun};
 
@@ -18,8 +19,7 @@ use bitvec::order::{BitOrder, Direction, direction_of};
 #[inline(always)]
 fn first_digit<R: BitRegister>(word: R, rises: bool) -> Option<u8>
     ensures { let test = digit_of R.BITS rises (R.number word)
-        in MatchOption result ((i : ℕ) → test i ≡ false)
-        (λ i. (i < R.BITS) × (test i ≡ true) × ((j : ℕ) → j < i → test j ≡ false)) }
+        in MatchOption result ((i : ℕ) → test i ≡ false) (IsFirstBelow test R.BITS) }
 {
     if rises {
         return mem::lowest_one(word);
@@ -129,7 +129,7 @@ fn first_run<R: BitRegister>(word: R, before: u8, count: u8, rises: bool) -> Opt
 
 impl<'a, R: BitRegister, O: BitOrder<R>> BitSlice<'a, R, O> {
     ghost use Rattle.bitvec_slice.specs.BitSlice.{slice_span, slice_bits};
-    ghost use Rattle.bitvec_slice.specs.Bits.{AreFree};
+    ghost use Rattle.bitvec_slice.specs.Bits.{IsFirstFree};
     ghost use Rattle.bitvec_slice.specs.Field.{IsSequential};
     ghost use Rattle.bitvec_slice.specs.FreeRuns.{is_free};
 
@@ -157,9 +157,7 @@ impl<'a, R: BitRegister, O: BitOrder<R>> BitSlice<'a, R, O> {
         requires some { 0 < count }
         requires most { count ≤ R.BITS }
         requires order { IsSequential R.BITS rises O.at_of }
-        ensures { MatchOption result ((i : ℕ) → ¬ AreFree (slice_bits self.now) i count)
-            (λ i. AreFree (slice_bits self.now) i count
-            × ((k : ℕ) → k < i → ¬ AreFree (slice_bits self.now) k count)) }
+        ensures { IsFirstFree (slice_bits self.now) count result }
     {
         let head = usize::from(self.span.head().into_inner());
         let width = mem::bits_of::<R>();
@@ -181,9 +179,7 @@ impl<'a, R: BitRegister, O: BitOrder<R>> BitSlice<'a, R, O> {
 
     // The answer of `find_zeros`, for any run and order.
     fn find_zeros_by_last(&self, count: usize) -> Option<usize>
-        ensures { MatchOption result ((i : ℕ) → ¬ AreFree (slice_bits self.now) i count)
-            (λ i. AreFree (slice_bits self.now) i count
-            × ((k : ℕ) → k < i → ¬ AreFree (slice_bits self.now) k count)) }
+        ensures { IsFirstFree (slice_bits self.now) count result }
     {
         let len = self.len();
         let mut start = 0;
@@ -203,9 +199,7 @@ impl<'a, R: BitRegister, O: BitOrder<R>> BitSlice<'a, R, O> {
     /// By words, where positions rise or fall with the index and the run is no longer than a word;
     /// else by bits, and whole words without a one are passed at once.
     pub fn find_zeros(&self, count: usize) -> Option<usize>
-        ensures { MatchOption result ((i : ℕ) → ¬ AreFree (slice_bits self.now) i count)
-            (λ i. AreFree (slice_bits self.now) i count
-            × ((k : ℕ) → k < i → ¬ AreFree (slice_bits self.now) k count)) }
+        ensures { IsFirstFree (slice_bits self.now) count result }
     {
         if 0 < count && count <= mem::bits_of::<R>() {
             match direction_of::<R, O>() {

@@ -5,7 +5,7 @@ ghost use Rattle.std.specs.Prelude.{IsSome, IfSome, true, false, min, length, ta
 ghost use Rattle.std.specs.Prelude.{slice_range};
 ghost use Rattle.bitvec.specs.Span.{element, span_upto, span_from, span_range};
 ghost use Rattle.bitvec.specs.Truths.{ones_in, AllAre, IsFirst};
-ghost use Rattle.bitvec_slice.specs.Bits.{zeros_in, IsLast, BeginsWith, EndsWith, AreFree};
+ghost use Rattle.bitvec_slice.specs.Bits.{zeros_in, IsLast, IsLastOf, BeginsWith, EndsWith};
 ghost use Rattle.bitvec_slice.specs.Bits.{AllBetween, IsFirstBetween, IsLastBetween};
 ghost use Rattle.bitvec_slice.specs.Bits.{ones_between, zeros_between};
 ghost use Rattle.bitvec_slice.specs.SameBits.{AreSameBits};
@@ -32,9 +32,7 @@ impl<'a, R: BitRegister, O: BitOrder<R>> BitSliceMut<'a, R, O> {
 
     /// The last bit, and `None` where there are no bits. Constant time.
     pub fn last(&self) -> Option<bool>
-        ensures { MatchOption result (length (lent_bits self.now) ≡ 0)
-            (λ bit. (0 < length (lent_bits self.now))
-            × (bit ≡ element (lent_bits self.now) (length (lent_bits self.now) - 1))) }
+        ensures { IsLastOf (lent_bits self.now) result }
     {
         self.as_bitslice().last()
     }
@@ -229,9 +227,7 @@ impl<'a, R: BitRegister, O: BitOrder<R>> BitSliceMut<'a, R, O> {
     /// assert_eq!(rt; memory, [0x93, 0x07]);
     /// ```
     pub fn find_zeros(&self, count: usize) -> Option<usize>
-        ensures { MatchOption result ((i : ℕ) → ¬ AreFree (lent_bits self.now) i count)
-            (λ i. AreFree (lent_bits self.now) i count
-            × ((k : ℕ) → k < i → ¬ AreFree (lent_bits self.now) k count)) }
+        ensures { IsFirstFree (lent_bits self.now) count result }
     {
         self.as_bitslice().find_zeros(count)
     }

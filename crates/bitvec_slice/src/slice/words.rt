@@ -3,7 +3,7 @@
 ghost use Rattle.std.specs.Prelude.{◌≡◌, ℕ, ◌+◌, ◌/◌, ◌%◌, ◌<◌, ◌↔◌, IsTrue};
 ghost use Rattle.bitvec.specs.Digit.{digit};
 ghost use Rattle.bitvec.specs.Span.{element};
-ghost use Rattle.bitvec_slice.specs.Words.{HasWord, with_digits};
+ghost use Rattle.bitvec_slice.specs.Words.{HasWord, HasElements, with_digits};
 
 use crate::field::{put_word, word_met};
 use crate::slice::{BitSlice, BitSliceMut};
@@ -12,7 +12,7 @@ use bitvec::mem::BitRegister;
 use bitvec::order::BitOrder;
 
 impl<'a, R: BitRegister, O: BitOrder<R>> BitSlice<'a, R, O> {
-    ghost use Rattle.bitvec_slice.specs.BitSlice.{slice_span, slice_len, slice_bits};
+    ghost use Rattle.bitvec_slice.specs.BitSlice.{slice_span, slice_bits};
 
     /// The index of the first bit in its word, from 0 to before the width. Constant time. The Rust
     /// crate has it of a pointer to a slice.
@@ -42,9 +42,8 @@ impl<'a, R: BitRegister, O: BitOrder<R>> BitSlice<'a, R, O> {
     #[inline(always)]
     pub fn whole_word(&self, k: usize) -> R
         requires { HasWord R.BITS (slice_span self.now) k }
-        ensures { (j : ℕ) → j < slice_len self.now → ((slice_span self.now).head + j) / R.BITS ≡ k
-            → digit (R.number result) (O.at_of (((slice_span self.now).head + j) % R.BITS))
-            ≡ element (slice_bits self.now) j }
+        ensures { HasElements R.BITS O.at_of (slice_span self.now) k (R.number result) (element
+            (slice_bits self.now)) }
     {
         word_met(self.span, self.memory, k)
     }
@@ -80,9 +79,8 @@ impl<'a, R: BitRegister, O: BitOrder<R>> BitSliceMut<'a, R, O> {
     #[inline(always)]
     pub fn whole_word(&self, k: usize) -> R
         requires { HasWord R.BITS (lent_span self.now) k }
-        ensures { (j : ℕ) → j < lent_len self.now → ((lent_span self.now).head + j) / R.BITS ≡ k
-            → digit (R.number result) (O.at_of (((lent_span self.now).head + j) % R.BITS))
-            ≡ element (lent_bits self.now) j }
+        ensures { HasElements R.BITS O.at_of (lent_span self.now) k (R.number result) (element
+            (lent_bits self.now)) }
     {
         self.as_bitslice().whole_word(k)
     }

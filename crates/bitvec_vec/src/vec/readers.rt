@@ -4,7 +4,7 @@ ghost use Rattle.std.specs.Prelude.{◌≡◌, ◌↔◌, ◌-◌, ◌^◌, ◌<
 ghost use Rattle.std.specs.Prelude.{true, false, length, slice_range};
 ghost use Rattle.bitvec.specs.Span.{element, front_span};
 ghost use Rattle.bitvec.specs.Truths.{ones_in, AllAre, IsFirst};
-ghost use Rattle.bitvec_slice.specs.Bits.{zeros_in, IsLast, ones_between, zeros_between};
+ghost use Rattle.bitvec_slice.specs.Bits.{zeros_in, IsLast, IsLastOf, ones_between, zeros_between};
 ghost use Rattle.bitvec_slice.specs.BitSlice.{slice_bits};
 ghost use Rattle.bitvec_slice.specs.Numbers.{number_le, number_be};
 ghost use Rattle.bitvec_slice.specs.SameBits.{AreSameBits};
@@ -32,9 +32,7 @@ impl<R: BitRegister, O: BitOrder<R>, A: Allocator> BitVec<R, O, A> {
 
     /// The last bit, and `None` where there are no bits. Constant time.
     pub fn last(&self) -> Option<bool>
-        ensures { MatchOption result (length (vec_bits self.now) ≡ 0)
-            (λ bit. (0 < length (vec_bits self.now))
-            × (bit ≡ element (vec_bits self.now) (length (vec_bits self.now) - 1))) }
+        ensures { IsLastOf (vec_bits self.now) result }
     {
         self.as_bitslice().last()
     }
