@@ -4,7 +4,7 @@ use Rattle.std.specs.Prelude.{ℕ, ◌*◌, min, Bool, List}
 use Rattle.bitvec.specs.Place.{region_max_bits}
 use Rattle.bitvec.specs.Span.{front_span, list_of}
 
--- how many bits `words` words have: all, or as many as a span can have
+-- how many bits `words` words have: all, or the most that a span can have
 abbrev pub array_len : ℕ → ℕ
 array_len words = min (words * 64) region_max_bits
 

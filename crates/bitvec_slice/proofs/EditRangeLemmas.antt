@@ -75,7 +75,7 @@ module _ (xs ys : List Bool) (from to : ℕ) (rises : from ≤ to) (inside : to 
       ∙ get_or-append_right (take from xs) (ys ++ drop to xs) from j false front_long first
       ∙ get_or_append_left ys (drop to xs) false (j - from) (omega (arith, long))
 
--- a stretch of a list has as many elements as lie between its ends
+-- the stretch of a list between `from` and `to` has `to - from` elements
 pub range_long : (xs : List Bool) (from to : ℕ) → from ≤ to → to ≤ length xs → length (slice_range xs from to) ≡ to - from
 range_long xs from to rises inside = length-take-le (to - from) (drop from xs) (omega (arith, length-drop from xs))
 

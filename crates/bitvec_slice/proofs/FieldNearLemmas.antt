@@ -113,7 +113,7 @@ met_two bits head len in_head near over =
     let few : len - (bits - head) - 1 < bits = omega arith in
     sym (met_more bits head len in_head over ∙ ap (λ n. n + 2) (div-eq_of_lt few))
 
--- so many ones have the mask of the span's places
+-- `len` ones have the mask of the span's places
 pub near_mask : (bits head len : ℕ) (at : ℕ → ℕ) (rises : Bool) (w r k : ℕ) → len ≤ bits → w < 2 ^ bits → ((p : ℕ) → p < bits → digit w p ≡ nat_lt p len)
     → ((i : ℕ) → i < bits → digit r (at i) ≡ digit_from rises head len w (k * bits + i))
     → (i : ℕ) → i < bits → digit r (at i) ≡ (nat_le head (k * bits + i) && nat_lt (k * bits + i) (head + len))

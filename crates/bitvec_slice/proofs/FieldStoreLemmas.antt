@@ -107,7 +107,7 @@ same_tests a b c d e f x y there back = elim (cases_lt b a) [
   ]
 ]
 
--- so many ones, moved up
+-- `count` ones, moved up by `up` digits
 pub ones_up : (bits count up m r p : ℕ) → ((q : ℕ) → q < bits → digit m q ≡ nat_lt q count) → ((q : ℕ) → q < up → digit r q ≡ false) → ((q : ℕ) → up + q < bits → digit r (up + q) ≡ digit m q)
     → p < bits → digit r p ≡ (nat_le up p && nat_lt p (up + count))
 ones_up bits count up m r p ones low moved h = elim (cases_lt p up) [

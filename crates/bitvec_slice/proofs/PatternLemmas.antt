@@ -77,7 +77,7 @@ module _ (xs rest : List Bool) (from count : ℕ) (inside : from ≤ length xs) 
   pub none_behind : ((i : ℕ) → ¬ AreFree rest i count) → (i : ℕ) → from ≤ i → ¬ AreFree xs i count
   none_behind none i behind free = none (i - from) (rest_free i behind free)
 
--- no multiple before index `from` is one from which on so many elements are false
+-- no multiple before index `from` is one from which on `count` elements are false
 module _ (xs : List Bool) (start count m from : ℕ) (later : start ≤ from) (none : (k : ℕ) → k < from → ¬ AreFreeFrom xs start count m k) where
   pub no_run : ((i : ℕ) → from ≤ i → ¬ AreFree xs i count) → (k : ℕ) → ¬ AreFreeFrom xs start count m k
   no_run other k run = elim (cases_lt k from) [ inl before ↦ none k before run | inr behind ↦ other k behind run.2 ]

@@ -15,13 +15,13 @@ most-zip_with f (x ∷ xs) [] = (omega arith, omega arith)
 most-zip_with f (x ∷ xs) (y ∷ ys) = let rest = most-zip_with f xs ys in (omega (arith, rest.0), omega (arith, rest.1))
 
 module _ {A : Type 0} (f : A → A → A) (xs ys : List A) where
-  -- the first of both, as many as both have, give all pairs
+  -- the first `n` of both, where the shorter one has `n`, give all pairs
   pub pairs_as_far : (n : ℕ) → n ≡ min (length xs) (length ys) → zip_with f (take n xs) (take n ys) ≡ zip_with f xs ys
   pairs_as_far n e =
       let most = most-zip_with f xs ys in
       take-zip_with f n xs ys ∙ take_all n (zip_with f xs ys) (omega (arith, e, le-min most.0 most.1))
 
-  -- the first of both, as many as both have, are combined
+  -- the first `n` of both, where the shorter one has `n`, are combined
   pub as_far : (n : ℕ) → n ≡ min (length xs) (length ys) → zip_with f (take n xs) (take n ys) ++ drop n xs ≡ zip_with f xs ys ++ drop (length ys) xs
   as_far n e =
       let pairs = pairs_as_far n e in

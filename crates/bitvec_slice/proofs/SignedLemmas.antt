@@ -1,4 +1,4 @@
--- Signed numbers as two's complements of so many digits.
+-- Signed numbers as two's complements of `len` digits.
 use Rattle.std.proofs.Common.{◌≡◌, ℕ, zero, suc, ◌+◌, ◌-◌, ◌*◌, ◌/◌, ◌%◌, ◌^◌, ◌<◌, ◌≤◌, ◌==◌, true, ℤ, pos, negsuc, ◌-ℤ◌, to_z, of_z, to_z-of_z, refl, sym, ap, subst, ◌∙◌, inl, inr, arith}
 use Rattle.std.specs.Prelude.{FitsSigned}
 use Rattle.std.specs.Int.{w128, cast_unsigned}
@@ -38,7 +38,7 @@ signed_high len n some below h =
     let e = half len some in
     rw (high_digit (len - 1) n (omega (arith, e, h)) (omega (arith, e, below))) (omega (arith, ints, below))
 
--- a signed number of so many digits has them
+-- a signed number of `len` digits has them
 pub signed_digits : (len n : ℕ) → n < 2 ^ len → FitsSignedDigits len (signed_of len n)
 signed_digits len n below = elim (cases_lt (2 * n) (2 ^ len)) [
   | inl low ↦ subst (FitsSignedDigits len) (sym (signed_low len n low)) low
@@ -83,7 +83,7 @@ low_complement len (negsuc n) h fits =
     let below : n < 2 ^ (128 - len) * 2 ^ len = omega (arith, whole, fits.sfits) in
     ap (λ k. (k - suc n) % 2 ^ len) whole ∙ rest_of_less (2 ^ (128 - len)) (2 ^ len) n (pow_pos len) below
 
--- a signed number of so many digits is that of its two's complement
+-- a signed number of `len` digits is that of its two's complement
 pub signed_back : (len : ℕ) (z : ℤ) → FitsSignedDigits len z → signed_of len (complement_of len z) ≡ z
 signed_back len (pos n) h =
     let same : n % 2 ^ len ≡ n = mod-eq_of_lt {n = n} {m = 2 ^ len} (omega (arith, h)) in
@@ -98,7 +98,7 @@ signed_back len (negsuc n) h =
     some zero h = absurd (omega (arith, h))
     some (suc k) h = omega arith
 
--- so many digits of 128 that are all one
+-- `len` digits of 128 that are all one
 pub ones_of : (len : ℕ) → len ≤ 128 → (2 ^ 128 - 1) / 2 ^ (128 - len) ≡ 2 ^ len - 1
 ones_of len h = let e : 128 - (128 - len) ≡ len = omega (arith, h) in ones_shr 128 (128 - len) (omega arith) ∙ ap (λ k. 2 ^ k - 1) e
 
@@ -114,7 +114,7 @@ low_digits len n y z h fits is same = ap (λ k. k % 2 ^ len) (is ∙ ap (cast_un
 pub loaded_back : (len n m : ℕ) (z : ℤ) → m ≡ n % 2 ^ len → n % 2 ^ len ≡ complement_of len z → FitsSignedDigits len z → signed_of len m ≡ z
 loaded_back len n m z loaded low has = ap (signed_of len) (loaded ∙ low) ∙ signed_back len z has
 
--- a signed number of so many digits, passed on as one of a type that has them
+-- a signed number of `len` digits, passed on as one of a type that has them
 pub passed_digits : (len more : ℕ) (y z : ℤ) → FitsSigned w128 y → y ≡ z → len ≤ more → FitsSignedDigits len z → FitsSignedDigits more (to_z w128 (of_z w128 y))
 passed_digits len more y z fits same h has =
     subst (FitsSignedDigits more) (sym (to_z-of_z {w = w128} {z = y} fits ∙ same)) (digits_more len more z h has)

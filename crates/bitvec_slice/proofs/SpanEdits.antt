@@ -5,7 +5,7 @@ use Rattle.bitvec.specs.Span.{Span, BecomesList, list_of, span_range}
 use Rattle.bitvec.proofs.PartLemmas.{length-list_of}
 use Rattle.bitvec.proofs.BecomesLemmas.{becomes-same}
 
--- as many numbers are those of as many words
+-- two lists of words have the same length where the lists of their numbers do
 pub words-many : {W : Type 0} (number : W → ℕ) (old new : List W) → length (map number new) ≡ length (map number old)
     → length new ≡ length old
 words-many number old new many = sym (length-map new number) ∙ many ∙ length-map old number

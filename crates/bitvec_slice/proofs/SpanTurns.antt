@@ -176,7 +176,8 @@ tail-most bits head len some more = omega (arith, tail_of-some bits head len mor
 pub tail-least : (bits head len : ℕ) → 0 < len → 0 < tail_of bits head len
 tail-least bits head len more = omega (arith, tail_of-some bits head len more)
 
--- as many bits from as far before the end as a span is behind the start are in the same words
+-- the bits of a span's length from bit `from` on are in the words of the span, where `from` is as far behind a word's
+-- start as the span's end is before its word's end
 pub source-fits : (bits : ℕ) (span : Span) (from words : ℕ) → 0 < bits → 0 < span.len → from + tail_of bits span.head span.len ≡ bits → Fits bits span words
     → Fits bits (record { word = span.word; head = from; len = span.len }) words
 source-fits bits span from words some more start fits =
@@ -225,8 +226,9 @@ kept_inside bits at span k saved old new some back j h =
 split_rows : (t q m bits : ℕ) → t + q ≡ m → t * bits + q * bits ≡ m * bits
 split_rows t q m bits e = let all = ap (λ k. k * bits) e in omega (arith, all)
 
--- A span of `len` bits from the bit `head` on ends at the bit `tail` of the word number `last`. As many bits from the bit
--- `from` on end with that word, and number j of those is at the index i of the word number q, which is t words before it.
+-- A span of `len` bits from the bit `head` on ends at the bit `tail` of the word number `last`. The `len` bits from the
+-- bit `from` on end with that word, and number j of those is at the index i of the word number q, which is t words
+-- before it.
 record IsPlaced (bits head len last tail from j q i t : ℕ) : Type 0 where
   pub ends : last * bits + tail ≡ head + len
   pub start : from + tail ≡ bits

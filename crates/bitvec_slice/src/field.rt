@@ -2,7 +2,7 @@
 //!
 //! A slice of at most a number's width is loaded as that number, and a number is stored into one.
 //! The bits that a word of the memory has of the slice are digits of the number as they are digits
-//! of the word, in the same order; little-endian has those of the first word lowest, big-endian
+//! of the word, in the same order. Little-endian has those of the first word lowest, big-endian
 //! highest.
 
 ghost use Rattle.std.specs.Prelude.{◌≡◌, ℕ, ◌+◌, ◌-◌, ◌*◌, ◌/◌, ◌<◌, ◌≤◌, ◌==◌, ◌&&◌, ◌^◌, ◌%◌};
@@ -293,8 +293,7 @@ fn load<R: BitRegister, O: Sequential<R>, N: BitRegister>(
     load_words(span, memory, big)
 }
 
-/// The lowest digits of a number as a word, as many as the word has: what Rust's `as` makes of an
-/// integer.
+/// The lowest `R::BITS` digits of a number as a word: what Rust's `as` makes of an integer.
 ///
 /// Constant time. Not in the Rust crate.
 ///
@@ -403,8 +402,8 @@ fn store_words<R: BitRegister, O: Sequential<R>, N: BitRegister>(
     }
 }
 
-// The lowest digits of a word in their order, as many as a span of at most a word's bits has, where
-// its first word has the span. A word's other digits stand beside them.
+// The lowest digits of a word in their order, one for each bit of a span of at most a word's bits,
+// at the places that the span has in its first word. A word's other digits stand beside them.
 #[inline(always)]
 fn in_first<R: BitRegister, O: Sequential<R>>(span: BitSpan<R, O>, word: R) -> R
     requires some { 0 < (span_of span).len }
@@ -620,7 +619,7 @@ impl<'a, R: BitRegister, O: Sequential<R>> BitSliceMut<'a, R, O> {
         self.as_bitslice().load_be()
     }
 
-    /// Makes the bits the lowest digits of a number, as many as there are bits, so that
+    /// Makes the bits the lowest digits of a number, one for each bit, so that
     /// [`load_le`](BitSliceMut::load_le) gives these back. Requires no more bits than the number
     /// type has digits. Costs by words.
     pub fn store_le<N: BitRegister>(&mut self, value: N)
@@ -636,7 +635,7 @@ impl<'a, R: BitRegister, O: Sequential<R>> BitSliceMut<'a, R, O> {
         store(span, memory, value, false);
     }
 
-    /// Makes the bits the lowest digits of a number, as many as there are bits, so that
+    /// Makes the bits the lowest digits of a number, one for each bit, so that
     /// [`load_be`](BitSliceMut::load_be) gives these back. Requires no more bits than the number
     /// type has digits. Costs by words.
     pub fn store_be<N: BitRegister>(&mut self, value: N)

@@ -1,4 +1,4 @@
--- Which numbers have so many digits, signed ones too.
+-- Which numbers have at most `count` digits, signed ones too.
 use Rattle.std.proofs.Common.{◌≡◌, ℕ, zero, suc, ◌+◌, ◌-◌, ◌*◌, ◌/◌, ◌%◌, ◌^◌, ◌<◌, ◌≤◌, ◌&&◌, true, false, ℤ, pos, negsuc, ◌≤ℤ◌, ◌↔◌, sym, ap, subst, ◌∙◌, inl, inr, pow_mono, arith}
 use Rattle.std.proofs.Math.Bool.{and-true, and-false}
 use Rattle.std.proofs.lemmas.Bool.{cases_lt}
@@ -12,7 +12,7 @@ use Rattle.bitvec.proofs.DigitLemmas.{digit-mod, digit_above}
 use Rattle.bitvec_slice.specs.Signed.{FitsSignedDigits}
 use Rattle.bitvec_slice.proofs.FieldLemmas.{small_from_digits}
 
--- the digits past so many are none exactly where the number is below the power
+-- a number that has no digits past the first `count` is below two to the `count`
 pub above_none : (n count : ℕ) → n / 2 ^ count ≡ 0 → n < 2 ^ count
 above_none n count none =
     let parts = div-add-mod' n (2 ^ count) in
@@ -25,12 +25,12 @@ none_above n count below =
     let whole : n ≡ 0 * 2 ^ count + n = omega arith in
     ap (λ k. k / 2 ^ count) whole ∙ div-mul-add 0 (2 ^ count) n below
 
--- a signed number of so many digits lies between the least and the greatest
+-- a signed number of `k + 1` digits lies between the least and the greatest
 pub digits_between : (k : ℕ) (z : ℤ) → (z ≤ℤ pos (2 ^ k - 1)) × (negsuc (2 ^ k - 1) ≤ℤ z) ↔ FitsSignedDigits (suc k) z
 digits_between k (pos n) = let twice = two-pow-succ k in let some = pow_pos k in (λ h. omega (arith, ints, twice, some, h.0), λ h. (omega (arith, ints, twice, some, h), omega (arith, ints)))
 digits_between k (negsuc n) = let twice = two-pow-succ k in let some = pow_pos k in (λ h. omega (arith, ints, twice, some, h.1), λ h. (omega (arith, ints), omega (arith, ints, twice, some, h)))
 
--- half of so many ones
+-- half of `count` ones
 pub half_ones : (count : ℕ) → 0 < count → count ≤ 128 → (2 ^ 128 - 1) / 2 ^ (128 - count) / 2 ≡ 2 ^ (count - 1) - 1
 half_ones zero some most = absurd (omega arith)
 half_ones (suc k) some most =

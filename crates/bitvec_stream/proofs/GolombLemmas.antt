@@ -103,7 +103,7 @@ number_be-first (x ∷ xs) e =
       | inr from ↦ (omega arith, from)
     ]
 
--- and one more than so many digits has the power and the number of the others
+-- and one of `k + 1` elements has two to the `k` and the number of the other `k`
 pub number_be-one : (xs : List Bool) (k : ℕ) → length xs ≡ k + 1 → element xs 0 ≡ true → number_be xs ≡ 2 ^ k + number_be (drop 1 xs)
 number_be-one [] k long e = absurd (true_is_not_false (sym e))
 number_be-one (x ∷ ys) k long e =

@@ -33,7 +33,7 @@ module _ (count n : ℕ) (behind : List Bool) (below : n < 2 ^ count) where
     drop_at (digits_le count n) behind count (length-digits_le count n),
   )
 
--- and there are as many
+-- and there are `count` of these digits
 module _ (count n : ℕ) (behind : List Bool) where
   be_takes : behind ≡ drop count (digits_be count n ++ behind) → Takes count (digits_be count n ++ behind) behind
   be_takes e = (omega (arith, length-append (digits_be count n) behind, length-digits_be count n), e)

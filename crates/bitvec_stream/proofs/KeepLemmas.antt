@@ -42,7 +42,7 @@ keeps_none bits at xs place w zero_is = record {
   clean = λ j k h. ap (λ n. digit n (at j)) zero_is ∙ digit-zero (at j);
 }
 
--- as many as a word has digits, where they are word k of those that a list meets under a head
+-- `bits` elements, where they are word k of those that a list meets under a head
 pub keeps_word : (bits : ℕ) (at : ℕ → ℕ) (head : ℕ) (xs : List Bool) (place k c : ℕ) → head + place ≡ k * bits → place + bits ≤ length xs
     → ((j : ℕ) → j < length xs → (head + j) / bits ≡ k → digit c (at ((head + j) % bits)) ≡ element xs j) → Keeps bits at xs place bits c
 keeps_word bits at head xs place k c starts room digits = record {

@@ -6,7 +6,7 @@ use Rattle.std.proofs.Math.ListN.{length-set}
 use Rattle.std.proofs.Math.Seq.{take-add, drop-cons}
 use Rattle.bitvec_slice.specs.Ranges.{with_range}
 
--- `zs` is `xs` with the `n` elements of `ys` behind its first `p`, in place of as many
+-- `zs` is `xs` with the `n` elements of `ys` behind its first `p`, in place of the next `n`
 pub record IsWritten (xs zs ys : List Bool) (p n : ℕ) : Type 0 where
   pub front : take (p + n) zs ≡ take p xs ++ ys
   pub behind : drop (p + n) zs ≡ drop (length ys) (drop p xs)

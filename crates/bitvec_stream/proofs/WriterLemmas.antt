@@ -36,7 +36,7 @@ writes-both old mid new xs ys first second =
 pub writes-as : {R O : Type 0} {a b c d e f g h i : _} → (old new : BitWriter R O a b c d e f g h i) (xs ys : List Bool) → xs ≡ ys → Writes old new xs → Writes old new ys
 writes-as old new xs ys same write = subst (Writes old new) same write
 
--- a write from where another writer stands, or to there: of the same bits, behind as many
+-- a write from where another writer stands, or to there: of the same bits, behind the same number of bits
 pub writes-from : {R O : Type 0} {a b c d e f g h i : _} → (old mid new : BitWriter R O a b c d e f g h i) (xs : List Bool) → target_memory mid ≡ target_memory old → target_span mid ≡ target_span old → bits_written mid ≡ bits_written old
     → Writes mid new xs → Writes old new xs
 writes-from {a = own} {i = order} old mid new xs same there place write =

@@ -9,7 +9,7 @@ use Rattle.bitvec_stream.specs.Numbers.{digits_be}
 unfoldable pub digit_count : ℕ → ℕ
 digit_count n = length (digits_of 2 n)
 
--- the code of number n: the digits of n + 1, highest first, and before them as many zeros as there are digits, less one
+-- the code of number n: the digits of n + 1, highest first, and before them one zero fewer than there are digits
 unfoldable pub golomb : ℕ → List Bool
 golomb n = replicate (digit_count (n + 1) - 1) false ++ digits_be (digit_count (n + 1)) (n + 1)
 
@@ -17,7 +17,8 @@ golomb n = replicate (digit_count (n + 1) - 1) false ++ digits_be (digit_count (
 abbrev pub StartsWith : List Bool → List Bool → Type 0
 StartsWith xs ys = take (length ys) xs ≡ ys
 
--- A list begins with a code that has these digits: the first is one, and as many zeros stand before them as there are more.
+-- A list begins with a code that has these digits: the first is one, and one zero fewer than there are digits stands
+-- before them.
 abbrev pub IsCode : List Bool → List Bool → Type 0
 IsCode xs digits = (element digits 0 ≡ true) × StartsWith xs (replicate (length digits - 1) false ++ digits)
 

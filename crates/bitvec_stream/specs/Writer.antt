@@ -40,7 +40,7 @@ BecomesTarget {a = own} {i = order} old new bits =
     (target_bits new ≡ bits) × (target_span new ≡ target_span old) × ((target_memory new).ghost_name ≡ (target_memory old).ghost_name)
     × BecomesList own.BITS order.at_of (target_span old) (target_words old) (target_words new) bits
 
--- A writer has written a list: it stands behind what was written, in place of as many bits of the room, and all else
+-- A writer has written a list: it stands behind what was written, in place of the room's first bits, and all else
 -- stays: the bits behind it, and what lies outside the writer's bits.
 abbrev pub Writes : {R O : Type 0} {a b c d e f g h i : _} → (old new : BitWriter R O a b c d e f g h i) → List Bool → Type 0
 Writes old new bits =

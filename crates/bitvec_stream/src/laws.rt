@@ -4,11 +4,12 @@ ghost use Rattle.bitvec_stream.specs.Items.{WrittenIsRead};
 
 /// What was written is read, and nothing else.
 ///
-/// From a list that begins with numbers, each written in a way (in so many bits, the highest digit
-/// first or the lowest, as an unsigned number or as a two's complement, or as an Exp-Golomb code),
-/// the same ways read these numbers one behind the other, and leave what stands behind them: that
-/// reading exists, and there is no other. A writer's contract says that a number is written so, and
-/// a reader's that one is read so. It does nothing when it runs. Not in the Rust crate.
+/// A way to write a number is an Exp-Golomb code, or a given number of bits: the highest digit
+/// first or the lowest, as an unsigned number or as a two's complement. From a list that begins
+/// with numbers, each written in a way, the same ways read these numbers one behind the other, and
+/// leave what stands behind them. That reading exists, and there is no other. A writer's contract
+/// says that a number is written so, and a reader's that one is read so. It does nothing when it
+/// runs. Not in the Rust crate.
 pub fn written_is_read()
     ensures { WrittenIsRead }
 {}

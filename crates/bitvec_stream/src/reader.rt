@@ -79,7 +79,7 @@ impl<'a, R: BitRegister, O: BitOrder<R>> BitReader<'a, R, O> {
         Self::at(slice, 0)
     }
 
-    // A reader behind so many bits of a slice.
+    // A reader behind the first `position` bits of a slice.
     #[inline(always)]
     fn at(slice: BitSlice<'a, R, O>, position: usize) -> Self
         requires { position ≤ slice_len slice }
@@ -116,7 +116,7 @@ impl<'a, R: BitRegister, O: BitOrder<R>> BitReader<'a, R, O> {
         self.remaining() == 0
     }
 
-    // Passes over so many bits, which are left.
+    // Passes over `count` bits, which are left.
     #[inline(always)]
     fn pass(&mut self, count: usize)
         requires { count ≤ length (unread self.old) }

@@ -15,7 +15,7 @@ use Rattle.bitvec.proofs.PlaceLemmas.{words_met-some}
 use Rattle.bitvec_slice.proofs.SlicePartLemmas.{whole_fits}
 use Rattle.bitvec_vec.specs.Front.{front_bits, words_for}
 
--- the span of so many bits from the first place on
+-- the span of `len` bits from the first place on
 pub front-at : (bits len : ℕ) → 0 < bits → span_at bits 0 len ≡ front_span len
 front-at bits len some =
     let q : 0 / bits ≡ 0 = div-eq_of_lt some in
@@ -25,7 +25,7 @@ front-at bits len some =
 pub length-front : (bits : ℕ) (at : ℕ → ℕ) (len : ℕ) (words : List ℕ) → length (front_bits bits at len words) ≡ len
 length-front bits at len words = length-list_of bits at (front_span len) words
 
--- as many rows
+-- `a` rows have no more bits than `b`, where `a` is no greater
 pub rows : (bits a b : ℕ) → a ≤ b → a * bits ≤ b * bits
 rows bits a b h = mul-le-mul_right bits h
 

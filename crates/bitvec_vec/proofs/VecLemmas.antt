@@ -10,7 +10,7 @@ use Rattle.bitvec.specs.Span.{Span, Fits, BecomesList, list_of, element, front_s
 use Rattle.bitvec_vec.specs.Front.{front_bits, words_for}
 use Rattle.bitvec_vec.proofs.FrontLemmas.{take-front, front-append, front-take, rows, words_enough, words_least}
 
--- the span lies in as many words as its bits take
+-- the span lies in the words that its bits take
 pub front-fits : (bits len words : ℕ) (span : Span) → span ≡ front_span len → words_for bits len ≤ words → Fits bits span words
 front-fits bits len words span is room = subst (λ (s : Span). Fits bits s words) (sym is) (omega (arith, ints), omega (arith, room))
 
@@ -100,7 +100,7 @@ front-resized bits at number len n m items new zero true some room more is =
     front-pushed bits at number len items (replicate m zero) new some room (is ∙ ap (λ us. us ++ replicate m zero) (take_all n items more))
 front-resized bits at number len n m items new zero false some room more is = ap (λ us. front_bits bits at len (map number us)) is
 
--- where the words of so many bits do not fit, the bits do not
+-- where the words of `to` bits do not fit, the bits do not
 pub words-past : (bits to capacity : ℕ) → capacity < words_for bits to → capacity * bits < to
 words-past bits to capacity past =
     elim (cases_lt (capacity * bits) to) [
@@ -116,7 +116,7 @@ on_ok_then (Err e) f p = tt
 pub capacity-grows : (bits most a b : ℕ) → a ≤ b → min (a * bits) most ≤ min (b * bits) most
 capacity-grows bits most a b h = let row = rows bits a b h in omega (arith, row)
 
--- words that are as many as so many bits take are room for them
+-- the words that `to` bits take are room for them
 pub capacity-room : (bits most to words : ℕ) → 0 < bits → to ≤ most → words_for bits to ≤ words → to ≤ min (words * bits) most
 capacity-room bits most to words some short h =
     let row = rows bits (words_for bits to) words h in

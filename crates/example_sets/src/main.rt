@@ -1,5 +1,5 @@
-//! Two programs of sets of numbers, each a set of bits: the first hundred primes by a sieve, and the
-//! sums that can be had of some of a few numbers.
+//! Two programs of sets of numbers, each a set of bits: the first hundred primes by a sieve, and
+//! the sums that can be had of some of a few numbers.
 //!
 //! A set of numbers is a memory in which bit n says whether n is in it. All numbers of a set are
 //! moved up by k in one call, which is a union of the set with itself.

@@ -1,7 +1,7 @@
 //! Sequence parameter sets of H.264 streams.
 //!
-//! The bytes that keep a start code from standing in a stream (emulation prevention) are to be taken
-//! out before.
+//! The bytes that keep a start code from standing in a stream (emulation prevention) are to be
+//! taken out before.
 #![tactic(auto)]
 
 pub mod error;

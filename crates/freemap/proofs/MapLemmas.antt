@@ -19,12 +19,12 @@ module _ (at : ℕ → ℕ) (blocks : ℕ) (span : Span) (is : span ≡ front_sp
       let was = subst (λ (us : List ℕ). BecomesList 64 at (front_span blocks) us (map (λ w. w) new) (f (list_of 64 at (front_span blocks) us))) (map-id old) here in
       subst (λ (us : List ℕ). BecomesList 64 at (front_span blocks) old us (f (stored_blocks at blocks old))) (map-id new) was
 
-  -- the same of as many blocks as there were
+  -- the same, of the number of blocks that there were
   pub edited : (old new : List ℕ) (f : List Bool → List Bool) → BecomesList 64 at span (map (λ w. w) old) (map (λ w. w) new) (f (list_of 64 at span (map (λ w. w) old)))
       → BecomesList 64 at (front_span (length (stored_blocks at blocks old))) old new (f (stored_blocks at blocks old))
   edited old new f edit = subst (λ n. BecomesList 64 at (front_span n) old new (f (stored_blocks at blocks old))) (sym (stored_long at blocks old)) (edited_words old new f edit)
 
--- what an edit shows: the blocks, and that there are as many
+-- what an edit shows: the blocks, and that their number stays
 pub edit_shows : (at : ℕ → ℕ) (blocks : ℕ) (old new : List ℕ) (ys : List Bool) → BecomesList 64 at (front_span (length (stored_blocks at blocks old))) old new ys → stored_blocks at blocks new ≡ ys
 edit_shows at blocks old new ys edit = ap (λ n. list_of 64 at (front_span n) new) (sym (stored_long at blocks old)) ∙ edit.list
 

@@ -13,7 +13,7 @@ stored_blocks at blocks words = list_of 64 at (front_span blocks) words
 abbrev pub word_count : ℕ → ℕ
 word_count bits = (bits + 63) / 64
 
--- `words` words have room for the map of `blocks` blocks, and a map can have as many
+-- `words` words have room for the map of `blocks` blocks, and a map can have that number of blocks
 abbrev pub HasRoom : ℕ → ℕ → Type 0
 HasRoom words blocks = (blocks ≤ words * 64) × (blocks ≤ region_max_bits)
 

@@ -1,7 +1,7 @@
 //! Blocks that are handed out, taken back and reserved.
 
-ghost use Rattle.std.specs.Prelude.{◌≡◌, ◌↔◌, ℕ, ◌+◌, ◌<◌, ◌≤◌, true, false, IsTrue, IsFalse, length};
-ghost use Rattle.std.specs.Prelude.{IfSome, MatchOption, List, ◌∷◌, ◌++◌};
+ghost use Rattle.std.specs.Prelude.{◌≡◌, ◌↔◌, ℕ, ◌+◌, ◌<◌, ◌≤◌, true, false, IsTrue, IsFalse};
+ghost use Rattle.std.specs.Prelude.{length, IfSome, MatchOption, List, ◌∷◌, ◌++◌};
 ghost use Rattle.bitvec.specs.Span.{with_filled};
 ghost use Rattle.bitvec_slice.specs.Bits.{AreFree};
 ghost use Rattle.bitvec_slice.specs.Patterns.{AreFreeFrom, IsLeast};
@@ -58,13 +58,13 @@ impl<'a, O: BitOrder<u64>> FreeMap<'a, O> {
     }
 
     /// Hands out `count` blocks in a row, the first such that are all free, and returns the first
-    /// of them; `None` exactly where there are none, and then the map stays as it is. No blocks at
-    /// all are found at block 0.
+    /// of them. It returns `None` exactly where there are none, and then the map stays as it is. No
+    /// blocks at all are found at block 0.
     ///
     /// What is handed out was free, so no one has it already: whatever ranges were live, it is one
-    /// more that overlaps none of them. Every other block stays as it is. Costs by words up to the
-    /// end of the run, for at most 64 blocks under an order that rises or falls; for more, or under
-    /// another order, by bits, and words in full use are passed at once.
+    /// more that overlaps none of them. Every other block stays as it is. For at most 64 blocks
+    /// under an order that rises or falls, costs by words up to the end of the run. For more, or
+    /// under another order, by bits, and words in full use are passed at once.
     pub fn alloc_run(&mut self, count: usize) -> Option<usize>
         ensures answer { IsLowest (λ at. AreFree (in_use self.old) at count) result }
         ensures taken { Allocates self.old self.new count result }
@@ -77,8 +77,8 @@ impl<'a, O: BitOrder<u64>> FreeMap<'a, O> {
     }
 
     /// Hands out `count` blocks in a row, the first such that are all free and begin at a multiple
-    /// of `alignment`, and returns the first of them; `None` exactly where there are none, and then
-    /// the map stays as it is. Requires that `alignment` is not 0.
+    /// of `alignment`, and returns the first of them. It returns `None` exactly where there are
+    /// none, and then the map stays as it is. Requires that `alignment` is not 0.
     ///
     /// Else as [`alloc_run`](FreeMap::alloc_run), and once more for each run that is long enough,
     /// but not from a multiple on.
@@ -94,9 +94,9 @@ impl<'a, O: BitOrder<u64>> FreeMap<'a, O> {
         Some(at)
     }
 
-    /// Puts `count` blocks from block `at` on in use, and returns whether it did: it refuses
-    /// exactly where one of them is in use or is not there, or `at` itself is past the map's end,
-    /// and then the map stays as it is. Costs by words.
+    /// Puts `count` blocks from block `at` on in use, and returns whether it did. It refuses
+    /// exactly where one of them is in use or is not there, or `at` itself is past the map's end.
+    /// Then the map stays as it is. Costs by words.
     pub fn reserve(&mut self, at: usize, count: usize) -> bool
         ensures answer { IsTrue result ↔ AreFree (in_use self.old) at count }
         ensures taken { IsTrue result → BecomesBlocks self.old self.new

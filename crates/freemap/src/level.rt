@@ -1,6 +1,7 @@
 //! A level over a map: a mark for each word of the map.
 
-ghost use Rattle.std.specs.Prelude.{◌≡◌, ℕ, ◌+◌, ◌<◌, ◌≤◌, Bool, false, List, ◌∷◌, [], length, replicate};
+ghost use Rattle.std.specs.Prelude.{◌≡◌, ℕ, ◌+◌, ◌<◌, ◌≤◌, Bool, false, List, ◌∷◌, [], length};
+ghost use Rattle.std.specs.Prelude.{replicate};
 ghost use Rattle.bitvec.specs.Span.{with_filled};
 ghost use Rattle.bitvec_slice.specs.Bits.{AreFree};
 ghost use Rattle.freemap.specs.Blocks.{HasRoom, IsLowest};

@@ -22,8 +22,8 @@ use bitvec::order::{BitOrder, Lsb0};
 // How many blocks a search for a run goes through before it asks the levels again.
 const STRETCH: usize = 16384;
 
-/// A map under two levels, as [`two_levels`](crate::two_levels) makes it. The levels are under the order that finds a
-/// mark the fastest, whatever the order of the map is.
+/// A map under two levels, as [`two_levels`](crate::two_levels) makes it. The levels are under the
+/// order that finds a mark the fastest, whatever the order of the map is.
 pub type TwoLevels<'a, O> = LeveledMap<'a, O, StackedLevel<'a, PlainLevel<'a>>>;
 
 /// How many words the two levels over a map of `blocks` blocks take. Constant time.
@@ -38,9 +38,9 @@ pub fn summary_words_for(blocks: usize) -> usize
 /// free block. That level can be a [`StackedLevel`], with a level over it. Levels lie in words
 /// beside those of the map, and are made from it, so the map alone is worth storing.
 ///
-/// Under [`two_levels`](crate::two_levels), the lowest free block of 1048576 is found in the four words of the upper
-/// level, one of the lower and one of the map. What blocks are handed out, and which are in use
-/// after a call, is as of the map without levels.
+/// Under [`two_levels`](crate::two_levels), the lowest free block of 1048576 is found in the four
+/// words of the upper level, one of the lower and one of the map. What blocks are handed out, and
+/// which are in use after a call, is as of the map without levels.
 ///
 /// # Examples
 ///
@@ -344,12 +344,12 @@ impl<'a, O: BitOrder<u64>, S: Level> LeveledMap<'a, O, S> {
     }
 
     /// Hands out `count` blocks in a row, the first such that are all free, and returns the first
-    /// of them; `None` exactly where there are none, and then the map stays as it is. No blocks at
-    /// all are found at block 0.
+    /// of them. It returns `None` exactly where there are none, and then the map stays as it is. No
+    /// blocks at all are found at block 0.
     ///
-    /// The levels pass full words wherever they are: from a free block on, 16384 blocks, or twice
-    /// as many as are wanted, are looked through as [`alloc_run`](FreeMap::alloc_run) of the map
-    /// does, and then the levels say where the next free block is.
+    /// The levels pass full words wherever they are. From a free block on, 16384 blocks, or twice
+    /// `count` where that is more, are looked through as [`alloc_run`](FreeMap::alloc_run) of the
+    /// map does. Then the levels say where the next free block is.
     pub fn alloc_run(&mut self, count: usize) -> Option<usize>
         ensures answer { IsLowest (λ at. AreFree (in_use (map_of self.old)) at count) result }
         ensures taken { Allocates (map_of self.old) (map_of self.new) count result }
@@ -364,8 +364,8 @@ impl<'a, O: BitOrder<u64>, S: Level> LeveledMap<'a, O, S> {
     }
 
     /// Hands out `count` blocks in a row, the first such that are all free and begin at a multiple
-    /// of `alignment`, and returns the first of them; `None` exactly where there are none, and then
-    /// the map stays as it is. Requires that `alignment` is not 0.
+    /// of `alignment`, and returns the first of them. It returns `None` exactly where there are
+    /// none, and then the map stays as it is. Requires that `alignment` is not 0.
     ///
     /// The levels pass full words as in [`alloc_run`](LeveledMap::alloc_run); what is looked
     /// through costs as [`alloc_run_aligned`](FreeMap::alloc_run_aligned) of the map does.
@@ -384,9 +384,9 @@ impl<'a, O: BitOrder<u64>, S: Level> LeveledMap<'a, O, S> {
         Some(at)
     }
 
-    /// Puts `count` blocks from block `at` on in use, and returns whether it did: it refuses
-    /// exactly where one of them is in use or is not there, or `at` itself is past the map's end,
-    /// and then the map stays as it is. Costs by words.
+    /// Puts `count` blocks from block `at` on in use, and returns whether it did. It refuses
+    /// exactly where one of them is in use or is not there, or `at` itself is past the map's end.
+    /// Then the map stays as it is. Costs by words.
     pub fn reserve(&mut self, at: usize, count: usize) -> bool
         ensures answer { IsTrue result ↔ AreFree (in_use (map_of self.old)) at count }
         ensures taken { IsTrue result → BecomesBlocks (map_of self.old) (map_of self.new)

@@ -1,7 +1,7 @@
 //! The map, how it is made, and what it is asked.
 
-ghost use Rattle.std.specs.Prelude.{◌≡◌, ◌↔◌, ◌+◌, ◌*◌, ◌/◌, ◌≤◌, ◌<◌, true, false, IsTrue, IsOk, IfOk, IfErr};
-ghost use Rattle.std.specs.Prelude.{MatchOption, Some, length, replicate};
+ghost use Rattle.std.specs.Prelude.{◌≡◌, ◌↔◌, ◌+◌, ◌*◌, ◌/◌, ◌≤◌, ◌<◌, true, false, IsTrue, IsOk};
+ghost use Rattle.std.specs.Prelude.{IfOk, IfErr, MatchOption, Some, length, replicate};
 ghost use Rattle.bitvec.specs.Place.{region_max_bits};
 ghost use Rattle.bitvec.specs.Span.{KeepsOthers, BecomesList, element, with_filled, front_span};
 ghost use Rattle.bitvec_slice.specs.Bits.{AreFree, zeros_in};
@@ -18,18 +18,18 @@ use bitvec::ptr::span::BitSpan;
 use bitvec_slice::slice::{BitSlice, BitSliceMut};
 use std::marker::PhantomData;
 
-// As many bits as a span can have.
+// The most bits that a span can have.
 const MOST: usize = 2305843009213693951;
 
-/// How many words a map of `blocks` blocks takes: as many as have a bit for each. Constant time.
+/// How many words a map of `blocks` blocks takes, with a bit for each block. Constant time.
 pub fn words_for(blocks: usize) -> usize
     ensures { result ≡ word_count blocks }
 {
     mem::elts::<u64>(blocks)
 }
 
-/// Whether `words` words have room for a map of `blocks` blocks, and a map can have as many, which
-/// is at most 2305843009213693951. Constant time.
+/// Whether `words` words have room for a map of `blocks` blocks, and `blocks` is at most
+/// 2305843009213693951, the most that a map can have. Constant time.
 pub fn has_room(words: usize, blocks: usize) -> bool
     ensures { IsTrue result ↔ HasRoom words blocks }
 {

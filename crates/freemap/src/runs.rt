@@ -14,8 +14,8 @@ use std::alloc::AllocError;
 use std::iter::FusedIterator;
 
 /// The runs of free blocks of a map, lowest first, from
-/// [`iter_free_runs`](FreeMap::iter_free_runs): the first block of each, and how many they are up
-/// to the next that is in use or the end.
+/// [`iter_free_runs`](FreeMap::iter_free_runs). Of each run it gives the first block, and how many
+/// blocks there are from it up to the next that is in use or the end.
 ///
 /// # Examples
 ///

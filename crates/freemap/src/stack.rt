@@ -16,8 +16,8 @@ use bitvec::order::{BitOrder, Lsb0};
 /// [`summary_words_for`](crate::leveled::summary_words_for) says how many are wanted.
 ///
 /// The words are lent until the map is used for the last time, and each bit of them that is no mark
-/// stays as it is: those that are wanted at least have the marks, and what is behind these is not
-/// changed. Costs by the words of the map.
+/// stays as it is. The words that are wanted at least have the marks, and what is behind these
+/// words is not changed. Costs by the words of the map.
 pub fn two_levels<'a, O: BitOrder<u64>>(
     blocks: FreeMap<'a, O>,
     summary: &'a mut [u64],

@@ -1,8 +1,8 @@
 //! Questions of a span or a slice beside another one, in a memory of its own.
 //!
 //! There is a copy of the code for each two registers and two orders, so they are few: the first is
-//! of bytes or of words of 64 bits under any order, the second of bytes under `lsb0`, of words of 16
-//! bits under `msb0`, or of words of 64 bits under either.
+//! of bytes or of words of 64 bits under any order, the second of bytes under `lsb0`, of words of
+//! 16 bits under `msb0`, or of words of 64 bits under either.
 
 use crate::answer::{Answer, Text};
 use crate::spans::span_at;

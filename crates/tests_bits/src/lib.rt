@@ -1,5 +1,5 @@
-//! The statuses and writes of the program `bits`, views of disjoint parts, and orders that no crate of
-//! the layer knows of.
+//! The statuses and writes of the program `bits`, views of disjoint parts, and orders that no crate
+//! of the layer knows of.
 #![tactic(auto)]
 
 #[cfg(test)]

@@ -1,7 +1,8 @@
 //! Edits through disjoint spans of one memory, in turn: what a caller knows of each span's list
 //! and of the whole memory. The spans may share words.
 
-ghost use Rattle.std.specs.Prelude.{◌≡◌, ◌≢◌, ℕ, pos, true, false, length, map, replicate, slice_set};
+ghost use Rattle.std.specs.Prelude.{◌≡◌, ◌≢◌, ℕ, pos, true, false, length, map, replicate};
+ghost use Rattle.std.specs.Prelude.{slice_set};
 ghost use Rattle.bitvec.specs.BitSpan.{span_of, list_by};
 ghost use Rattle.bitvec.specs.Memory.{bit_of};
 ghost use Rattle.bitvec.specs.Span.{Fits, Covers, AreDisjoint};

@@ -1,4 +1,5 @@
-//! The examples: packet headers, parameters of H.264 streams, and recipes of the README and the guide.
+//! The examples: packet headers, parameters of H.264 streams, and recipes of the README and the
+//! guide.
 #![tactic(auto)]
 
 #[cfg(test)]

@@ -1,5 +1,5 @@
-//! Words of worked packet headers, by hand from the orders' definitions: index i is digit i under `Lsb0`,
-//! and digit 31 - i under `Msb0`.
+//! Words of worked packet headers, by hand from the orders' definitions: index i is digit i under
+//! `Lsb0`, and digit 31 - i under `Msb0`.
 
 use bitvec::order::{BitOrder, Lsb0, Msb0};
 use example_packet::field::Field;

@@ -110,8 +110,8 @@ fn scaling_lists_are_refused(rt: HostRuntime) {
 }
 
 // 1 set 0; 1 frame numbers of 4 digits; 010 order counts of type 1; 0; 1 1 two offsets of 0; 010 a
-// cycle of 1 frame; 1 its offset; 1 no reference frame; 0 no gaps; 1 1 one macroblock; 1 1; 0 0; the
-// stop bit 1 and 000.
+// cycle of 1 frame; 1 its offset; 1 no reference frame; 0 no gaps; 1 1 one macroblock; 1 1; 0 0;
+// the stop bit 1 and 000.
 #[test]
 fn a_set_with_a_cycle(rt: HostRuntime) -> Result<(), Fail> {
     let sps = sps::read(&[0x42, 0x00, 0x1E, 0xD3, 0x5B, 0xC8])

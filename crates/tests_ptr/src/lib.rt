@@ -1,5 +1,5 @@
-//! Pointers, their ranges and combinations: their laws, proved callers, and what the traits of these
-//! types are.
+//! Pointers, their ranges and combinations: their laws, proved callers, and what the traits of
+//! these types are.
 //!
 //! They are named by the crates that they stand in, so that the tests wait for these alone.
 #![tactic(auto)]

@@ -1,7 +1,7 @@
 //! What the iterators over a slice's bits, ones, zeros and stretches of ones give.
 //!
-//! An impl of `Iterator` states itself what a call gives. Each function here makes one call, and its
-//! contract is the promise of the iterator's documents: so an impl that states another one is
+//! An impl of `Iterator` states itself what a call gives. Each function here makes one call, and
+//! its contract is the promise of the iterator's documents: so an impl that states another one is
 //! refused.
 
 ghost use Rattle.std.specs.Prelude.{◌≡◌};

@@ -1,5 +1,5 @@
-//! Each slice of three bytes under orders that rise, that fall and that are a table, beside the list
-//! of its bits.
+//! Each slice of three bytes under orders that rise, that fall and that are a table, beside the
+//! list of its bits.
 
 ghost use Rattle.std.specs.Prelude.{◌+◌, ◌≤◌};
 ghost use Rattle.tests_slice.specs.Orders.{mixed_position, mixed_one_to_one};

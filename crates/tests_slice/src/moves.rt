@@ -1,5 +1,5 @@
-//! Shifts, copies and comparisons of each slice of three bytes under orders that rise, that fall and
-//! that are a table, beside the list of its bits.
+//! Shifts, copies and comparisons of each slice of three bytes under orders that rise, that fall
+//! and that are a table, beside the list of its bits.
 
 ghost use Rattle.std.specs.Prelude.{◌+◌, ◌≤◌, length};
 ghost use Rattle.bitvec_slice.specs.BitSliceMut.{lent_len};

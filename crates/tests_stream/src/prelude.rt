@@ -1,8 +1,8 @@
 //! The names that one line brings in, and what each stands for.
 //!
 //! Of an order and of an operator a contract says what the name does. Of each other name a function
-//! takes what the line calls so, and hands it on as what its module calls so: another item under the
-//! name would be another type or trait.
+//! takes what the line calls so, and hands it on as what its module calls so: another item under
+//! the name would be another type or trait.
 
 ghost use Rattle.std.specs.Prelude.{◌≡◌, ◌-◌, ◌<◌, ◌&&◌, ◌||◌, ℕ, not};
 ghost use Rattle.bitvec.specs.Digit.{digit, exclusive_or};

@@ -88,9 +88,9 @@ fn a_slice_of_another_order(rt: HostRuntime) -> Result<(), Fail> {
     Ok(())
 }
 
-// Under a rising order the digits of the words in a row, the first word the lowest, are those of one
-// number, here 0xE86B5D270F967A1EB5C3: a number read lowest first is that one divided by two to the
-// place, and cut.
+// Under a rising order the digits of the words in a row, the first word the lowest, are those of
+// one number, here 0xE86B5D270F967A1EB5C3: a number read lowest first is that one divided by two to
+// the place, and cut.
 #[test]
 fn lowest_first_across_words(rt: HostRuntime) -> Result<(), Fail> {
     let memory = [0xB5C3u16, 0x7A1E, 0x0F96, 0x5D27, 0xE86B];

@@ -14,7 +14,7 @@ use bitvec_slice::slice::{BitSlice, BitSliceMut};
 use std::alloc::AllocError;
 use std::marker::PhantomData;
 
-// As many bits as a span can have.
+// The most bits that a span can have.
 const MOST: usize = 2305843009213693951;
 
 // The span of all bits of `N` words.
@@ -84,8 +84,8 @@ impl<O: BitOrder<usize>, const N: usize> BitArray<O, N> {
         }
     }
 
-    /// The bits of some words, in order, by a copy of the words. [`from_words`](BitArray::from_words)
-    /// is the same, by the name that vectors have for it.
+    /// The bits of some words, in order, by a copy of the words.
+    /// [`from_words`](BitArray::from_words) is the same, by the name that vectors have for it.
     pub fn new(words: [usize; N]) -> Self
         ensures { array_bits result ≡ bits_in O.at_of N words.entry }
     {

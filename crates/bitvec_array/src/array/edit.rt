@@ -67,8 +67,9 @@ impl<O: BitOrder<usize>, const N: usize> BitArray<O, N> {
         span.range(from, to).fill(&mut self.words, bit);
     }
 
-    /// Copies the bits of a range to as many from number `dest` on: by words where the order's
-    /// positions rise or fall, else by bits. What is copied is what was there before the call.
+    /// Copies the bits of a range to a range of the same length, from number `dest` on: by words
+    /// where the order's positions rise or fall, else by bits. What is copied is what was there
+    /// before the call.
     ///
     /// Requires that the range rises, and that both ranges of bits end within the length.
     pub fn copy_within(&mut self, src: Range<usize>, dest: usize)
@@ -82,12 +83,12 @@ impl<O: BitOrder<usize>, const N: usize> BitArray<O, N> {
         span_of_all::<O, N>().copy_within(&mut self.words, src.start, dest, count);
     }
 
-    /// Copies the bits of a slice, of any register and order, to as many from number `from` on: by
+    /// Copies the bits of a slice, of any register and order, to the bits from number `from` on. By
     /// words where both orders rise, both fall, or are one order with both ranges at the same bit
     /// of a word, else by bits.
     ///
-    /// Requires that these end within the length. As `copy_from_bitslice` of a part for writing in
-    /// the Rust crate.
+    /// Requires that `from` plus the slice's length is at most the length. As `copy_from_bitslice`
+    /// of a part for writing in the Rust crate.
     pub fn copy_from_range<R2: BitRegister, O2: BitOrder<R2>>(
         &mut self,
         from: usize,
@@ -101,7 +102,7 @@ impl<O: BitOrder<usize>, const N: usize> BitArray<O, N> {
     }
 }
 
-// Copies the bits of a slice to as many from number `from` on, of as many words as `N`.
+// Copies the bits of a slice to the bits of `N` words from number `from` on.
 fn put_slice<O: BitOrder<usize>, const N: usize, R2: BitRegister, O2: BitOrder<R2>>(
     words: &mut [usize],
     from: usize,

@@ -14,7 +14,7 @@ use bitvec::ptr::combine::{And, AndNot, Combine, Or, Xor};
 use bitvec_slice::slice::{BitSlice, BitSliceMut};
 use std::ops::{BitAnd, BitAndAssign, BitOr, BitOrAssign, BitXor, BitXorAssign, Not};
 
-// Combines the bits of a slice with those of as many words as `N`.
+// Combines the bits of a slice with those of `N` words.
 fn combine_slice<C: Combine, O: BitOrder<usize>, const N: usize, R2: BitRegister, O2: BitOrder<R2>>(
     words: &mut [usize],
     source: BitSlice<'_, R2, O2>,
@@ -34,8 +34,8 @@ impl<O: BitOrder<usize>, const N: usize> BitArray<O, N> {
     /// Combines the bits of a slice, of any register and order, with the array's: each bit becomes
     /// what `C` makes of it and of the slice's bit of that number.
     ///
-    /// Requires that the slice has as many bits. By words where the positions of both orders rise
-    /// or those of both fall, else by bits. Not in the Rust crate.
+    /// Requires that the slice has the array's length. By words where the positions of both orders
+    /// rise or those of both fall, else by bits. Not in the Rust crate.
     ///
     /// # Examples
     ///

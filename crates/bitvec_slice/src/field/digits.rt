@@ -281,9 +281,9 @@ impl<'a, R: BitRegister, O: BitOrder<R>> BitSliceMut<'a, R, O> {
         self.copy_from_range(from, digits);
     }
 
-    /// Makes the bits from number `from` to before number `to` the lowest digits of a number, as
-    /// many as there are bits, the first the lowest; so that
-    /// [`load_digits_le`](BitSlice::load_digits_le) of them gives these back.
+    /// Makes the bits from number `from` to before number `to` the lowest `to - from` digits of a
+    /// number, the first bit the lowest. [`load_digits_le`](BitSlice::load_digits_le) of these bits
+    /// gives the digits back.
     ///
     /// Requires that `from` is at most `to`, `to` at most the length, and that the part has no more
     /// bits than the number type has digits. By words where positions rise with the index, else by
@@ -314,9 +314,9 @@ impl<'a, R: BitRegister, O: BitOrder<R>> BitSliceMut<'a, R, O> {
         }
     }
 
-    /// Makes the bits from number `from` to before number `to` the lowest digits of a number, as
-    /// many as there are bits, the first the highest of them; so that
-    /// [`load_digits_be`](BitSlice::load_digits_be) of them gives these back.
+    /// Makes the bits from number `from` to before number `to` the lowest `to - from` digits of a
+    /// number, the first bit the highest of them. [`load_digits_be`](BitSlice::load_digits_be) of
+    /// these bits gives the digits back.
     ///
     /// Requires that `from` is at most `to`, `to` at most the length, and that the part has no more
     /// bits than the number type has digits. By words where positions fall with the index, else by

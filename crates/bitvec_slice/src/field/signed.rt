@@ -158,7 +158,7 @@ impl SignedNumber for i128 {
     ghost width_at_most_128 = { lit≤ tt };
 }
 
-// The signed number that so many digits are the two's complement of.
+// The signed number whose two's complement has these `len` digits.
 #[inline(always)]
 fn signed_number(digits: u128, len: usize) -> i128
     requires short { len ≤ 128 }
@@ -254,9 +254,9 @@ impl<'a, R: BitRegister, O: Sequential<R>> BitSliceMut<'a, R, O> {
         self.as_bitslice().load_signed_be()
     }
 
-    /// Makes the bits the lowest digits of a signed number's two's complement, as many as there
-    /// are bits, in the order of [`store_le`](BitSliceMut::store_le). Where the number has no more
-    /// digits, [`load_signed_le`](BitSliceMut::load_signed_le) gives it back.
+    /// Makes the bits the lowest digits of a signed number's two's complement, one for each bit, in
+    /// the order of [`store_le`](BitSliceMut::store_le). Where the number has no more digits than
+    /// there are bits, [`load_signed_le`](BitSliceMut::load_signed_le) gives it back.
     ///
     /// Requires no more bits than the number type has. Costs by words. In the Rust crate it is the
     /// call of the unsigned numbers.
@@ -284,9 +284,9 @@ impl<'a, R: BitRegister, O: Sequential<R>> BitSliceMut<'a, R, O> {
         self.store_le(value.to_i128().cast_unsigned());
     }
 
-    /// Makes the bits the lowest digits of a signed number's two's complement, as many as there
-    /// are bits, in the order of [`store_be`](BitSliceMut::store_be). Where the number has no more
-    /// digits, [`load_signed_be`](BitSliceMut::load_signed_be) gives it back.
+    /// Makes the bits the lowest digits of a signed number's two's complement, one for each bit, in
+    /// the order of [`store_be`](BitSliceMut::store_be). Where the number has no more digits than
+    /// there are bits, [`load_signed_be`](BitSliceMut::load_signed_be) gives it back.
     ///
     /// Requires no more bits than the number type has. Costs by words. In the Rust crate it is the
     /// call of the unsigned numbers.

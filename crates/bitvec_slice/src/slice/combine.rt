@@ -19,8 +19,8 @@ impl<'a, R: BitRegister, O: BitOrder<R>> BitSliceMut<'a, R, O> {
     /// Combines the bits of another slice, of any register and order, with the slice's: each bit
     /// becomes what `C` makes of it and of the other slice's bit of that number.
     ///
-    /// Requires that the other slice has as many bits. By words where the positions of both orders
-    /// rise or those of both fall, else by bits. Not in the Rust crate.
+    /// Requires that the other slice has the same length. By words where the positions of both
+    /// orders rise or those of both fall, else by bits. Not in the Rust crate.
     ///
     /// # Examples
     ///
@@ -52,7 +52,7 @@ impl<'a, R: BitRegister, O: BitOrder<R>> BitSliceMut<'a, R, O> {
 
     /// Leaves set those bits whose bit in another slice is set: the intersection of two sets.
     ///
-    /// Requires that the other slice has as many bits; it may be of any register and order. By
+    /// Requires that the other slice has the same length; it may be of any register and order. By
     /// words where the positions of both orders rise or those of both fall, else by bits. Not in
     /// the Rust crate, for `&=` between slices of one length.
     pub fn and_from<R2: BitRegister, O2: BitOrder<R2>>(&mut self, source: BitSlice<'_, R2, O2>)
@@ -67,7 +67,7 @@ impl<'a, R: BitRegister, O: BitOrder<R>> BitSliceMut<'a, R, O> {
 
     /// Sets those bits whose bit in another slice is set: the union of two sets.
     ///
-    /// Requires that the other slice has as many bits; it may be of any register and order. By
+    /// Requires that the other slice has the same length; it may be of any register and order. By
     /// words where the positions of both orders rise or those of both fall, else by bits. Not in
     /// the Rust crate, for `|=` between slices of one length.
     pub fn or_from<R2: BitRegister, O2: BitOrder<R2>>(&mut self, source: BitSlice<'_, R2, O2>)
@@ -83,7 +83,7 @@ impl<'a, R: BitRegister, O: BitOrder<R>> BitSliceMut<'a, R, O> {
     /// Turns over those bits whose bit in another slice is set: the symmetric difference of two
     /// sets.
     ///
-    /// Requires that the other slice has as many bits; it may be of any register and order. By
+    /// Requires that the other slice has the same length; it may be of any register and order. By
     /// words where the positions of both orders rise or those of both fall, else by bits. Not in
     /// the Rust crate, for `^=` between slices of one length.
     pub fn xor_from<R2: BitRegister, O2: BitOrder<R2>>(&mut self, source: BitSlice<'_, R2, O2>)
@@ -98,7 +98,7 @@ impl<'a, R: BitRegister, O: BitOrder<R>> BitSliceMut<'a, R, O> {
 
     /// Clears those bits whose bit in another slice is set: the difference of two sets.
     ///
-    /// Requires that the other slice has as many bits; it may be of any register and order. By
+    /// Requires that the other slice has the same length; it may be of any register and order. By
     /// words where the positions of both orders rise or those of both fall, else by bits. Not in
     /// the Rust crate.
     pub fn and_not_from<R2: BitRegister, O2: BitOrder<R2>>(&mut self, source: BitSlice<'_, R2, O2>)
@@ -111,8 +111,9 @@ impl<'a, R: BitRegister, O: BitOrder<R>> BitSliceMut<'a, R, O> {
         self.combine_from::<AndNot, R2, O2>(source);
     }
 
-    /// Combines the bits of a range with as many from number `dest` on. The two ranges may overlap,
-    /// and each bit is combined with what was there before the call.
+    /// Combines the bits of a range with those of a range of the same length, from number `dest`
+    /// on. The two ranges may overlap, and each bit is combined with what was there before the
+    /// call.
     ///
     /// Requires that the range rises, and that both ranges of bits end within the length. By words
     /// where the order's positions rise or fall, else by bits. Not in the Rust crate.

@@ -11,9 +11,9 @@ use bitvec::order::BitOrder;
 use std::cmp::Ordering;
 
 impl<'a, R: BitRegister, O: BitOrder<R>> BitSlice<'a, R, O> {
-    /// How the slice compares with another, bit by bit from the first on, as two `&[bool]` do: at
-    /// the first difference the slice with the clear bit is less, and where there is none the
-    /// shorter is.
+    /// How the slice compares with another, bit by bit from the first on, as two `&[bool]` do. At
+    /// the first difference the slice with the clear bit is less. Where there is none the shorter
+    /// is.
     ///
     /// By words where the positions of both orders rise or those of both fall, else by bits. Not in
     /// the Rust crate, which has `partial_cmp` between slices of two types.

@@ -66,8 +66,9 @@ impl<'a, R: BitRegister, O: BitOrder<R>> BitSliceMut<'a, R, O> {
         span.swap(memory, i, j);
     }
 
-    /// Copies the bits of a range to as many from number `dest` on: by words where the order's
-    /// positions rise or fall, else by bits. What is copied is what was there before the call.
+    /// Copies the bits of a range to a range of the same length, from number `dest` on: by words
+    /// where the order's positions rise or fall, else by bits. What is copied is what was there
+    /// before the call.
     ///
     /// Requires that the range rises, and that both ranges of bits end within the length.
     pub fn copy_within(&mut self, src: Range<usize>, dest: usize)
@@ -83,9 +84,9 @@ impl<'a, R: BitRegister, O: BitOrder<R>> BitSliceMut<'a, R, O> {
         span.copy_within(memory, src.start, dest, src.end - src.start);
     }
 
-    /// Copies the bits of another slice, of any register and order: by words where both orders
-    /// rise, both fall, or are one order with both slices at the same bit of a word, else by bits.
-    /// Requires that it has as many.
+    /// Copies the bits of another slice, of any register and order. Requires that both slices have
+    /// the same length. By words where both orders rise, both fall, or are one order with both
+    /// slices at the same bit of a word, else by bits.
     pub fn copy_from_bitslice<R2: BitRegister, O2: BitOrder<R2>>(
         &mut self,
         source: BitSlice<'_, R2, O2>,

@@ -86,11 +86,11 @@ impl<'a, R: BitRegister, O: BitOrder<R>> BitSliceMut<'a, R, O> {
         part.invert(memory);
     }
 
-    /// Copies the bits of another slice, of any register and order, to as many from number `from`
+    /// Copies the bits of another slice, of any register and order, to the bits from number `from`
     /// on, word by word.
     ///
-    /// Requires that these end within the length. As `copy_from_bitslice` of a part for writing in
-    /// the Rust crate.
+    /// Requires that `from` plus the other slice's length is at most the length. As
+    /// `copy_from_bitslice` of a part for writing in the Rust crate.
     ///
     /// # Examples
     ///
@@ -121,10 +121,11 @@ impl<'a, R: BitRegister, O: BitOrder<R>> BitSliceMut<'a, R, O> {
         part.copy_from(memory, source.span, source.memory);
     }
 
-    /// Combines the bits of another slice, of any register and order, with as many from number
-    /// `from` on: each bit becomes what `C` makes of it and of the other slice's bit.
+    /// Combines the bits of another slice, of any register and order, with the bits from number
+    /// `from` on. Each of these becomes what `C` makes of it and of the other slice's bit, up to
+    /// the other slice's end.
     ///
-    /// Requires that these end within the length. Costs as
+    /// Requires that `from` plus the other slice's length is at most the length. Costs as
     /// [`combine_from`](BitSliceMut::combine_from) does. Not in the Rust crate.
     pub fn combine_from_range<C: Combine, R2: BitRegister, O2: BitOrder<R2>>(
         &mut self,
@@ -148,9 +149,8 @@ impl<'a, R: BitRegister, O: Sequential<R>> BitSliceMut<'a, R, O> {
     ghost use Rattle.bitvec_slice.specs.BitSliceMut.{lent_span, lent_words, lent_len, lent_bits};
     ghost use Rattle.bitvec_slice.specs.BitSliceMut.{BecomesBits};
 
-    /// Makes the bits from number `from` to before number `to` the lowest digits of a number, as
-    /// many as there are bits, so that [`load_le`](BitSlice::load_le) of that part gives these
-    /// back. Costs by words.
+    /// Makes the bits from number `from` to before number `to` the lowest `to - from` digits of a
+    /// number. [`load_le`](BitSlice::load_le) of that part gives these digits back. Costs by words.
     ///
     /// Requires that `from` is at most `to`, `to` at most the length, and that the part has no more
     /// bits than the number type has digits. As `store_le` of a part for writing in the Rust crate.
@@ -171,9 +171,8 @@ impl<'a, R: BitRegister, O: Sequential<R>> BitSliceMut<'a, R, O> {
         store(part, memory, value, false);
     }
 
-    /// Makes the bits from number `from` to before number `to` the lowest digits of a number, as
-    /// many as there are bits, so that [`load_be`](BitSlice::load_be) of that part gives these
-    /// back. Costs by words.
+    /// Makes the bits from number `from` to before number `to` the lowest `to - from` digits of a
+    /// number. [`load_be`](BitSlice::load_be) of that part gives these digits back. Costs by words.
     ///
     /// Requires that `from` is at most `to`, `to` at most the length, and that the part has no more
     /// bits than the number type has digits. As `store_be` of a part for writing in the Rust crate.

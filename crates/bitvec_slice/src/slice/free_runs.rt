@@ -196,8 +196,8 @@ impl<'a, R: BitRegister, O: BitOrder<R>> BitSlice<'a, R, O> {
     /// The first index from which on `count` bits are there and zero, and `None` where there is no
     /// such index. For a `count` of 0 it is 0. Not in the Rust crate.
     ///
-    /// By words, where positions rise or fall with the index and the run is no longer than a word;
-    /// else by bits, and whole words without a one are passed at once.
+    /// By words, where positions rise or fall with the index and the run is no longer than a word.
+    /// Else by bits, and whole words without a one are passed at once.
     pub fn find_zeros(&self, count: usize) -> Option<usize>
         ensures { IsFirstFree (slice_bits self.now) count result }
     {

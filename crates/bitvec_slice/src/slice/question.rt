@@ -17,8 +17,8 @@ impl<'a, R: BitRegister, O: BitOrder<R>> BitSlice<'a, R, O> {
     /// Whether each bit that is set in the slice is set in another: whether the one set is a subset
     /// of the other.
     ///
-    /// Requires that the other slice has as many bits: [`len`](BitSlice::len) is the test. Stops at
-    /// the first word that decides. By words where the positions of both orders rise or those of
+    /// Requires that the other slice has the same length: [`len`](BitSlice::len) is the test. Stops
+    /// at the first word that decides. By words where the positions of both orders rise or those of
     /// both fall, else by bits. Not in the Rust crate.
     ///
     /// # Examples
@@ -43,8 +43,8 @@ impl<'a, R: BitRegister, O: BitOrder<R>> BitSlice<'a, R, O> {
 
     /// Whether some bit is set in both slices: whether two sets have an element in common.
     ///
-    /// Requires that the other slice has as many bits: [`len`](BitSlice::len) is the test. Stops at
-    /// the first word that decides. By words where the positions of both orders rise or those of
+    /// Requires that the other slice has the same length: [`len`](BitSlice::len) is the test. Stops
+    /// at the first word that decides. By words where the positions of both orders rise or those of
     /// both fall, else by bits. Not in the Rust crate.
     pub fn intersects<R2: BitRegister, O2: BitOrder<R2>>(
         &self,
@@ -59,9 +59,9 @@ impl<'a, R: BitRegister, O: BitOrder<R>> BitSlice<'a, R, O> {
 
     /// How many bits are set in both slices: how many elements two sets have in common.
     ///
-    /// Requires that the other slice has as many bits: [`len`](BitSlice::len) is the test. By words
-    /// where the positions of both orders rise or those of both fall, else by bits. Not in the Rust
-    /// crate.
+    /// Requires that the other slice has the same length: [`len`](BitSlice::len) is the test. By
+    /// words where the positions of both orders rise or those of both fall, else by bits. Not in
+    /// the Rust crate.
     ///
     /// # Examples
     ///
@@ -92,9 +92,9 @@ impl<'a, R: BitRegister, O: BitOrder<R>> BitSlice<'a, R, O> {
     /// The index of the first bit that is set in both slices, counted from 0, and `None` where none
     /// is.
     ///
-    /// Requires that the other slice has as many bits: [`len`](BitSlice::len) is the test. By words
-    /// where the positions of both orders rise or those of both fall, else by bits. Not in the Rust
-    /// crate.
+    /// Requires that the other slice has the same length: [`len`](BitSlice::len) is the test. By
+    /// words where the positions of both orders rise or those of both fall, else by bits. Not in
+    /// the Rust crate.
     pub fn first_and<R2: BitRegister, O2: BitOrder<R2>>(
         &self,
         other: &BitSlice<'_, R2, O2>,
@@ -110,9 +110,9 @@ impl<'a, R: BitRegister, O: BitOrder<R>> BitSlice<'a, R, O> {
     /// The index of the first bit that is set in the slice and not in the other, counted from 0,
     /// and `None` where none is.
     ///
-    /// Requires that the other slice has as many bits: [`len`](BitSlice::len) is the test. By words
-    /// where the positions of both orders rise or those of both fall, else by bits. Not in the Rust
-    /// crate.
+    /// Requires that the other slice has the same length: [`len`](BitSlice::len) is the test. By
+    /// words where the positions of both orders rise or those of both fall, else by bits. Not in
+    /// the Rust crate.
     pub fn first_and_not<R2: BitRegister, O2: BitOrder<R2>>(
         &self,
         other: &BitSlice<'_, R2, O2>,

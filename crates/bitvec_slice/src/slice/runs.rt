@@ -12,8 +12,8 @@ use bitvec::order::BitOrder;
 use std::alloc::AllocError;
 use std::iter::FusedIterator;
 
-/// The stretches of ones in a slice, in rising order, from [`BitSlice::iter_runs`]: the index of
-/// the first one of each, and how many there are up to the next zero.
+/// The stretches of ones in a slice, in rising order, from [`BitSlice::iter_runs`]. Of each it
+/// gives the index of the first one, and how many ones there are up to the next zero.
 ///
 /// # Examples
 ///

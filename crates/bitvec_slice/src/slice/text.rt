@@ -246,7 +246,7 @@ fn first_other(text: &[u8]) -> Option<usize>
     None
 }
 
-// Makes the bits of a span those of as many digits, and changes no other bit.
+// Makes the bits of a span those of `digits`, one digit for each bit, and changes no other bit.
 fn put_digits<R: BitRegister, O: BitOrder<R>>(span: BitSpan<R, O>, memory: &mut [R], digits: &[u8])
     requires fits { Fits R.BITS (span_of span) (length memory.old) }
     requires many { length digits.now ≡ (span_of span).len }
@@ -261,12 +261,12 @@ impl<'a, R: BitRegister, O: BitOrder<R>> BitSliceMut<'a, R, O> {
     ghost use Rattle.bitvec_slice.specs.BitSliceMut.{lent_len, lent_bits, BecomesBits};
     ghost use Rattle.bitvec_slice.specs.TextError.{IsRefusal};
 
-    /// Makes the bits those of a text of as many zeros and ones, in order, so that its `Display`
-    /// is the text.
+    /// Makes the bits those of a text of zeros and ones, in order, one character for each bit. The
+    /// `Display` of the slice is then the text.
     ///
-    /// It refuses a text with another character, and says which is the first, and one with another
-    /// number of digits, and says how many it has; the bits are then as they were. Costs by the
-    /// text's characters. Not in the Rust crate.
+    /// It refuses a text with another character, and says which is the first. It refuses one with
+    /// another number of digits, and says how many it has. Where it refuses, the bits are as they
+    /// were. Costs by the text's characters. Not in the Rust crate.
     ///
     /// # Examples
     ///

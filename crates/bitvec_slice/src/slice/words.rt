@@ -98,7 +98,7 @@ impl<'a, R: BitRegister, O: BitOrder<R>> BitSliceMut<'a, R, O> {
     }
 
     /// Puts a word in place of word `k`, counted from the word of the first bit, and does not read
-    /// what stands there: each bit of it becomes the word's digit where the order has it.
+    /// what stands there. Each bit of it becomes the word's digit where the order has it.
     ///
     /// Requires that the slice has all bits of word `k`: [`has_word`](BitSliceMut::has_word) is the
     /// test. Constant time. Not in the Rust crate.

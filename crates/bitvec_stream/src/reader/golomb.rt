@@ -133,12 +133,14 @@ impl<'a, R: BitRegister, O: BitOrder<R>> BitReader<'a, R, O> {
     }
 
     /// The number whose Exp-Golomb code the bits that are left begin with, as `ue(v)` of ITU-T
-    /// H.264 and H.265: as many zeros as the number, plus one, has binary digits, less one, and
-    /// then these digits, the highest first. So `1` is 0, `010` is 1, `011` is 2 and `00100` is 3.
+    /// H.264 and H.265. The code of `n` is the binary digits of `n + 1`, the highest first, and
+    /// before them one zero fewer than there are digits. So `1` is 0, `010` is 1, `011` is 2 and
+    /// `00100` is 3.
     ///
     /// It refuses with `Unended` exactly where the bits that are left begin with no number's code,
-    /// as they end before it does, and with `TooLarge` exactly where they begin with that of a
-    /// number that passes the type. Costs as [`read_be`](BitReader::read_be). Not in the Rust crate.
+    /// as they end before it does. It refuses with `TooLarge` exactly where they begin with the
+    /// code of a number that passes the type. Costs as [`read_be`](BitReader::read_be). Not in the
+    /// Rust crate.
     ///
     /// # Examples
     ///
@@ -187,7 +189,7 @@ impl<'a, R: BitRegister, O: BitOrder<R>> BitReader<'a, R, O> {
     }
 
     /// The signed number whose Exp-Golomb code the bits that are left begin with, as `se(v)` of
-    /// ITU-T H.264 and H.265: the codes of 0, 1, 2, 3, 4 and so on are those of 0, 1, -1, 2, -2 and
+    /// ITU-T H.264 and H.265. The codes of 0, 1, 2, 3, 4 and so on are those of 0, 1, -1, 2, -2 and
     /// so on. It refuses as [`read_exp_golomb`](BitReader::read_exp_golomb) does, and costs as
     /// much. Not in the Rust crate.
     pub fn read_signed_exp_golomb<N: SignedNumber>(&mut self) -> Result<N, ReadError>

@@ -1,4 +1,4 @@
-//! Numbers of as many bits as are asked for.
+//! Numbers of `count` bits, where the caller says the count.
 
 ghost use Rattle.std.specs.Prelude.{◌≡◌, ◌≤◌, ◌↔◌, IsOk, IfOk, IfErr, MatchResult, length, take};
 ghost use Rattle.bitvec_stream.specs.Numbers.{number_le, number_be};

@@ -1,4 +1,4 @@
-//! Signed numbers of as many bits as are asked for, as two's complements.
+//! Signed numbers of `count` bits, as two's complements, where the caller says the count.
 
 ghost use Rattle.std.specs.Prelude.{◌≡◌, ◌≤◌, ◌↔◌, IsOk, IfOk, MatchResult, length, take};
 ghost use Rattle.bitvec_slice.specs.Signed.{signed_of};

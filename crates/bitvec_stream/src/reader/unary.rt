@@ -1,4 +1,4 @@
-//! Numbers in unary: so many equal bits, and one that is not.
+//! Numbers in unary: for `n`, `n` equal bits and one that differs.
 
 ghost use Rattle.std.specs.Prelude.{◌≡◌, ◌+◌, ◌<◌, MatchOption, MatchResult, length};
 ghost use Rattle.bitvec.specs.Truths.{AllAre};

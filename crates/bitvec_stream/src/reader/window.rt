@@ -32,7 +32,7 @@ fn passed<R: BitRegister, O: BitOrder<R>>(word: R, count: usize) -> R
     }
 }
 
-// A word that keeps `kept` bits, and behind them those of a whole word, as many as have place there.
+// A word that keeps `kept` bits, and behind them the first bits of a whole word, up to its own end.
 #[inline(always)]
 fn filled_up<R: BitRegister, O: BitOrder<R>>(word: R, kept: usize, next: R) -> R
     requires way { RisesOrFalls R.BITS O.at_of }
@@ -66,7 +66,7 @@ fn first_digits<R: BitRegister, O: BitOrder<R>>(word: R, count: usize) -> R
     }
 }
 
-// The same as a number of any type that has as many digits.
+// The same as a number of any type that has `count` digits.
 #[inline(always)]
 fn first_number<R: BitRegister, O: BitOrder<R>, N: BitRegister>(word: R, count: usize) -> N
     requires some { 0 < count }
@@ -98,8 +98,8 @@ fn code_in<R: BitRegister>(word: R, kept: usize) -> Option<(usize, R)>
     Some((2 * zeros + 1, digits))
 }
 
-// A reader behind so many bits of a slice, which keeps the bits that are left of the word there,
-// where the slice has it whole.
+// A reader behind the first `position` bits of a slice, which keeps the bits that are left of the
+// word there, where the slice has it whole.
 #[cold]
 #[inline(never)]
 fn filled<R: BitRegister, O: BitOrder<R>>(
@@ -129,8 +129,8 @@ fn filled<R: BitRegister, O: BitOrder<R>>(
 impl<'a, R: BitRegister, O: BitOrder<R>> BitReader<'a, R, O> {
     ghost use Rattle.bitvec_stream.specs.Reader.{unread, Passes};
 
-    // A reader behind so many bits of a slice. Where positions rise or fall, it keeps what is left
-    // of the word there.
+    // A reader behind the first `position` bits of a slice. Where positions rise or fall, it keeps
+    // what is left of the word there.
     #[inline(always)]
     pub(super) fn behind(slice: BitSlice<'a, R, O>, position: usize) -> Self
         requires { position ≤ slice_len slice }
@@ -143,7 +143,7 @@ impl<'a, R: BitRegister, O: BitOrder<R>> BitReader<'a, R, O> {
         }
     }
 
-    // Passes over so many of the bits that are kept.
+    // Passes over `count` of the bits that are kept.
     #[inline(always)]
     pub(super) fn pass_kept(&mut self, count: usize)
         requires way { RisesOrFalls R.BITS O.at_of }
@@ -177,7 +177,7 @@ impl<'a, R: BitRegister, O: BitOrder<R>> BitReader<'a, R, O> {
         Some(self.slice.whole_word(place / width))
     }
 
-    // The bits that are kept, and those of a chunk behind them, as many as a word has.
+    // The bits that are kept, and behind them those of a chunk, up to a whole word.
     #[inline(always)]
     fn joined(&self, chunk: R) -> R
         requires way { RisesOrFalls R.BITS O.at_of }

@@ -23,7 +23,7 @@ fn without_top(digits: u128) -> (usize, u128)
 impl<'a, R: BitRegister, O: BitOrder<R>> BitWriter<'a, R, O> {
     ghost use Rattle.bitvec_stream.specs.Writer.{room, Writes};
 
-    // Writes so many zeros, a one, and as many digits of a number, the highest first.
+    // Writes `zeros` zeros, a one, and `zeros` digits of the number `low`, the highest first.
     fn put_code(&mut self, zeros: usize, low: u128) -> Result<(), WriteError>
         requires most { zeros ≤ 128 }
         requires below { low < 2 ^ zeros }

@@ -1,4 +1,4 @@
-//! Numbers in as many bits as are asked for.
+//! Numbers in `count` bits, where the caller says the count.
 
 ghost use Rattle.std.specs.Prelude.{◌≡◌, ◌^◌, ◌<◌, ◌≤◌, ◌↔◌, Err, IsTrue, IsOk, MatchResult};
 ghost use Rattle.std.specs.Prelude.{length};

@@ -1,4 +1,4 @@
-//! Signed numbers in as many bits as are asked for, as two's complements.
+//! Signed numbers in `count` bits, as two's complements, where the caller says the count.
 
 ghost use Rattle.std.specs.Prelude.{◌≡◌, pos, ◌-◌, ◌^◌, ◌<◌, ◌≤◌, ◌↔◌, Err, IsTrue, IsOk};
 ghost use Rattle.std.specs.Prelude.{MatchResult, length};
@@ -43,8 +43,8 @@ impl<'a, R: BitRegister, O: BitOrder<R>> BitWriter<'a, R, O> {
 
     /// Writes the two's complement of a signed number in `count` bits, the first the highest digit.
     /// It refuses with `NoRoom` exactly where there is room for fewer, and else with
-    /// `TooManyDigits` exactly where the number has more digits: where twice the number is below
-    /// minus two to the `count`, or not below two to the `count`.
+    /// `TooManyDigits` exactly where the number has more digits. That is where twice the number is
+    /// below minus two to the `count`, or not below two to the `count`.
     ///
     /// Requires that `count` is at most the width of the number's type: `count <= N::BITS`. Costs
     /// by words where the order's positions fall, else by bits. Not in the Rust crate.

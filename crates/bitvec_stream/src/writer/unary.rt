@@ -1,4 +1,4 @@
-//! Numbers in unary: so many equal bits, and one that is not.
+//! Numbers in unary: for `n`, `n` equal bits and one that differs.
 
 ghost use Rattle.std.specs.Prelude.{◌≡◌, ◌<◌, ◌≤◌, ◌↔◌, ◌∷◌, ◌++◌, [], IsOk, MatchResult, not};
 ghost use Rattle.std.specs.Prelude.{length};
@@ -12,7 +12,7 @@ use bitvec::order::BitOrder;
 impl<'a, R: BitRegister, O: BitOrder<R>> BitWriter<'a, R, O> {
     ghost use Rattle.bitvec_stream.specs.Writer.{room, Writes};
 
-    // Writes the same bit so many times.
+    // Writes the same bit `count` times.
     pub(super) fn fill(&mut self, bit: bool, count: usize)
         requires { count ≤ length (room self.old) }
         ensures { Writes self.old self.new (replicate count bit) }

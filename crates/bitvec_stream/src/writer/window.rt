@@ -88,8 +88,8 @@ impl<'a, R: BitRegister, O: BitOrder<R>> BitWriter<'a, R, O> {
         self.kept = kept;
     }
 
-    // Whether a number of `count` digits ends in the word behind the one that is known, and the slice
-    // has that word whole.
+    // Whether a number of `count` digits ends in the word behind the one that is known, and the
+    // slice has that word whole.
     #[inline(always)]
     pub(super) fn is_across(&self, count: usize) -> bool
         ensures { IsTrue result → (0 < self.now.kept) × (self.now.kept < count)
@@ -101,8 +101,8 @@ impl<'a, R: BitRegister, O: BitOrder<R>> BitWriter<'a, R, O> {
         is_next && width <= self.span.len() - self.end
     }
 
-    // Writes a number of `count` digits, the highest of them first: as many as the word that is
-    // known has places for into it, the others into the next one.
+    // Writes a number of `count` digits, the highest of them first. The word that is known takes
+    // those that it has places for, the next one takes the others.
     #[inline(always)]
     pub(super) fn put_across<N: BitRegister>(&mut self, count: usize, digits: N)
         requires some { 0 < self.old.kept }

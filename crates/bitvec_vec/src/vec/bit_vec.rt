@@ -17,17 +17,17 @@ use std::marker::PhantomData;
 
 /// A list of bits that can grow, in words of its own.
 ///
-/// Its contract is that of a `Vec<bool>`: a vector is its list of truth values. The words are as
-/// many as the bits take and no more. Those bits of the last word that lie behind the vector's are
-/// no one's: no call tells of them.
+/// Its contract is that of a `Vec<bool>`: a vector is its list of truth values. It has the words
+/// that the bits take, and no more. Those bits of the last word that lie behind the vector's are no
+/// one's: no call tells of them.
 ///
 /// A vector has at most 2305843009213693951 bits, as a span has. What would make it longer answers
 /// `AllocError`, as where memory is refused, and leaves the list as it was; in the Rust crate both
 /// panic.
 ///
 /// A call that has the room it needs ([`capacity`](BitVec::capacity)) refuses nothing. Whether
-/// memory that is asked for is refused is the allocator's to say: std's contract of one tells
-/// nothing of it, so no contract here does, as none of std's `Vec` does.
+/// memory that is asked for is refused is the allocator's to say. The contract that std gives an
+/// allocator tells nothing of it, so no contract here does, as none of std's `Vec` does.
 ///
 /// # Examples
 ///

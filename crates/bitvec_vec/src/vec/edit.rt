@@ -77,8 +77,9 @@ impl<R: BitRegister, O: BitOrder<R>, A: Allocator> BitVec<R, O, A> {
         span.range(from, to).fill(self.words.as_mut_slice(), bit);
     }
 
-    /// Copies the bits of a range to as many from number `dest` on: by words where the order's
-    /// positions rise or fall, else by bits. What is copied is what was there before the call.
+    /// Copies the bits of a range to a range of the same length, from number `dest` on: by words
+    /// where the order's positions rise or fall, else by bits. What is copied is what was there
+    /// before the call.
     ///
     /// Requires that the range rises, and that both ranges of bits end within the length.
     pub fn copy_within(&mut self, src: Range<usize>, dest: usize)
@@ -94,12 +95,12 @@ impl<R: BitRegister, O: BitOrder<R>, A: Allocator> BitVec<R, O, A> {
         span.copy_within(self.words.as_mut_slice(), src.start, dest, count);
     }
 
-    /// Copies the bits of a slice, of any register and order, to as many from number `from` on: by
+    /// Copies the bits of a slice, of any register and order, to the bits from number `from` on. By
     /// words where both orders rise, both fall, or are one order with both ranges at the same bit
     /// of a word, else by bits.
     ///
-    /// Requires that these end within the length. As `copy_from_bitslice` of a part for writing in
-    /// the Rust crate.
+    /// Requires that `from` plus the slice's length is at most the length. As `copy_from_bitslice`
+    /// of a part for writing in the Rust crate.
     pub fn copy_from_range<R2: BitRegister, O2: BitOrder<R2>>(
         &mut self,
         from: usize,
@@ -114,7 +115,7 @@ impl<R: BitRegister, O: BitOrder<R>, A: Allocator> BitVec<R, O, A> {
     }
 }
 
-// Copies the bits of a slice to as many from number `from` on, of the first `len` of some words.
+// Copies the bits of a slice to the bits from number `from` on, of the first `len` of some words.
 fn put_slice<R: BitRegister, O: BitOrder<R>, R2: BitRegister, O2: BitOrder<R2>>(
     words: &mut [R],
     len: usize,

@@ -12,7 +12,7 @@ use std::cmp::Ordering;
 use std::hash::{Hash, Hasher};
 
 /// A copy of the bits in memory of its own. It refuses where memory is refused, or where the copy
-/// of the allocator is; of no bits it takes no memory, and never refuses if the copy of the
+/// of the allocator is. Of no bits it takes no memory, and never refuses if the copy of the
 /// allocator cannot fail. Costs by words where the order's positions rise or fall, else by bits.
 impl<R: BitRegister, O: BitOrder<R>, A: Allocator + Clone> Clone for BitVec<R, O, A> {
     ghost use Rattle.bitvec_vec.specs.BitVec.{vec_bits, bit_allocator};

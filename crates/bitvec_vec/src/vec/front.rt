@@ -1,4 +1,4 @@
-//! The first bits of some words, and words that are as many as the bits take.
+//! The first bits of some words, and how many words they take.
 
 ghost use Rattle.std.specs.Prelude.{◌≡◌, ◌≤◌, ◌<◌, ◌+◌, ◌*◌, ℕ, is_ok, if◌then◌else◌, map, OnErr};
 ghost use Rattle.std.specs.Prelude.{vec_len, vec_capacity};
@@ -12,7 +12,7 @@ use bitvec::mem::BitRegister;
 use bitvec::ptr::span::BitSpan;
 use std::alloc::{AllocError, Allocator};
 
-// As many bits as a span can have.
+// The most bits that a span can have.
 pub(crate) const MOST: usize = 2305843009213693951;
 
 // The span of the first `len` bits.
@@ -24,7 +24,7 @@ pub(crate) fn span_of_front<R: BitRegister, O>(len: usize) -> BitSpan<R, O>
     BitSpan::at_unchecked(0, len)
 }
 
-// How many words have as many bits.
+// How many words `len` bits take.
 pub(crate) fn words_of_bits<R: BitRegister>(len: usize) -> usize
     ensures { result ≡ words_for R.BITS len }
 {
@@ -53,7 +53,7 @@ pub(crate) fn make_room<R: BitRegister, A: Allocator>(
     }
 }
 
-// Makes the words as many as `to` bits take, of which the first `len` stay.
+// Resizes the words to those that `to` bits take. The first `len` bits stay.
 pub(crate) fn fit_words<R: BitRegister, A: Allocator>(
     words: &mut Vec<R, A>,
     len: usize,

@@ -14,8 +14,8 @@ impl<R: BitRegister, O: BitOrder<R>, A: Allocator> BitVec<R, O, A> {
     ghost use Rattle.bitvec_slice.specs.BitSlice.{slice_bits};
     ghost use Rattle.bitvec_vec.specs.BitVec.{vec_bits, bit_capacity};
 
-    /// Makes room for `additional` more bits, so that as many can be put behind the others and no
-    /// memory is asked for.
+    /// Makes room for `additional` more bits: these can be put behind the others, and no memory is
+    /// asked for.
     ///
     /// It refuses where memory is refused, or where there would be more than 2305843009213693951
     /// bits, and then the room stays too. The list stays, whatever the answer. Costs at most one
@@ -55,7 +55,8 @@ impl<R: BitRegister, O: BitOrder<R>, A: Allocator> BitVec<R, O, A> {
         Ok(())
     }
 
-    /// Makes the length `len`: takes away the bits behind, or puts as many of one value there.
+    /// Makes the length `len`: takes away the bits behind it, or puts copies of `bit` behind the
+    /// others.
     ///
     /// Where memory is refused, the list is as it was. Costs by the words that are new.
     ///

@@ -1,7 +1,7 @@
 //! How vectors are made, and their words.
 
-ghost use Rattle.std.specs.Prelude.{◌≡◌, ◌≤◌, ◌<◌, ◌*◌, [], IfOk, OnErr, length, map, min, replicate};
-ghost use Rattle.std.specs.Prelude.{vec_len, vec_capacity};
+ghost use Rattle.std.specs.Prelude.{◌≡◌, ◌≤◌, ◌<◌, ◌*◌, [], IfOk, OnErr, length, map, min};
+ghost use Rattle.std.specs.Prelude.{replicate, vec_len, vec_capacity};
 ghost use Rattle.bitvec.specs.Memory.{memory_bits};
 ghost use Rattle.bitvec.specs.Place.{region_max_bits};
 ghost use Rattle.bitvec_slice.specs.BitSlice.{slice_bits};
@@ -29,9 +29,9 @@ impl<R: BitRegister, O: BitOrder<R>, A: Allocator> BitVec<R, O, A> {
         }
     }
 
-    /// No bits, and memory for so many. It refuses where memory is refused, or where there would be
-    /// more than 2305843009213693951 bits; for none it asks for no memory, and never refuses. Costs
-    /// one request to the allocator.
+    /// No bits, and memory for `capacity` bits. It refuses where memory is refused, or where
+    /// `capacity` is more than 2305843009213693951. For a capacity of 0 it asks for no memory, and
+    /// never refuses. Costs one request to the allocator.
     pub fn with_capacity(alloc: A, capacity: usize) -> Result<Self, AllocError>
         ensures bits { IfOk result (λ vec. vec_bits vec ≡ []) }
         ensures capacity { IfOk result (λ vec. capacity ≤ bit_capacity vec) }
@@ -43,7 +43,8 @@ impl<R: BitRegister, O: BitOrder<R>, A: Allocator> BitVec<R, O, A> {
     }
 
     /// The same bit `len` times. It refuses where memory is refused, or where there would be more
-    /// than 2305843009213693951 bits; no bits take no memory, and are never refused. Costs by words.
+    /// than 2305843009213693951 bits; no bits take no memory, and are never refused. Costs by
+    /// words.
     ///
     /// # Examples
     ///
@@ -117,8 +118,8 @@ impl<R: BitRegister, O: BitOrder<R>, A: Allocator> BitVec<R, O, A> {
         }
     }
 
-    /// The words that the bits lie in, as many as they take, with all their room. What the last
-    /// word has behind the bits is not said. Constant time. The Rust crate's `into_vec`.
+    /// The words that the bits lie in, and no others, with all their room. What the last word has
+    /// behind the bits is not said. Constant time. The Rust crate's `into_vec`.
     pub fn into_words(self) -> Vec<R, A>
         ensures capacity { min (vec_capacity result * R.BITS) region_max_bits
             ≡ bit_capacity self }

@@ -193,9 +193,9 @@ impl<R: BitRegister, O: BitOrder<R>, A: Allocator> BitVec<R, O, A> {
         shift_front_right::<R, O>(self.words.as_mut_slice(), self.len, by);
     }
 
-    /// Makes the bits from number `from` to before number `to` the lowest digits of a number, as
-    /// many as there are bits, the first the lowest; so that
-    /// [`load_digits_le`](BitVec::load_digits_le) of them gives these back.
+    /// Makes the bits from number `from` to before number `to` the lowest `to - from` digits of a
+    /// number, the first bit the lowest. [`load_digits_le`](BitVec::load_digits_le) of these bits
+    /// gives the digits back.
     ///
     /// Requires that `from` is at most `to`, `to` at most the length, and that the part has no more
     /// bits than the number type has digits. By words where positions rise with the index, else by
@@ -213,9 +213,9 @@ impl<R: BitRegister, O: BitOrder<R>, A: Allocator> BitVec<R, O, A> {
         store_front_le::<R, O, N>(self.words.as_mut_slice(), self.len, from, to, value);
     }
 
-    /// Makes the bits from number `from` to before number `to` the lowest digits of a number, as
-    /// many as there are bits, the first the highest of them; so that
-    /// [`load_digits_be`](BitVec::load_digits_be) of them gives these back.
+    /// Makes the bits from number `from` to before number `to` the lowest `to - from` digits of a
+    /// number, the first bit the highest of them. [`load_digits_be`](BitVec::load_digits_be) of
+    /// these bits gives the digits back.
     ///
     /// Requires that `from` is at most `to`, `to` at most the length, and that the part has no more
     /// bits than the number type has digits. By words where positions fall with the index, else by

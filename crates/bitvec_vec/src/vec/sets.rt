@@ -39,8 +39,8 @@ impl<R: BitRegister, O: BitOrder<R>, A: Allocator> BitVec<R, O, A> {
     /// Combines the bits of a slice, of any register and order, with the vector's: each bit becomes
     /// what `C` makes of it and of the slice's bit of that number.
     ///
-    /// Requires that the slice has as many bits. By words where the positions of both orders rise
-    /// or those of both fall, else by bits. Not in the Rust crate.
+    /// Requires that the slice has the vector's length. By words where the positions of both orders
+    /// rise or those of both fall, else by bits. Not in the Rust crate.
     ///
     /// # Examples
     ///
@@ -68,9 +68,9 @@ impl<R: BitRegister, O: BitOrder<R>, A: Allocator> BitVec<R, O, A> {
 
     /// Leaves set those bits whose bit in a slice is set: the intersection of two sets.
     ///
-    /// Requires that the slice has as many bits; it may be of any register and order. Costs as
-    /// [`combine_from`](BitVec::combine_from) does. Not in the Rust crate, for `&=` between vectors
-    /// of one length.
+    /// Requires that the slice has the vector's length; it may be of any register and order. Costs
+    /// as [`combine_from`](BitVec::combine_from) does. Not in the Rust crate, for `&=` between
+    /// vectors of one length.
     ///
     /// # Examples
     ///
@@ -93,9 +93,9 @@ impl<R: BitRegister, O: BitOrder<R>, A: Allocator> BitVec<R, O, A> {
 
     /// Sets those bits whose bit in a slice is set: the union of two sets.
     ///
-    /// Requires that the slice has as many bits; it may be of any register and order. Costs as
-    /// [`combine_from`](BitVec::combine_from) does. Not in the Rust crate, for `|=` between vectors
-    /// of one length.
+    /// Requires that the slice has the vector's length; it may be of any register and order. Costs
+    /// as [`combine_from`](BitVec::combine_from) does. Not in the Rust crate, for `|=` between
+    /// vectors of one length.
     pub fn or_from<R2: BitRegister, O2: BitOrder<R2>>(&mut self, source: BitSlice<'_, R2, O2>)
         requires { length (slice_bits source) ≡ length (vec_bits self.old) }
         ensures bits { vec_bits self.new
@@ -107,9 +107,9 @@ impl<R: BitRegister, O: BitOrder<R>, A: Allocator> BitVec<R, O, A> {
 
     /// Turns over those bits whose bit in a slice is set: the symmetric difference of two sets.
     ///
-    /// Requires that the slice has as many bits; it may be of any register and order. Costs as
-    /// [`combine_from`](BitVec::combine_from) does. Not in the Rust crate, for `^=` between vectors
-    /// of one length.
+    /// Requires that the slice has the vector's length; it may be of any register and order. Costs
+    /// as [`combine_from`](BitVec::combine_from) does. Not in the Rust crate, for `^=` between
+    /// vectors of one length.
     pub fn xor_from<R2: BitRegister, O2: BitOrder<R2>>(&mut self, source: BitSlice<'_, R2, O2>)
         requires { length (slice_bits source) ≡ length (vec_bits self.old) }
         ensures bits { vec_bits self.new
@@ -121,8 +121,8 @@ impl<R: BitRegister, O: BitOrder<R>, A: Allocator> BitVec<R, O, A> {
 
     /// Clears those bits whose bit in a slice is set: the difference of two sets.
     ///
-    /// Requires that the slice has as many bits; it may be of any register and order. Costs as
-    /// [`combine_from`](BitVec::combine_from) does. Not in the Rust crate.
+    /// Requires that the slice has the vector's length; it may be of any register and order. Costs
+    /// as [`combine_from`](BitVec::combine_from) does. Not in the Rust crate.
     pub fn and_not_from<R2: BitRegister, O2: BitOrder<R2>>(&mut self, source: BitSlice<'_, R2, O2>)
         requires { length (slice_bits source) ≡ length (vec_bits self.old) }
         ensures bits { vec_bits self.new

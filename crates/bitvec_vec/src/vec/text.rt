@@ -89,7 +89,7 @@ impl<R: BitRegister, O: BitOrder<R>, A: Allocator> fmt::Debug for BitVec<R, O, A
     }
 }
 
-// Makes the first `len` bits of some words those of a text of as many zeros and ones.
+// Makes the first `len` bits of some words those of a text of `len` zeros and ones.
 fn put_text<R: BitRegister, O: BitOrder<R>>(
     words: &mut [R],
     len: usize,
@@ -127,9 +127,9 @@ impl<R: BitRegister, O: BitOrder<R>, A: Allocator> BitVec<R, O, A> {
     /// The bits of a text of zeros and ones, in order, so that its `Display` is the text.
     ///
     /// It refuses a text with another character, and says which is the first, whatever memory there
-    /// is; and one of zeros and ones alone where memory is refused. An empty text takes no memory,
-    /// and is never refused. Costs by the text's characters. Not in the Rust crate, whose macro
-    /// `bitvec!` reads such a list.
+    /// is. It refuses one of zeros and ones alone where memory is refused. An empty text takes no
+    /// memory, and is never refused. Costs by the text's characters. Not in the Rust crate, whose
+    /// macro `bitvec!` reads such a list.
     ///
     /// # Examples
     ///

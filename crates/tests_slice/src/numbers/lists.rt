@@ -1,4 +1,5 @@
-//! The number in each slice of three bytes, and one that is stored there, beside the list of its bits.
+//! The number in each slice of three bytes, and one that is stored there, beside the list of its
+//! bits.
 
 ghost use Rattle.std.specs.Prelude.{◌+◌, ◌≤◌};
 
@@ -7,8 +8,8 @@ use bitvec::order::{Lsb0, Msb0};
 use bitvec_slice::field::Sequential;
 use bitvec_slice::slice::{BitSlice, BitSliceMut};
 
-// The number of the bits from one place to before another: the digits of each word of eight bits, the
-// first word's lowest, or highest.
+// The number of the bits from one place to before another: the digits of each word of eight bits,
+// the first word's lowest, or highest.
 fn number_of<O: Sequential<u8>>(bits: &[bool; 24], start: usize, end: usize, is_be: bool) -> u32 {
     let mut number = 0;
     for step in 0..24 {
@@ -72,7 +73,8 @@ const NUMBER: u32 = 0xA5B3_C96D;
 
 const SIGNED: i32 = -0x5A4C_3693;
 
-// Whether a slice that stores a number has the lowest digits of it, and every other bit is as before.
+// Whether a slice that stores a number has the lowest digits of it, and every other bit is as
+// before.
 fn stores<O: Sequential<u8>>(start: usize, len: usize, how: Store) -> bool
     requires { start + len ≤ 24 }
 {

@@ -10,6 +10,6 @@ invariant-loop-bit g l =
     IsFlush l.initial.f → (bs : List ℕ) × (HasWrittenStyled g.W.Write.write_str_gives l.initial.f bs l.f
     × (bs ++ digits_text (iter_left l.bit-iterator) ≡ digits_text (iter_left l.initial.bit-iterator)))
 
--- so many bits are still to come
+-- how many bits are still to come
 abbrev pub decreases-loop-bit : goal.decreases-loop-bit
 decreases-loop-bit g l = length (iter_left l.bit-iterator)

@@ -11,6 +11,6 @@ invariant-loop-bit g l =
     IsFlush l.initial.f → (bs : List ℕ) × (HasWrittenStyled g.W.Write.write_str_gives l.initial.f bs l.f
     × (bs ++ rest_text 10 false (map digit_value (iter_left l.bit-iterator)) ≡ rest_text 10 false (map digit_value (iter_left l.initial.bit-iterator))))
 
--- so many bits are still to come
+-- how many bits are still to come
 abbrev pub decreases-loop-bit : goal.decreases-loop-bit
 decreases-loop-bit g l = length (iter_left l.bit-iterator)

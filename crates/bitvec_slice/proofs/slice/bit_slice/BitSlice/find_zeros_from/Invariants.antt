@@ -3,7 +3,7 @@ use Rattle.bitvec_slice.specs.BitSlice.{slice_bits}
 use Rattle.bitvec_slice.specs.Patterns.{AreFreeFrom}
 use Rattle.bitvec_slice.proofs.slice.bit_slice.BitSlice.find_zeros_from.Given as goal
 
--- no multiple before `from` is one from which on so many bits are zero
+-- no multiple before `from` is one from which on `count` bits are zero
 abbrev pub invariant-loop-from : goal.invariant-loop-from
 invariant-loop-from g l = (l.start ≤ l.from) × ((k : ℕ) → k < l.from → ¬ AreFreeFrom (slice_bits l.self) l.start l.count l.multiple_of k)
 
