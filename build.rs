@@ -10,12 +10,12 @@ use std::process::ExitCode;
 use std::{env, fs, io};
 use strip::Way;
 
-/// The crate of the library whose functions this crate calls, though they are private to its
-/// modules. With those below it, it is the library.
-const TOP: &str = "bitvec_c";
+/// The crate of the library whose functions this crate calls. With those below it, it is the
+/// library.
+const TOP: &str = "bitvec_call";
 
-/// The crates that are stripped for no test: what times.
-const LEFT_OUT: [&str; 1] = ["bench"];
+/// The crates that are stripped for no test: what times, and the exports for C.
+const LEFT_OUT: [&str; 2] = ["bench", "bitvec_c"];
 
 /// What is not told of made code: what the sources import for their contracts alone, or offer and
 /// this crate does not call, and how their authors write. What the oldest compiler lacks is told.
@@ -98,7 +98,6 @@ fn modules(here: &Path, out: &Path, crates: &[&Crate], list: &str) -> Result<(),
             uses,
             own: name,
             root: "crate::proved",
-            is_open: name == TOP,
         };
         let (from, to) = (here.join(name).join("src"), out.join(name));
         folder(&from, &to, &way)?;

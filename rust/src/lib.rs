@@ -54,4 +54,4 @@ pub use writer::BitWriter;
 /// ```
 /// assert_eq!(worghulen::VERSION, 500);
 /// ```
-pub const VERSION: u32 = proved::bitvec_c::version::VERSION;
+pub const VERSION: u32 = proved::bitvec_call::version::VERSION;

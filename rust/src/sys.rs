@@ -1,4 +1,5 @@
-//! The proved library's calls for words of each width: those that its exports for C are made of.
+//! The proved library's total calls, by words of each width: those of `bitvec_call`, of which its
+//! exports for C are made.
 //!
 //! Each is proved for all arguments, with no condition on their values: it tests them, and answers a
 //! status. No other call of the library is made by this crate, so that a call of the library that
@@ -6,8 +7,8 @@
 
 use crate::proved::bitvec::mem::BitRegister;
 use crate::proved::bitvec::ptr::combine::{And, AndNot, Or, Xor};
-use crate::proved::bitvec_c::edit::{self, Edit};
-use crate::proved::bitvec_c::{
+use crate::proved::bitvec_call::edit::{self, Edit};
+use crate::proved::bitvec_call::{
     bit, combine, convert, copy, exchange, fill, find, next, number, question, read, read_code,
     run, run_in, seek, signed, sorted, write, write_code,
 };

@@ -41,8 +41,7 @@ impl Strip<'_> {
             }
             i += 1;
         }
-        let is_shown = self.way.is_open || self.text(i + 1) == "main";
-        if home == Home::Module && lead.is_private && is_shown {
+        if home == Home::Module && lead.is_private && self.text(i + 1) == "main" {
             self.insert_before(lead.next, "pub(crate) ");
         }
         let outer = self.writer;

@@ -19,8 +19,6 @@ pub(super) struct Lead<'a> {
     pub(super) next: usize,
     /// Whether no visibility is among it.
     pub(super) is_private: bool,
-    /// Whether the item is an export.
-    is_export: bool,
     /// The traits that `derive_where` names.
     derived: Vec<&'a str>,
 }
@@ -65,9 +63,6 @@ impl<'a> Strip<'a> {
     pub(super) fn item(&mut self, start: usize, home: Home) -> Result<usize, Fault> {
         let lead = self.lead(start)?;
         let i = lead.next;
-        if lead.is_export {
-            return self.export(start, i);
-        }
         let end = match self.text(i) {
             "ghost" => return self.ghost(start, i),
             "struct" | "enum" => self.data(i)?,
@@ -79,7 +74,7 @@ impl<'a> Strip<'a> {
             }
             "fn" | "unsafe" => self.function(&lead, home)?,
             "const" if matches!(self.text(i + 1), "fn" | "unsafe") => self.function(&lead, home)?,
-            "mod" => self.module(&lead)?,
+            "mod" => self.module(i)?,
             "use" => self.import(i)?,
             "const" | "static" | "type" => self.value(i)?,
             _ => return self.fault(i, "an item that is not known"),
@@ -93,7 +88,7 @@ impl<'a> Strip<'a> {
 
     /// Reads the documentation, the attributes and the visibility before an item.
     pub(super) fn lead(&mut self, mut i: usize) -> Result<Lead<'a>, Fault> {
-        let (mut is_export, mut derived) = (false, Vec::new());
+        let mut derived = Vec::new();
         self.is_in_example = false;
         while self.is_doc(i) || self.text(i) == "#" {
             if self.is_doc(i) {
@@ -101,10 +96,8 @@ impl<'a> Strip<'a> {
                 i += 1;
                 continue;
             }
-            match self.attribute(i)? {
-                "derive_where" => derived.extend(self.names_within(i + 3)),
-                "unsafe" => is_export = true,
-                _ => {}
+            if self.attribute(i)? == "derive_where" {
+                derived.extend(self.names_within(i + 3));
             }
             i = self.behind(i + 1);
         }
@@ -112,7 +105,6 @@ impl<'a> Strip<'a> {
         Ok(Lead {
             next,
             is_private: next == i,
-            is_export,
             derived,
         })
     }
@@ -161,7 +153,6 @@ impl<'a> Strip<'a> {
             "repr"
                 if self.is(i + 3, &["(", "C", ")", "]"])
                     || self.is(i + 3, &["(", "transparent", ")", "]"]) => {}
-            "unsafe" if self.is(i + 3, &["(", "no_mangle", ")", "]"]) => {}
             _ if KEPT.contains(&name) => {}
             _ => return self.fault(i + 2, "an attribute that is not known"),
         }
@@ -196,21 +187,6 @@ impl<'a> Strip<'a> {
         }
     }
 
-    /// An export of the library for C: the crate calls what it calls.
-    fn export(&mut self, start: usize, i: usize) -> Result<usize, Fault> {
-        if !self.is(i, &["extern", "\"C\"", "fn"]) {
-            return self.fault(i, "an export that is no function");
-        }
-        let end = self.signature(i + 2)?;
-        let body = self.clauses_end(end)?;
-        if self.text(body) != "{" {
-            return self.fault(body, "an export without a body");
-        }
-        let end = self.behind(body);
-        self.cut(start, end);
-        Ok(end)
-    }
-
     /// A ghost: an import, a field or a member. What stands before it goes with it.
     pub(super) fn ghost(&mut self, start: usize, i: usize) -> Result<usize, Fault> {
         let end = self.ghost_end(i)?;
@@ -242,11 +218,7 @@ impl<'a> Strip<'a> {
         }
     }
 
-    fn module(&mut self, lead: &Lead) -> Result<usize, Fault> {
-        let i = lead.next;
-        if self.way.is_open && lead.is_private {
-            self.insert_before(i, "pub(crate) ");
-        }
+    fn module(&mut self, i: usize) -> Result<usize, Fault> {
         match self.text(i + 2) {
             ";" => Ok(i + 3),
             "{" => {
@@ -305,7 +277,7 @@ impl<'a> Strip<'a> {
         let mut i = open + 1;
         while i < close {
             let lead = self.lead(i)?;
-            if lead.is_export || !lead.derived.is_empty() {
+            if !lead.derived.is_empty() {
                 return self.fault(i, "an attribute that is not known at a field");
             }
             if self.text(lead.next) == "ghost" {

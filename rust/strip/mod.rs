@@ -20,7 +20,6 @@
 //! | `impl Model for ..` of ghosts alone | says what a contract sees of a type |
 //! | `Drop` among derives and bounds | leave to drop a value, which every type of Rust gives |
 //! | `impl Drop for ..` that only takes `self` apart, each part by `_` | ends loans that proofs follow: Rust drops each part so too |
-//! | exports, `#[unsafe(no_mangle)]` | the symbols of the library for C, which calls what this crate calls |
 //! | `unsafe` before a block, a function or an `impl` | what is called and implemented stands for safe things here, see below: rustc refuses an unsafe call |
 //!
 //! # What is written otherwise
@@ -35,7 +34,7 @@
 //! | `name!(rt; ..)`, `name![in alloc; ..]` | the macro of this name of the shim |
 //! | `W: fmt::Write` and `Formatter<W>` | `Formatter<'_>`, and calls of functions do not name W |
 //! | the parameter `rt: HostRuntime` of a function that has no other | a `let` in its body: Rust calls `main` and tests with nothing |
-//! | functions and modules with no visibility, in a crate that is open; `main` | `pub(crate)` |
+//! | `main` with no visibility | `pub(crate)` |
 //! | `//!` | `//`, since lines stand before it |
 //! | examples in documentation | texts: they are no Rust |
 
@@ -55,8 +54,6 @@ pub struct Way<'a> {
     pub own: &'a str,
     /// The path of the module that the crates are modules of, with `shim` beside them.
     pub root: &'a str,
-    /// Whether functions and modules without a visibility are made visible to all of the crate.
-    pub is_open: bool,
 }
 
 /// Why a source is not stripped.

@@ -1,110 +1,11 @@
-//! A range of bits combined with one of another memory, whose words and order may be others.
+//! Exports that combine a range of bits with one of another memory, whose order may be another.
 
-ghost use Rattle.std.specs.Prelude.{◌≡◌, ◌+◌, ◌*◌, ◌≤◌, ◌&&◌, ◌||◌, not, length, map};
+ghost use Rattle.std.specs.Prelude.{◌&&◌, ◌||◌, not};
 ghost use Rattle.bitvec.specs.Digit.{exclusive_or};
-ghost use Rattle.bitvec.specs.Memory.{zip_with};
-ghost use Rattle.bitvec.specs.Place.{region_max_bits};
-ghost use Rattle.bitvec_c.specs.Call.{operand, IsCombination};
-ghost use Rattle.bitvec_c.specs.Order.{order_at};
-ghost use Rattle.bitvec_c.specs.Range.{range_bits, RangeBecomes};
+ghost use Rattle.bitvec_call.specs.Call.{operand, IsCombination};
 
-use crate::range::span;
-use crate::status::{LSB0, OK, test_pair};
-use bitvec::mem::BitRegister;
-use bitvec::order::{BitOrder, Lsb0, Msb0};
-use bitvec::ptr::combine::{And, AndNot, Combine, Or, Source, Xor};
-
-// Makes of each bit of a range what `C` makes of it and of the source's, and changes no other bit.
-fn combine_in<C: Combine, R2: BitRegister, O2: BitOrder<R2>, R: BitRegister, O: BitOrder<R>>(
-    source: &[R2],
-    from: usize,
-    target: &mut [R],
-    to: usize,
-    count: usize,
-)
-    requires short { count ≤ region_max_bits }
-    requires source_inside { from + count ≤ length source.now * R2.BITS }
-    requires target_inside { to + count ≤ length target.old * R.BITS }
-    ensures { RangeBecomes R.BITS O.at_of to count
-        (zip_with C.of (range_bits R.BITS O.at_of to count (map R.number target.old))
-        (range_bits R2.BITS O2.at_of from count (map R2.number source.now)))
-        (map R.number target.old) (map R.number target.new) }
-{
-    let here = span::<R, O>(to, count);
-    let there = span::<R2, O2>(from, count);
-    here.combine_from::<C, R2, O2>(target, there, source);
-}
-
-// The same where the source's order is that of a code.
-fn combine_from<C: Combine, R2: BitRegister, R: BitRegister, O: BitOrder<R>>(
-    source_order: u8,
-    source: &[R2],
-    from: usize,
-    target: &mut [R],
-    to: usize,
-    count: usize,
-)
-    requires short { count ≤ region_max_bits }
-    requires source_inside { from + count ≤ length source.now * R2.BITS }
-    requires target_inside { to + count ≤ length target.old * R.BITS }
-    ensures { RangeBecomes R.BITS O.at_of to count
-        (zip_with C.of (range_bits R.BITS O.at_of to count (map R.number target.old))
-        (range_bits R2.BITS (order_at R2.BITS source_order) from count (map R2.number source.now)))
-        (map R.number target.old) (map R.number target.new) }
-{
-    if source_order == LSB0 {
-        combine_in::<C, R2, Lsb0, R, O>(source, from, target, to, count);
-    } else {
-        combine_in::<C, R2, Msb0, R, O>(source, from, target, to, count);
-    }
-}
-
-// The same where both orders are those of codes.
-fn combine_range<C: Combine, R2: BitRegister, R: BitRegister>(
-    source_order: u8,
-    source: &[R2],
-    from: usize,
-    order: u8,
-    target: &mut [R],
-    to: usize,
-    count: usize,
-)
-    requires short { count ≤ region_max_bits }
-    requires source_inside { from + count ≤ length source.now * R2.BITS }
-    requires target_inside { to + count ≤ length target.old * R.BITS }
-    ensures { RangeBecomes R.BITS (order_at R.BITS order) to count
-        (zip_with C.of (range_bits R.BITS (order_at R.BITS order) to count
-        (map R.number target.old))
-        (range_bits R2.BITS (order_at R2.BITS source_order) from count (map R2.number source.now)))
-        (map R.number target.old) (map R.number target.new) }
-{
-    if order == LSB0 {
-        combine_from::<C, R2, R, Lsb0>(source_order, source, from, target, to, count);
-    } else {
-        combine_from::<C, R2, R, Msb0>(source_order, source, from, target, to, count);
-    }
-}
-
-// Combines two ranges where the call's conditions hold, and returns the status.
-fn combine<C: Combine, R2: BitRegister, R: BitRegister>(
-    source_order: u8,
-    source: &[R2],
-    from: usize,
-    order: u8,
-    target: &mut [R],
-    to: usize,
-    count: usize,
-) -> u8
-    ensures { let at = operand R.number R.BITS order to in IsCombination C.of (operand R2.number
-        R2.BITS source_order from source.now) (at target.old) (at target.new) count result }
-{
-    let words = target.len();
-    let status = test_pair::<R2, R>(source_order, source.len(), from, order, words, to, count);
-    if status == OK {
-        combine_range::<C, R2, R>(source_order, source, from, order, target, to, count);
-    }
-    status
-}
+use bitvec::ptr::combine::{And, AndNot, Or, Xor};
+use bitvec_call::combine::combine;
 
 /// Leaves one those bits of a range whose bit in the source is one, both in memories of words of 8
 /// bits, each under an order of its own, and changes no other bit.

@@ -1,59 +1,8 @@
-//! Single bits of a memory that are replaced and exchanged.
+//! Exports that replace and exchange single bits.
 
-ghost use Rattle.std.specs.Prelude.{◌≡◌, ◌*◌, ◌<◌, length, map};
-ghost use Rattle.bitvec.specs.Memory.{bit_of};
-ghost use Rattle.bitvec_c.specs.Call.{operand, IsReplacement, IsExchange};
-ghost use Rattle.bitvec_c.specs.Order.{order_at};
-ghost use Rattle.bitvec_c.specs.Range.{ExchangesBits};
+ghost use Rattle.bitvec_call.specs.Call.{operand, IsReplacement, IsExchange};
 
-use crate::bit::{read, write};
-use crate::status::{OK, test_range, test_ranges};
-use bitvec::mem::BitRegister;
-
-// Writes the bit at a place, and answers the bit before.
-fn replace<R: BitRegister>(
-    order: u8,
-    memory: &mut [R],
-    place: usize,
-    bit: bool,
-    before: &mut bool,
-) -> u8
-    ensures { let at = operand R.number R.BITS order place in IsReplacement (at memory.old)
-        (at memory.new) bit before.old before.new result }
-{
-    let status = test_range::<R>(order, memory.len(), place, 1);
-    if status == OK {
-        *before = read(order, memory, place);
-        write(order, memory, place, bit);
-    }
-    status
-}
-
-// Exchanges the bits at two places, and changes no other bit.
-fn exchange<R: BitRegister>(order: u8, memory: &mut [R], place: usize, other_place: usize)
-    requires first { place < length memory.old * R.BITS }
-    requires second { other_place < length memory.old * R.BITS }
-    ensures { ExchangesBits R.BITS (order_at R.BITS order) place other_place
-        (map R.number memory.old) (map R.number memory.new) }
-{
-    let bit = read(order, memory, place);
-    let other_bit = read(order, memory, other_place);
-    write(order, memory, place, other_bit);
-    write(order, memory, other_place, bit);
-}
-
-// Exchanges the bits at two places where the call's conditions hold, and returns the status.
-fn swap<R: BitRegister>(order: u8, memory: &mut [R], place: usize, other_place: usize) -> u8
-    ensures { let at = operand R.number R.BITS order place in IsExchange (at memory.old)
-        (at memory.new) other_place result }
-{
-    let words = memory.len();
-    let status = test_ranges::<R>(order, words, place, words, other_place, 1);
-    if status == OK {
-        exchange(order, memory, place, other_place);
-    }
-    status
-}
+use bitvec_call::exchange::{replace, swap};
 
 /// Writes the bit at a place of a memory of words of 8 bits, changes no other bit, and answers the
 /// bit that was there.

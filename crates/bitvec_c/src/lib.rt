@@ -1,6 +1,7 @@
-//! Bits in words, for callers in C and in Rust.
+//! Bits in words, for callers in C.
 //!
-//! Each call tests what the library asks of its caller and returns a status: 0, or the first of its
+//! Each export is a call of `bitvec_call` for words of one width, and says its contract again at that
+//! width. It tests what the library asks of its caller and returns a status: 0, or the first of its
 //! conditions that does not hold, and then nothing is changed, but for the room that a run of any
 //! number of spans is lent. A place counts the bits of a memory from 0 on, and a range has the place
 //! of its first bit and a count.
@@ -16,18 +17,13 @@ mod fill;
 mod find;
 mod next;
 mod number;
-mod plain;
 mod question;
-mod range;
 mod read;
 mod read_code;
 mod run;
 mod run_in;
 mod seek;
 mod signed;
-mod sorted;
-mod status;
-mod stream;
 mod version;
 mod write;
 mod write_code;

@@ -2,7 +2,7 @@
 //! the sources do not derive it.
 #![allow(clippy::derivable_impls)]
 
-pub use crate::proved::bitvec_c::plain::{
+pub use crate::proved::bitvec_call::plain::{
     PlainReply as Reply, PlainRequest as Request, PlainSpan as Span,
 };
 

@@ -1,7 +1,0 @@
-use Rattle.bitvec_c.proofs.OrderLemmas.{last_order}
-use Rattle.bitvec_c.proofs.copy.copy_range.Goals as goal
-
-pub returns-else-order-eq-LSB0 : goal.returns-else-order-eq-LSB0
-returns-else-order-eq-LSB0 g c =
-    let is = last_order g.R.BitRegister.BITS g.R.BitRegister.MASK c.args.order c.if-order-eq-LSB0.false g.met.R.BitRegister.mask_is_greatest_index in
-    rw is c.copy_in-else-order-eq-LSB0.ensures

@@ -1,0 +1,11 @@
+use Rattle.std.proofs.Common.{to_z-of_z, FitsSigned, rules}
+use Rattle.std.proofs.lemmas.Bool.{ne_eqb}
+use Rattle.std.specs.Int.{w64}
+use Rattle.bitvec_call.proofs.OrderLemmas.{last_order}
+use Rattle.bitvec_call.proofs.signed.put_number.Goals as goal
+
+pub returns-else-order-eq-LSB0 : goal.returns-else-order-eq-LSB0
+returns-else-order-eq-LSB0 g c =
+    let is = last_order g.R.BitRegister.BITS g.R.BitRegister.MASK c.args.order c.if-order-eq-LSB0.false g.met.R.BitRegister.mask_is_greatest_index in
+    let fits : FitsSigned w64 c.args.number = search rules in
+    rw (is, ne_eqb c.args.order 0 c.if-order-eq-LSB0.false, ← to_z-of_z {w = w64} {z = c.args.number} fits) c.store_in-else-order-eq-LSB0.ensures
