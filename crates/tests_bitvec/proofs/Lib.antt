@@ -1,2 +1,1 @@
-pub mod ElementLemmas
 pub mod SameRunLemmas

@@ -1,14 +1,8 @@
-//! Spans, domains, runs of commands and their laws, by the names that a user writes.
+//! Runs of commands and their laws, and calls of worked examples, by the names that a user writes.
 #![tactic(auto)]
 
 #[cfg(test)]
-mod bytes;
-#[cfg(test)]
-mod ends;
-#[cfg(test)]
 mod examples;
-#[cfg(test)]
-mod isolation;
 #[cfg(test)]
 mod laws;
 #[cfg(test)]
@@ -17,9 +11,5 @@ mod names;
 mod no_memory;
 #[cfg(test)]
 mod prelude;
-#[cfg(test)]
-mod span_laws;
-#[cfg(test)]
-mod texts;
 #[cfg(test)]
 mod traits;

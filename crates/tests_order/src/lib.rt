@@ -1,5 +1,4 @@
-//! Registers, indices, orders, their verifier and what the traits of each of these types are; and a
-//! caller of each domain of a span for writing.
+//! Registers, indices, orders, their verifier and what the traits of each of these types are.
 //!
 //! They are named by the crates that they stand in, so that the tests wait for these alone.
 #![tactic(auto)]
@@ -9,11 +8,7 @@ mod common;
 #[cfg(test)]
 mod examples;
 #[cfg(test)]
-mod filled_domain;
-#[cfg(test)]
 mod index;
-#[cfg(test)]
-mod lent_bits;
 #[cfg(test)]
 mod order;
 #[cfg(test)]

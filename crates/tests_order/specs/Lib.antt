@@ -1,2 +1,0 @@
-pub mod FilledDomain
-pub mod LentBits

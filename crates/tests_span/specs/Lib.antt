@@ -1,0 +1,4 @@
+pub mod Bytes
+pub mod Elements
+pub mod FilledDomain
+pub mod LentBits
