@@ -1,6 +1,7 @@
 //! Callers of the codes and of unary numbers, with what they know of the bits.
 
 ghost use Rattle.std.specs.Prelude.{◌≡◌, ◌*◌, ◌^◌, ◌≤◌, ◌++◌, ◌∷◌, [], true, false, map};
+ghost use Rattle.std.specs.Prelude.{◌<◌, ◌↔◌, IsOk};
 ghost use Rattle.std.specs.Prelude.{MatchOption, MatchResult, IfOk, IfErr, drop, length, replicate};
 ghost use Rattle.bitvec.specs.BitSpan.{span_of, list_by, Becomes};
 ghost use Rattle.bitvec.specs.Memory.{memory_bits};
@@ -49,7 +50,9 @@ fn read_signed_code<R: BitRegister, O: BitOrder<R>>(
 fn code_length<R: BitRegister, O: BitOrder<R>>(
     reader: &mut BitReader<'_, R, O>,
 ) -> Result<usize, ReadError>
-    ensures { IfOk result (λ count. unread reader.new ≡ drop count (unread reader.old)) }
+    ensures { MatchResult result
+        (λ count. unread reader.new ≡ drop count (unread reader.old))
+        (IsCodeRefusal (λ n. 2 ^ 64 ≤ n) (unread reader.old)) }
 {
     let before = reader.position();
     let _: u64 = reader.read_exp_golomb()?;
@@ -118,6 +121,8 @@ fn put_number<R: BitRegister, O: BitOrder<R>>(
 ) -> Result<(), WriteError>
     requires fits { Fits R.BITS (span_of span) (length memory.old) }
     requires few { count ≤ 64 }
+    ensures accepted { IsOk result
+        ↔ ((number < 2 ^ count) × (count ≤ (span_of span).len)) }
     ensures written { IfOk result (λ _. Becomes span O.at_of memory.old memory.new
         (digits_be count number ++ drop (length (digits_be count number))
         (list_by span O.at_of memory.old))) }
@@ -135,6 +140,8 @@ fn put_first<R: BitRegister, O: BitOrder<R>>(
 ) -> Result<(), WriteError>
     requires most { length memory.old * R.BITS ≤ region_max_bits }
     requires few { count ≤ 64 }
+    ensures accepted { IsOk result
+        ↔ ((number < 2 ^ count) × (count ≤ length memory.old * R.BITS)) }
     ensures written { IfOk result (λ _. memory_bits R.BITS O.at_of (map R.number memory.new)
         ≡ digits_be count number ++ drop (length (digits_be count number))
         (memory_bits R.BITS O.at_of (map R.number memory.old))) }

@@ -2,7 +2,7 @@
 //! refuses.
 
 ghost use Rattle.std.specs.Prelude.{◌≡◌, ◌%◌, ◌<◌, ◌≤◌, ◌++◌, ◌∷◌, [], IfOk, MatchResult};
-ghost use Rattle.std.specs.Prelude.{◌↔◌, IsOk};
+ghost use Rattle.std.specs.Prelude.{◌+◌, ◌↔◌, IsOk};
 ghost use Rattle.std.specs.Prelude.{true, false, take, drop, length, replicate};
 ghost use Rattle.bitvec_slice.specs.BitSlice.{slice_bits};
 ghost use Rattle.bitvec_slice.specs.Signed.{signed_of, complement_of};
@@ -52,6 +52,8 @@ fn two_signed<R: BitRegister, O: BitOrder<R>>(
 fn next_byte<R: BitRegister, O: BitOrder<R>>(
     reader: &mut BitReader<'_, R, O>,
 ) -> Result<u8, ReadError>
+    ensures accepted { IsOk result
+        ↔ (to_multiple 8 (bits_read reader.old) + 8 ≤ length (unread reader.old)) }
     ensures { IfOk result (λ _. bits_read reader.new % 8 ≡ 0) }
 {
     reader.skip_to_multiple(8)?;
@@ -84,7 +86,8 @@ fn write_both_signed_ways<R: BitRegister, O: BitOrder<R>>(
     writer: &mut BitWriter<'_, R, O>,
     value: i8,
 ) -> Result<(), WriteError>
-    ensures { IfOk result (λ _. written writer.new ≡ written writer.old
+    ensures accepted { IsOk result ↔ (16 ≤ length (room writer.old)) }
+    ensures bits { IfOk result (λ _. written writer.new ≡ written writer.old
         ++ digits_be 8 (complement_of 8 value) ++ digits_le 8 (complement_of 8 value)) }
 {
     writer.write_signed_be(8, value)?;
@@ -97,7 +100,9 @@ fn write_marked<R: BitRegister, O: BitOrder<R>, R2: BitRegister, O2: BitOrder<R2
     count: usize,
     part: BitSlice<'_, R2, O2>,
 ) -> Result<(), WriteError>
-    ensures { IfOk result (λ _. written writer.new ≡ written writer.old ++ (true ∷ [])
+    ensures accepted { IsOk result
+        ↔ (count + length (slice_bits part.entry) + 2 ≤ length (room writer.old)) }
+    ensures bits { IfOk result (λ _. written writer.new ≡ written writer.old ++ (true ∷ [])
         ++ (replicate count true ++ (false ∷ [])) ++ slice_bits part.entry) }
 {
     writer.write_bit(true)?;
@@ -111,6 +116,8 @@ fn leave_to_multiple<R: BitRegister, O: BitOrder<R>>(
     of: usize,
 ) -> Result<(), WriteError>
     requires { 0 < of }
+    ensures accepted { IsOk result
+        ↔ (to_multiple of (bits_written writer.old) ≤ length (room writer.old)) }
     ensures multiple { IfOk result (λ _. bits_written writer.new % of ≡ 0) }
     ensures bits { let count = to_multiple of (bits_written writer.old)
         in IfOk result (λ _. written writer.new
