@@ -13,8 +13,6 @@ mod orders;
 #[cfg(test)]
 mod parts;
 #[cfg(test)]
-mod refusing;
-#[cfg(test)]
 mod sizes;
 #[cfg(test)]
 mod writers;

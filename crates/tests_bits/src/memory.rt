@@ -1,11 +1,11 @@
 //! What the program prints where requests for memory are refused.
 
 use super::calls::{FIRST, USAGE, words};
-use super::refusing::{Plan, Refusing};
 use super::writers::Slow;
 use bits_lib::answer::answer;
 use std::alloc::{AllocError, Global};
 use std::test::Fail;
+use tests_refusing::refusing::{Plan, Refusing};
 
 // What a call came to: its status and its text, and whether a request for memory was refused.
 #[derive(Drop)]

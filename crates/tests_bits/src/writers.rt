@@ -1,12 +1,12 @@
 //! Writers that take little at a time or fail, and what the program prints through them.
 
 use super::calls::{FIRST, calls, words};
-use super::refusing::{Plan, Refusing};
 use bits_lib::answer::answer;
 use std::alloc::{AllocError, Global};
 use std::io;
 use std::io::Write;
 use std::test::Fail;
+use tests_refusing::refusing::{Plan, Refusing};
 
 /// A writer that takes at most `step` bytes a call, and fails once it has taken `limit`.
 #[derive(Drop)]

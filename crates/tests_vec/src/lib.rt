@@ -12,8 +12,6 @@ mod memory;
 #[cfg(test)]
 mod prelude;
 #[cfg(test)]
-mod refusing;
-#[cfg(test)]
 mod sets;
 #[cfg(test)]
 mod texts;

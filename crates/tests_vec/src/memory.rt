@@ -1,13 +1,13 @@
 //! Each request for memory of each call that asks for some, refused in turn: a call that refuses
 //! leaves its vectors as they were.
 
-use super::refusing::{Plan, Refusing};
 use bitvec::mem::BitRegister;
 use bitvec::order::{BitOrder, Lsb0, Msb0};
 use bitvec_vec::vec::{BitVec, FromTextError};
 use std::alloc::{AllocError, Allocator, Global};
 use std::process::Abort;
 use std::test::Fail;
+use tests_refusing::refusing::{Plan, Refusing};
 
 // The digits of a vector of 64 bits, but for the first, which is one.
 const REST: &str = "011000110110001101100011011000110110001101100011011000110110001";

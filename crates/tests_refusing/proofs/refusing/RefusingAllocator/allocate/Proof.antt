@@ -38,15 +38,15 @@ use denote.Triple.Spec.{triple_of}
 use denote.Triple.Statement.{Contract, Triple}
 use denote.Triple.Table.{entered, cited}
 use denote.Triple.Walked.{Stays, stay_dropped, walk_of, ends_at, walked, Goes-dropped, walk_Meets}
-use Rattle.tests_vec.specs.contracts.refusing.Plan as plan
-use Rattle.tests_vec.specs.contracts.refusing.Plan.refuses as refuses
-use Rattle.tests_vec.proofs.refusing.Plan.refuses.Symbol as refuses_symbol
-use Rattle.tests_vec.proofs.refusing.Plan.refuses.Met as refuses_met
-use Rattle.tests_vec.specs.contracts.refusing.Refusing as refusing
-use Rattle.tests_vec.specs.contracts.refusing.RefusingAllocator.allocate as f
-use Rattle.tests_vec.specs.contracts.refusing.RefusingAllocator.allocate.Key as key
-use Rattle.tests_vec.proofs.refusing.RefusingAllocator.allocate.Statement as stated
-use Rattle.tests_vec.proofs.refusing.RefusingAllocator.allocate.Code as code
+use Rattle.tests_refusing.specs.contracts.refusing.Plan as plan
+use Rattle.tests_refusing.specs.contracts.refusing.Plan.refuses as refuses
+use Rattle.tests_refusing.proofs.refusing.Plan.refuses.Symbol as refuses_symbol
+use Rattle.tests_refusing.proofs.refusing.Plan.refuses.Met as refuses_met
+use Rattle.tests_refusing.specs.contracts.refusing.Refusing as refusing
+use Rattle.tests_refusing.specs.contracts.refusing.RefusingAllocator.allocate as f
+use Rattle.tests_refusing.specs.contracts.refusing.RefusingAllocator.allocate.Key as key
+use Rattle.tests_refusing.proofs.refusing.RefusingAllocator.allocate.Statement as stated
+use Rattle.tests_refusing.proofs.refusing.RefusingAllocator.allocate.Code as code
 
 -- what follows a body's first statement
 abbrev rest : Body → Body
@@ -163,5 +163,5 @@ allocate_spec 𝓤 𝓛 𝓜 𝓡 wired Y L g d d' met _ =
     (walk_Meets 𝓛 (ended Z) (stayed Z) (Goes-dropped 𝓛 2 (handle Z) yes (λ κs x w. refl), (number, (number, tt))) c (WpFn 𝓤 𝓛.H 𝓣.C 𝓣.Λ (function Z)) (WpFn-mono 𝓤 𝓛.H 𝓛.laws 𝓣 (function Z))
     (walked 𝓛 (ended Z) (stayed Z) c (WpFn 𝓤 𝓛.H 𝓣.C 𝓣.Λ (function Z)) (λ κs. (shr_vals, (uint_vals w64, (uint_vals w64, tt)))) (λ κs. ((λ r vs told. told.0), (uint_Tells w64, (uint_Tells w64, tt))))
     (λ κs qs bounds a τ are. walk Z 𝓛 𝓜.mem 𝓡.returns 𝓣 (met.allocate d')
-    (cited 𝓤 𝓛.H _ 𝓜 𝓡 𝓡.env refuses_symbol.name (𝓡.env refuses_symbol.name) refl (refuses_met.met 𝓤 𝓛 𝓜 𝓡 (code.calls-tests_vec::refusing::Plan::refuses 𝓡.env wired)))
+    (cited 𝓤 𝓛.H _ 𝓜 𝓡 𝓡.env refuses_symbol.name (𝓡.env refuses_symbol.name) refl (refuses_met.met 𝓤 𝓛 𝓜 𝓡 (code.calls-tests_refusing::refusing::Plan::refuses 𝓡.env wired)))
     κs.0 κs.1.0 qs.0 qs.1.0 bounds.0 a.0 a.1.0 a.1.1.0 τ are.1.0.1 are.1.1.0.1)))

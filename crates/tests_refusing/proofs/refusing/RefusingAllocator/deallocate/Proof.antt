@@ -34,11 +34,11 @@ use denote.Triple.Spec.{triple_of}
 use denote.Triple.Statement.{Triple}
 use denote.Triple.Table.{entered}
 use denote.Triple.Walked.{Stays, stay_dropped, walk_of, ends_at, walked, Goes-dropped, walk_Meets}
-use Rattle.tests_bits.specs.contracts.refusing.Refusing as refusing
-use Rattle.tests_bits.specs.contracts.refusing.RefusingAllocator.deallocate as f
-use Rattle.tests_bits.specs.contracts.refusing.RefusingAllocator.deallocate.Key as key
-use Rattle.tests_bits.proofs.refusing.RefusingAllocator.deallocate.Statement as stated
-use Rattle.tests_bits.proofs.refusing.RefusingAllocator.deallocate.Code as code
+use Rattle.tests_refusing.specs.contracts.refusing.Refusing as refusing
+use Rattle.tests_refusing.specs.contracts.refusing.RefusingAllocator.deallocate as f
+use Rattle.tests_refusing.specs.contracts.refusing.RefusingAllocator.deallocate.Key as key
+use Rattle.tests_refusing.proofs.refusing.RefusingAllocator.deallocate.Statement as stated
+use Rattle.tests_refusing.proofs.refusing.RefusingAllocator.deallocate.Code as code
 
 module _ (Z : Al) where
   abbrev args : Args

@@ -1,0 +1,4 @@
+//! An allocator that refuses some of the requests for memory, for tests.
+#![tactic(auto)]
+
+pub mod refusing;
