@@ -5,6 +5,7 @@ ghost use Rattle.std.specs.Prelude.{length, map, slice_get};
 ghost use Rattle.bitvec.specs.BitSpan.{span_of, list_by};
 ghost use Rattle.bitvec.specs.Digit.{digit};
 ghost use Rattle.bitvec.specs.Span.{Fits, element};
+ghost use Rattle.bitvec_slice.specs.Bits.{IsLastOf};
 ghost use Rattle.bitvec_slice.specs.Lengths.{HasLength};
 
 use crate::field::word_met;

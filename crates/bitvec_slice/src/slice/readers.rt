@@ -5,7 +5,7 @@ ghost use Rattle.std.specs.Prelude.{IsSome, IfSome, true, false, min, length, ta
 ghost use Rattle.std.specs.Prelude.{slice_range};
 ghost use Rattle.bitvec.specs.Span.{element, span_upto, span_from, span_range};
 ghost use Rattle.bitvec.specs.Truths.{ones_in, AllAre, IsFirst};
-ghost use Rattle.bitvec_slice.specs.Bits.{zeros_in, IsLast, IsLastOf, BeginsWith, EndsWith};
+ghost use Rattle.bitvec_slice.specs.Bits.{zeros_in, IsLast, IsLastOf, BeginsWith, EndsWith, IsFirstFree};
 ghost use Rattle.bitvec_slice.specs.Bits.{AllBetween, IsFirstBetween, IsLastBetween};
 ghost use Rattle.bitvec_slice.specs.Bits.{ones_between, zeros_between};
 ghost use Rattle.bitvec_slice.specs.SameBits.{AreSameBits};
