@@ -14,6 +14,7 @@ pub mod ListCountLemmas
 mod ListEdits
 mod NextLemmas
 mod NumberWordLemmas
+pub mod OneCountLemmas
 pub mod OnesLemmas
 mod PartMasks
 pub mod PatternLemmas
