@@ -8,7 +8,7 @@ use Rattle.bitvec.specs.Order.{IsOneToOne}
 use Rattle.bitvec.specs.Parts.{part_head, part_tail}
 use Rattle.bitvec.specs.Place.{words_met}
 use Rattle.bitvec.specs.Span.{Span, list_of, word_of}
-use Rattle.bitvec.proofs.IndexLemmas.{ptr_place, digit-number_of_at}
+use Rattle.bitvec.proofs.IndexLemmas.{index_at, digit-number_of_at}
 use Rattle.bitvec.proofs.PartLemmas.{value_of-part_of}
 
 -- a word of some words of a memory
@@ -23,7 +23,7 @@ inner_index number words from count q less =
 pub inner_digits : (bits : ℕ) (at : ℕ → ℕ) (span : Span) (words : List ℕ) (k p : ℕ) → IsOneToOne bits at → span.head < bits → 0 < k → k + 1 < words_met bits span.head span.len → p < bits
     → digit (slice_index words (nat_abs span.word + k)) p ≡ digit (word_of bits at span.head (list_of bits at span words) k) p
 inner_digits bits at span words k p law in_head later before small =
-    let r = ptr_place bits at law p small in
+    let r = index_at bits at law p small in
     let w : ℕ = slice_index words (nat_abs span.word + k) in
     let test : ℕ → Bool = λ i. nat_le (part_head span.head k) i && nat_lt i (part_tail bits span.head span.len k) && digit (slice_index words (nat_abs span.word + k)) (at i) in
     let whole : (nat_le (part_head span.head k) r.0 && nat_lt r.0 (part_tail bits span.head span.len k) && digit (slice_index words (nat_abs span.word + k)) (at r.0)) ≡ digit (slice_index words (nat_abs span.word + k)) (at r.0) =

@@ -1,20 +1,22 @@
 -- The list of a whole memory, the lists of a slice's parts, and the list of words that are all zero.
-use Rattle.std.proofs.Common.{◌≡◌, ℕ, ◌+◌, ◌*◌, ◌-◌, ◌/◌, ◌%◌, ◌≤◌, Bool, false, List, ◌++◌, length, get_or, take, drop, replicate, sym, ap, subst, ◌∙◌, inl, inr, arith}
+use Rattle.std.proofs.Common.{◌≡◌, ℕ, ◌+◌, ◌*◌, ◌-◌, ◌/◌, ◌%◌, ◌<◌, ◌≤◌, Bool, false, List, ◌++◌, length, get_or, take, drop, replicate, refl, sym, ap, subst, ◌∙◌, inl, inr, arith}
 use Rattle.std.specs.Prelude.{pos, nat_abs}
 use Rattle.std.proofs.Math.Seq.{take-append_seam, drop-append_seam}
 use Rattle.std.proofs.lemmas.Bool.{cases_eq, cases_lt}
 use Rattle.std.proofs.lemmas.Int.{ints}
 use Rattle.std.proofs.lemmas.List.{get_or_past, get_or-replicate, length-replicate}
-use Rattle.std.proofs.lemmas.Nat.{div-add-mod'}
+use Rattle.std.proofs.lemmas.Nat.{div-add-mod', mod_below}
+use Rattle.std.proofs.Math.Nat.{mul-le-mul_right}
 use Rattle.bitvec.specs.Digit.{digit}
 use Rattle.bitvec.specs.Memory.{bit_of, memory_bits}
 use Rattle.bitvec.specs.Place.{words_met}
-use Rattle.bitvec.specs.Span.{Span, Fits, list_of, span_upto, front_span}
+use Rattle.bitvec.specs.Span.{Span, Fits, list_of, span_upto, span_from, front_span}
 use Rattle.bitvec.proofs.CopyLemmas.{word_within}
 use Rattle.bitvec.proofs.DigitLemmas.{digit-zero}
 use Rattle.bitvec.proofs.MemoryLemmas.{tabulate-from_elements, tabulate_same}
 use Rattle.bitvec.proofs.PartLemmas.{length-list_of}
 use Rattle.bitvec.proofs.PlaceLemmas.{words_met-none, words_met-some}
+use Rattle.bitvec.proofs.SplitLemmas.{parts-lists}
 
 met_whole : (bits words count : ℕ) → count ≤ words * bits → words_met bits 0 count ≤ words
 met_whole bits words count h =
@@ -55,6 +57,26 @@ module _ (bits : ℕ) (at : ℕ → ℕ) (first second span : Span) (words : Lis
 
   pub list_of-back : list_of bits at second words ≡ drop mid (list_of bits at span words)
   list_of-back = sym (ap (drop mid) (sym joined) ∙ drop_first (list_of bits at first words) (list_of bits at second words) mid long)
+
+-- the span of the first bits lies in no memory that has fewer
+pub front_inside : (bits words len : ℕ) → 0 < bits → Fits bits (front_span len) words → len ≤ words * bits
+front_inside bits words len some fits =
+    elim (cases_eq len 0) [
+      | inl none ↦ omega (arith, none)
+      | inr other ↦ (
+          let met = words_met-some bits 0 len (omega arith) in
+          let row : ((0 + len - 1) / bits + 1) * bits ≤ words * bits = mul-le-mul_right bits (omega (arith, ints, fits.1, met)) in
+          omega (arith, row, div-add-mod' (0 + len - 1) bits, mod_below (0 + len - 1) bits some))
+    ]
+
+-- the list of the span of the first bits has the first of all bits
+pub first_bits : (bits : ℕ) (at : ℕ → ℕ) (span : Span) (words : List ℕ) (len count : ℕ) → 0 < bits → span ≡ front_span len → length words ≡ count → len ≤ count * bits
+    → list_of bits at span words ≡ take len (memory_bits bits at words)
+first_bits bits at span words len count some is many within =
+    let all : Span = front_span (count * bits) in
+    ap (λ (s : Span). list_of bits at s words) is
+    ∙ list_of-front bits at (front_span len) (span_from bits all len) all words len refl (parts-lists bits all len some within at words (omega (arith, ints)))
+    ∙ ap (take len) (list_of_whole bits at all words count refl many)
 
 zero_word : (n k : ℕ) → let none : ℕ = 0 in get_or (replicate n none) k none ≡ none
 zero_word n k =

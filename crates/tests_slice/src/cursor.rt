@@ -35,8 +35,7 @@ impl<'a, R: BitRegister, O: BitOrder<R>> Cursor<'a, R, O> {
     /// The next `count` bits, and `None` where fewer are left, and then the cursor stays.
     fn take(&mut self, count: usize) -> Option<BitSlice<'a, R, O>>
         ensures some { IsSome result ↔ (count ≤ length (cursor_left self.old)) }
-        ensures taken { IfSome result (λ part. slice_bits part ≡ take count (cursor_left self.old))
-            }
+        ensures taken { IfSome result (λ part. slice_bits part ≡ take count (cursor_left self.old)) }
         ensures left { MatchOption result (self.new ≡ self.old)
             (λ _. cursor_left self.new ≡ drop count (cursor_left self.old)) }
     {

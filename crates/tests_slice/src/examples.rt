@@ -400,3 +400,13 @@ fn a_whole_word(rt: HostRuntime) {
     assert_eq!(rt; slice.whole_word(1), 0xA5);
     assert_eq!(rt; memory, [0x00, 0xA5, 0x00]);
 }
+
+#[test]
+fn the_first_bits(rt: HostRuntime) -> Result<(), Fail> {
+    let words = [0xFFu8, 0x0F];
+    let front = BitSlice::<u8, Lsb0>::front(&words, 12).ok_or("too few")?;
+    assert_eq!(rt; front.len(), 12);
+    assert!(rt; front.all());
+    assert!(rt; BitSlice::<u8, Lsb0>::front(&words, 17).is_none());
+    Ok(())
+}

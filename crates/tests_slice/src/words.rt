@@ -30,8 +30,7 @@ fn clear_word<R: BitRegister, O: BitOrder<R>>(bits: &mut BitSliceMut<'_, R, O>, 
 /// A word, where a slice has it whole.
 fn word_of<R: BitRegister, O: BitOrder<R>>(bits: BitSlice<'_, R, O>, k: usize) -> Option<R>
     ensures { MatchOption result (¬ HasWord R.BITS (slice_span bits.entry) k) (λ word. HasElements
-        R.BITS O.at_of (slice_span bits.entry) k (R.number word) (element (slice_bits bits.entry)))
-        }
+        R.BITS O.at_of (slice_span bits.entry) k (R.number word) (element (slice_bits bits.entry))) }
 {
     if bits.has_word(k) {
         Some(bits.whole_word(k))

@@ -45,8 +45,7 @@ impl<'a, R: BitRegister, O: BitOrder<R>> BitSliceMut<'a, R, O> {
     pub fn fill_range(&mut self, from: usize, to: usize, bit: bool)
         requires ordered { from ≤ to }
         requires inside { to ≤ lent_len self.old }
-        ensures bits { BecomesBits self.old self.new (with_filled (lent_bits self.old) from to bit)
-            }
+        ensures bits { BecomesBits self.old self.new (with_filled (lent_bits self.old) from to bit) }
         ensures filled { AllBetween bit (lent_bits self.new) from to }
         ensures beside { KeepsBeside from to (lent_bits self.old) (lent_bits self.new) }
     {
