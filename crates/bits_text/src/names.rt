@@ -40,7 +40,8 @@ pub fn answer_at<C: Call>(order: &str, register: &str, call: &C) -> Option<C::An
     }
 }
 
-fn under<R: BitRegister, C: Call>(order: &str, call: &C) -> Option<C::Answer>
+/// The answer of a call for the order of this name, or `None` where it is no name.
+pub fn under<R: BitRegister, C: Call>(order: &str, call: &C) -> Option<C::Answer>
     ensures names { IsSome result ↔ IsOrderName order.now }
     ensures answer { IfSome result (C.answers call.now R.name (named_position order.now R.BITS)) }
 {

@@ -7,8 +7,7 @@
 use crate::answer::{Answer, Text};
 use crate::spans::span_at;
 use crate::values::{Value, named, place_value};
-use bits_text::hilo::HiLo;
-use bits_text::names::Call;
+use bits_text::names::{Call, under};
 use bitvec::mem::BitRegister;
 use bitvec::order::{BitOrder, Lsb0, Msb0};
 use bitvec::ptr::span::BitSpan;
@@ -44,16 +43,6 @@ fn first_answer_at<C: Call>(order: &str, register: &str, call: &C) -> Option<C::
     match register {
         "u8" => under::<u8, C>(order, call),
         "u64" => under::<u64, C>(order, call),
-        _ => None,
-    }
-}
-
-// The same for an order.
-fn under<R: BitRegister, C: Call>(order: &str, call: &C) -> Option<C::Answer> {
-    match order {
-        "lsb0" => Some(call.at::<R, Lsb0>()),
-        "msb0" => Some(call.at::<R, Msb0>()),
-        "hilo" => Some(call.at::<R, HiLo>()),
         _ => None,
     }
 }
