@@ -7,11 +7,13 @@
 ghost use Rattle.std.specs.Prelude.{◌≡◌, ◌-◌, ◌<◌, ◌&&◌, ◌||◌, ℕ, not};
 ghost use Rattle.bitvec.specs.Digit.{digit, exclusive_or};
 
-use bitvec::{domain, index, mem, order, ptr, run};
 use bitvec_array::array;
 use bitvec_array::prelude::*;
-use bitvec_slice::{field, slice};
+use bitvec_slice::slice;
 use std::marker::PhantomData;
+use tests_names::names::{
+    Commands, Indices, Iterators, Parts, PartsMut, Places, Slices, have_traits,
+};
 
 fn position_in_lsb0<R: BitRegister>(index: BitIdx<R>) -> BitPos<R>
     ensures { result ≡ index }
@@ -77,17 +79,7 @@ fn indices<R: BitRegister>(
             BitElement<R>,
         ),
     >,
-) -> PhantomData<
-    (
-        index::BitIdx<R>,
-        index::BitIdxError<R>,
-        index::BitEnd<R>,
-        index::BitPos<R>,
-        index::BitSel<R>,
-        index::BitMask<R>,
-        mem::BitElement<R>,
-    ),
-> {
+) -> PhantomData<Indices<R>> {
     of
 }
 
@@ -100,14 +92,7 @@ fn places<R: BitRegister, O>(
             BitSpanError<R>,
         ),
     >,
-) -> PhantomData<
-    (
-        ptr::single::BitPtr<R, O>,
-        ptr::range::BitPtrRange<R, O>,
-        ptr::span::BitSpan<R, O>,
-        ptr::span::BitSpanError<R>,
-    ),
-> {
+) -> PhantomData<Places<R, O>> {
     of
 }
 
@@ -120,14 +105,7 @@ fn parts<'a, R: BitRegister, O>(
             BitWords<'a, R, O>,
         ),
     >,
-) -> PhantomData<
-    (
-        domain::Domain<'a, R, O>,
-        domain::BitDomain<'a, R, O>,
-        domain::PartialElement<'a, R, O>,
-        domain::BitWords<'a, R, O>,
-    ),
-> {
+) -> PhantomData<Parts<'a, R, O>> {
     of
 }
 
@@ -140,26 +118,17 @@ fn parts_for_writing<'a, R: BitRegister, O>(
             BitWordsMut<'a, R, O>,
         ),
     >,
-) -> PhantomData<
-    (
-        domain::DomainMut<'a, R, O>,
-        domain::BitDomainMut<'a, R, O>,
-        domain::PartialElementMut<'a, R, O>,
-        domain::BitWordsMut<'a, R, O>,
-    ),
-> {
+) -> PhantomData<PartsMut<'a, R, O>> {
     of
 }
 
-fn commands<R>(
-    of: PhantomData<(Command<R>, Request<R>, Reply<R>)>,
-) -> PhantomData<(run::Command<R>, run::Request<R>, run::Reply<R>)> {
+fn commands<R>(of: PhantomData<(Command<R>, Request<R>, Reply<R>)>) -> PhantomData<Commands<R>> {
     of
 }
 
 fn slices<'a, R: BitRegister, O: BitOrder<R>>(
     of: PhantomData<(BitSlice<'a, R, O>, TextError)>,
-) -> PhantomData<(slice::BitSlice<'a, R, O>, slice::TextError)> {
+) -> PhantomData<Slices<'a, R, O>> {
     of
 }
 
@@ -182,69 +151,22 @@ fn iterators<'a, R: BitRegister, O: BitOrder<R>>(
             RChunks<'a, R, O>,
         ),
     >,
-) -> PhantomData<
-    (
-        slice::Iter<'a, R, O>,
-        slice::IterOnes<'a, R, O>,
-        slice::IterZeros<'a, R, O>,
-        slice::IterRuns<'a, R, O>,
-        slice::Windows<'a, R, O>,
-        slice::Chunks<'a, R, O>,
-        slice::ChunksExact<'a, R, O>,
-        slice::RChunks<'a, R, O>,
-    ),
-> {
+) -> PhantomData<Iterators<'a, R, O>> {
     of
 }
 
-// What has a trait by its own name, and by the line's.
+// The traits.
 
-fn has_positions<R: mem::BitRegister, O: order::BitAt<R>>(of: PhantomData<(R, O)>) -> bool {
-    true
-}
-
-fn has_positions_by_name<R: BitRegister, O: BitAt<R>>(of: PhantomData<(R, O)>) -> bool {
-    has_positions(of)
-}
-
-fn is_candidate<R: mem::BitRegister, O: order::OrderCandidate<R>>(of: PhantomData<(R, O)>) -> bool {
-    true
-}
-
-fn is_candidate_by_name<R: BitRegister, O: OrderCandidate<R>>(of: PhantomData<(R, O)>) -> bool {
-    is_candidate(of)
-}
-
-fn is_order<R: mem::BitRegister, O: order::BitOrder<R>>(of: PhantomData<(R, O)>) -> bool {
-    true
-}
-
-fn is_order_by_name<R: BitRegister, O: BitOrder<R>>(of: PhantomData<(R, O)>) -> bool {
-    is_order(of)
-}
-
-fn is_sequential<R: mem::BitRegister, O: field::Sequential<R>>(of: PhantomData<(R, O)>) -> bool {
-    true
-}
-
-fn is_sequential_by_name<R: BitRegister, O: Sequential<R>>(of: PhantomData<(R, O)>) -> bool {
-    is_sequential(of)
-}
-
-fn is_signed<I: field::SignedNumber>(of: PhantomData<I>) -> bool {
-    true
-}
-
-fn is_signed_by_name<I: SignedNumber>(of: PhantomData<I>) -> bool {
-    is_signed(of)
-}
-
-fn combines<C: ptr::combine::Combine>(of: PhantomData<C>) -> bool {
-    true
-}
-
-fn combines_by_name<C: Combine>(of: PhantomData<C>) -> bool {
-    combines(of)
+fn traits<
+    R: BitRegister,
+    A: BitAt<R>,
+    B: OrderCandidate<R>,
+    C: BitOrder<R>,
+    D: Sequential<R>,
+    N: SignedNumber,
+    F: Combine,
+>() {
+    have_traits::<R, A, B, C, D, N, F>()
 }
 
 // The traits of constants are those by which the constants are read.

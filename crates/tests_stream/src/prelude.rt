@@ -7,12 +7,15 @@
 ghost use Rattle.std.specs.Prelude.{◌≡◌, ◌-◌, ◌<◌, ◌&&◌, ◌||◌, ℕ, not};
 ghost use Rattle.bitvec.specs.Digit.{digit, exclusive_or};
 
-use bitvec::ptr::{combine, range, single, span};
-use bitvec::{domain, index, mem, order, run};
+use bitvec::ptr::{range, single, span};
+use bitvec::{index, mem, order};
 use bitvec_slice::{field, slice};
 use bitvec_stream::prelude::*;
 use bitvec_stream::{error, reader, writer};
 use std::marker::PhantomData;
+use tests_names::names::{
+    Commands, Indices, Iterators, Parts, PartsMut, Places, Slices, have_traits,
+};
 
 // The orders and the operators.
 
@@ -90,9 +93,68 @@ fn writer_type<'a, R: BitRegister, O: BitOrder<R>>(
     of
 }
 
-fn slice_type<'a, R: BitRegister, O: BitOrder<R>>(
-    of: PhantomData<BitSlice<'a, R, O>>,
-) -> PhantomData<slice::BitSlice<'a, R, O>> {
+fn indices<R: BitRegister>(
+    of: PhantomData<
+        (
+            BitIdx<R>,
+            BitIdxError<R>,
+            BitEnd<R>,
+            BitPos<R>,
+            BitSel<R>,
+            BitMask<R>,
+            BitElement<R>,
+        ),
+    >,
+) -> PhantomData<Indices<R>> {
+    of
+}
+
+fn places<R: BitRegister, O>(
+    of: PhantomData<
+        (
+            BitPtr<R, O>,
+            BitPtrRange<R, O>,
+            BitSpan<R, O>,
+            BitSpanError<R>,
+        ),
+    >,
+) -> PhantomData<Places<R, O>> {
+    of
+}
+
+fn parts<'a, R: BitRegister, O>(
+    of: PhantomData<
+        (
+            Domain<'a, R, O>,
+            BitDomain<'a, R, O>,
+            PartialElement<'a, R, O>,
+            BitWords<'a, R, O>,
+        ),
+    >,
+) -> PhantomData<Parts<'a, R, O>> {
+    of
+}
+
+fn parts_for_writing<'a, R: BitRegister, O>(
+    of: PhantomData<
+        (
+            DomainMut<'a, R, O>,
+            BitDomainMut<'a, R, O>,
+            PartialElementMut<'a, R, O>,
+            BitWordsMut<'a, R, O>,
+        ),
+    >,
+) -> PhantomData<PartsMut<'a, R, O>> {
+    of
+}
+
+fn commands<R>(of: PhantomData<(Command<R>, Request<R>, Reply<R>)>) -> PhantomData<Commands<R>> {
+    of
+}
+
+fn slices<'a, R: BitRegister, O: BitOrder<R>>(
+    of: PhantomData<(BitSlice<'a, R, O>, TextError)>,
+) -> PhantomData<Slices<'a, R, O>> {
     of
 }
 
@@ -109,122 +171,13 @@ fn iterators<'a, R: BitRegister, O: BitOrder<R>>(
             IterOnes<'a, R, O>,
             IterZeros<'a, R, O>,
             IterRuns<'a, R, O>,
-        ),
-    >,
-) -> PhantomData<
-    (
-        slice::Iter<'a, R, O>,
-        slice::IterOnes<'a, R, O>,
-        slice::IterZeros<'a, R, O>,
-        slice::IterRuns<'a, R, O>,
-    ),
-> {
-    of
-}
-
-fn pieces<'a, R: BitRegister, O: BitOrder<R>>(
-    of: PhantomData<
-        (
             Windows<'a, R, O>,
             Chunks<'a, R, O>,
             ChunksExact<'a, R, O>,
             RChunks<'a, R, O>,
         ),
     >,
-) -> PhantomData<
-    (
-        slice::Windows<'a, R, O>,
-        slice::Chunks<'a, R, O>,
-        slice::ChunksExact<'a, R, O>,
-        slice::RChunks<'a, R, O>,
-    ),
-> {
-    of
-}
-
-fn domains<'a, R: BitRegister, O: BitOrder<R>>(
-    of: PhantomData<(Domain<'a, R, O>, BitDomain<'a, R, O>)>,
-) -> PhantomData<(domain::Domain<'a, R, O>, domain::BitDomain<'a, R, O>)> {
-    of
-}
-
-fn domain_for_writing<'a>(of: PhantomData<DomainMut<'a>>) -> PhantomData<domain::DomainMut<'a>> {
-    of
-}
-
-fn bit_domain_for_writing<'a>(
-    of: PhantomData<BitDomainMut<'a>>,
-) -> PhantomData<domain::BitDomainMut<'a>> {
-    of
-}
-
-fn words<'a, R: BitRegister, O: BitOrder<R>>(
-    of: PhantomData<(BitWords<'a, R, O>, PartialElement<'a, R, O>)>,
-) -> PhantomData<(domain::BitWords<'a, R, O>, domain::PartialElement<'a, R, O>)> {
-    of
-}
-
-fn words_for_writing<'a, R: BitRegister, O: BitOrder<R>>(
-    of: BitWordsMut<'a, R, O>,
-) -> domain::BitWordsMut<'a, R, O> {
-    of
-}
-
-fn element_for_writing<'a, R: BitRegister, O: BitOrder<R>>(
-    of: PartialElementMut<'a, R, O>,
-) -> domain::PartialElementMut<'a, R, O> {
-    of
-}
-
-fn places<R: BitRegister, O: BitOrder<R>>(
-    of: PhantomData<(BitPtr<R, O>, BitPtrRange<R, O>, BitSpan<R, O>)>,
-) -> PhantomData<
-    (
-        single::BitPtr<R, O>,
-        range::BitPtrRange<R, O>,
-        span::BitSpan<R, O>,
-    ),
-> {
-    of
-}
-
-fn indices<R: BitRegister>(
-    of: PhantomData<
-        (
-            BitIdx<R>,
-            BitIdxError<R>,
-            BitEnd<R>,
-            BitPos<R>,
-            BitSel<R>,
-            BitMask<R>,
-        ),
-    >,
-) -> PhantomData<
-    (
-        index::BitIdx<R>,
-        index::BitIdxError<R>,
-        index::BitEnd<R>,
-        index::BitPos<R>,
-        index::BitSel<R>,
-        index::BitMask<R>,
-    ),
-> {
-    of
-}
-
-fn requests<R: BitRegister>(
-    of: PhantomData<(Command<R>, Request<R>, Reply<R>)>,
-) -> PhantomData<(run::Command<R>, run::Request<R>, run::Reply<R>)> {
-    of
-}
-
-fn others<R: BitRegister>(
-    of: PhantomData<(BitElement<R>, BitSpanError<R>)>,
-) -> PhantomData<(mem::BitElement<R>, span::BitSpanError<R>)> {
-    of
-}
-
-fn text_error(of: PhantomData<TextError>) -> PhantomData<slice::TextError> {
+) -> PhantomData<Iterators<'a, R, O>> {
     of
 }
 
@@ -240,12 +193,6 @@ fn constants<
     E: span::SpanLimits,
 >() {
     has_constants::<A, B, C, D, E>()
-}
-
-fn has_numbers<R: BitRegister, N: SignedNumber, C: Combine>() {}
-
-fn numbers<R: mem::BitRegister, N: field::SignedNumber, C: combine::Combine>() {
-    has_numbers::<R, N, C>()
 }
 
 fn has_orders<
@@ -266,18 +213,14 @@ fn orders<
     has_orders::<R, A, B, C, D>()
 }
 
-fn has_module_orders<
-    R: mem::BitRegister,
-    B: order::OrderCandidate<R>,
-    C: order::BitOrder<R>,
-    D: field::Sequential<R>,
->() {}
-
-fn orders_of_the_line<
-    R: mem::BitRegister,
+fn traits<
+    R: BitRegister,
+    A: BitAt<R>,
     B: OrderCandidate<R>,
     C: BitOrder<R>,
     D: Sequential<R>,
+    N: SignedNumber,
+    F: Combine,
 >() {
-    has_module_orders::<R, B, C, D>()
+    have_traits::<R, A, B, C, D, N, F>()
 }
