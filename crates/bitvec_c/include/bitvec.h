@@ -73,9 +73,6 @@
 extern "C" {
 #endif
 
-/* Returns the version of the archive, to be compared with BITVEC_VERSION. */
-uint32_t bitvec_c_version(void);
-
 /* Where the bit of an index lies in a word: an `order` of every call below. */
 enum bitvec_order {
     BITVEC_LSB0 = 0, /* index i at digit i */
@@ -155,47 +152,16 @@ struct bitvec_reply {
     uint8_t kind; /* an enum bitvec_reply_kind */
 };
 
-/* Copies `count` bits from `source_start` of one memory to `target_start` of another. The two
- * arrays share no word. Both ranges are tested. Costs by words. */
-BITVEC_CHECKED uint8_t bitvec_c_copy_u8(
-    uint8_t order, const uint8_t *source, size_t source_words, size_t source_start, uint8_t *target,
-    size_t target_words, size_t target_start, size_t count);
-BITVEC_CHECKED uint8_t bitvec_c_copy_u16(
-    uint8_t order, const uint16_t *source, size_t source_words, size_t source_start,
-    uint16_t *target, size_t target_words, size_t target_start, size_t count);
-BITVEC_CHECKED uint8_t bitvec_c_copy_u32(
-    uint8_t order, const uint32_t *source, size_t source_words, size_t source_start,
-    uint32_t *target, size_t target_words, size_t target_start, size_t count);
-BITVEC_CHECKED uint8_t bitvec_c_copy_u64(
-    uint8_t order, const uint64_t *source, size_t source_words, size_t source_start,
-    uint64_t *target, size_t target_words, size_t target_start, size_t count);
+/* --------------------------------------- The version ---------------------------------------- */
 
-/* Copies `count` bits from one place to another of one memory. The two ranges may overlap: the
- * target gets the bits as they were before. Both are tested. Costs by words. */
-BITVEC_CHECKED uint8_t bitvec_c_copy_within_u8(
-    uint8_t order, uint8_t *memory, size_t words, size_t source_start, size_t target_start,
-    size_t count);
-BITVEC_CHECKED uint8_t bitvec_c_copy_within_u16(
-    uint8_t order, uint16_t *memory, size_t words, size_t source_start, size_t target_start,
-    size_t count);
-BITVEC_CHECKED uint8_t bitvec_c_copy_within_u32(
-    uint8_t order, uint32_t *memory, size_t words, size_t source_start, size_t target_start,
-    size_t count);
-BITVEC_CHECKED uint8_t bitvec_c_copy_within_u64(
-    uint8_t order, uint64_t *memory, size_t words, size_t source_start, size_t target_start,
-    size_t count);
+/* Returns the version of the archive, to be compared with that of the header, BITVEC_VERSION. */
+uint32_t bitvec_c_version(void);
 
-/* Makes `count` bits from `start` on the same as `bit`. Costs by words. */
-BITVEC_CHECKED uint8_t bitvec_c_fill_u8(
-    uint8_t order, uint8_t *memory, size_t words, size_t start, size_t count, bool bit);
-BITVEC_CHECKED uint8_t bitvec_c_fill_u16(
-    uint8_t order, uint16_t *memory, size_t words, size_t start, size_t count, bool bit);
-BITVEC_CHECKED uint8_t bitvec_c_fill_u32(
-    uint8_t order, uint32_t *memory, size_t words, size_t start, size_t count, bool bit);
-BITVEC_CHECKED uint8_t bitvec_c_fill_u64(
-    uint8_t order, uint64_t *memory, size_t words, size_t start, size_t count, bool bit);
+/* ----------------------------------------- One bit ------------------------------------------ */
 
-/* Writes the bit at a place to `bit`. BITVEC_OUTSIDE: there is no such bit. */
+/* A place names a bit of the memory, or the call refuses with BITVEC_OUTSIDE. */
+
+/* Writes to `bit` the bit at a place. Refuses with BITVEC_NO_ORDER or BITVEC_OUTSIDE. */
 BITVEC_CHECKED uint8_t bitvec_c_get_u8(
     uint8_t order, const uint8_t *memory, size_t words, size_t place, bool *bit) BITVEC_NONNULL(5);
 BITVEC_CHECKED uint8_t bitvec_c_get_u16(
@@ -205,7 +171,7 @@ BITVEC_CHECKED uint8_t bitvec_c_get_u32(
 BITVEC_CHECKED uint8_t bitvec_c_get_u64(
     uint8_t order, const uint64_t *memory, size_t words, size_t place, bool *bit) BITVEC_NONNULL(5);
 
-/* Makes the bit at a place the same as `bit`. BITVEC_OUTSIDE: there is no such bit. */
+/* Makes the bit at a place the same as `bit`. Refuses with BITVEC_NO_ORDER or BITVEC_OUTSIDE. */
 BITVEC_CHECKED uint8_t bitvec_c_set_u8(
     uint8_t order, uint8_t *memory, size_t words, size_t place, bool bit);
 BITVEC_CHECKED uint8_t bitvec_c_set_u16(
@@ -215,23 +181,23 @@ BITVEC_CHECKED uint8_t bitvec_c_set_u32(
 BITVEC_CHECKED uint8_t bitvec_c_set_u64(
     uint8_t order, uint64_t *memory, size_t words, size_t place, bool bit);
 
-/* Writes to `before` the bit at a place, and makes it the same as `bit`. BITVEC_OUTSIDE: there is
- * no such bit. */
+/* Writes to `before` the bit at a place, and makes it the same as `bit`. Refuses with
+ * BITVEC_NO_ORDER or BITVEC_OUTSIDE. */
 BITVEC_CHECKED uint8_t bitvec_c_replace_u8(
-    uint8_t order, uint8_t *memory, size_t words, size_t place, bool bit,
-    bool *before) BITVEC_NONNULL(6);
+    uint8_t order, uint8_t *memory, size_t words, size_t place, bool bit, bool *before)
+    BITVEC_NONNULL(6);
 BITVEC_CHECKED uint8_t bitvec_c_replace_u16(
-    uint8_t order, uint16_t *memory, size_t words, size_t place, bool bit,
-    bool *before) BITVEC_NONNULL(6);
+    uint8_t order, uint16_t *memory, size_t words, size_t place, bool bit, bool *before)
+    BITVEC_NONNULL(6);
 BITVEC_CHECKED uint8_t bitvec_c_replace_u32(
-    uint8_t order, uint32_t *memory, size_t words, size_t place, bool bit,
-    bool *before) BITVEC_NONNULL(6);
+    uint8_t order, uint32_t *memory, size_t words, size_t place, bool bit, bool *before)
+    BITVEC_NONNULL(6);
 BITVEC_CHECKED uint8_t bitvec_c_replace_u64(
-    uint8_t order, uint64_t *memory, size_t words, size_t place, bool bit,
-    bool *before) BITVEC_NONNULL(6);
+    uint8_t order, uint64_t *memory, size_t words, size_t place, bool bit, bool *before)
+    BITVEC_NONNULL(6);
 
-/* Exchanges the bits at two places, which may be the same one. BITVEC_OUTSIDE: there is no such
- * bit. */
+/* Exchanges the bits at two places, which may be the same one. Refuses with BITVEC_NO_ORDER or
+ * BITVEC_OUTSIDE. */
 BITVEC_CHECKED uint8_t bitvec_c_swap_u8(
     uint8_t order, uint8_t *memory, size_t words, size_t place, size_t other_place);
 BITVEC_CHECKED uint8_t bitvec_c_swap_u16(
@@ -241,119 +207,68 @@ BITVEC_CHECKED uint8_t bitvec_c_swap_u32(
 BITVEC_CHECKED uint8_t bitvec_c_swap_u64(
     uint8_t order, uint64_t *memory, size_t words, size_t place, size_t other_place);
 
-/* Writes to `number` the number whose digits the `count` bits from `start` on are; its other
- * digits are 0. The bits that one word has of the range are digits of the number as they are
- * digits of the word, in the same order; those of the range's first word are the lowest or, where
- * `big_endian`, the highest. BITVEC_TOO_WIDE: `count` is past 64. */
-BITVEC_CHECKED uint8_t bitvec_c_load_u8(
-    uint8_t order, bool big_endian, const uint8_t *memory, size_t words, size_t start, size_t count,
-    uint64_t *number) BITVEC_NONNULL(7);
-BITVEC_CHECKED uint8_t bitvec_c_load_u16(
-    uint8_t order, bool big_endian, const uint16_t *memory, size_t words, size_t start,
-    size_t count, uint64_t *number) BITVEC_NONNULL(7);
-BITVEC_CHECKED uint8_t bitvec_c_load_u32(
-    uint8_t order, bool big_endian, const uint32_t *memory, size_t words, size_t start,
-    size_t count, uint64_t *number) BITVEC_NONNULL(7);
-BITVEC_CHECKED uint8_t bitvec_c_load_u64(
-    uint8_t order, bool big_endian, const uint64_t *memory, size_t words, size_t start,
-    size_t count, uint64_t *number) BITVEC_NONNULL(7);
+/* ----------------------------------------- A range ------------------------------------------ */
 
-/* Makes `count` bits from `start` on the lowest digits of a number, so that the load of the same
- * range gives them back. BITVEC_TOO_WIDE: `count` is past 64. */
-BITVEC_CHECKED uint8_t bitvec_c_store_u8(
-    uint8_t order, bool big_endian, uint8_t *memory, size_t words, size_t start, size_t count,
-    uint64_t number);
-BITVEC_CHECKED uint8_t bitvec_c_store_u16(
-    uint8_t order, bool big_endian, uint16_t *memory, size_t words, size_t start, size_t count,
-    uint64_t number);
-BITVEC_CHECKED uint8_t bitvec_c_store_u32(
-    uint8_t order, bool big_endian, uint32_t *memory, size_t words, size_t start, size_t count,
-    uint64_t number);
-BITVEC_CHECKED uint8_t bitvec_c_store_u64(
-    uint8_t order, bool big_endian, uint64_t *memory, size_t words, size_t start, size_t count,
-    uint64_t number);
+/* The range has `count` bits from `start` on. */
 
-/* Writes to `number` the signed number whose two's complement of `count` digits the load of the
- * unsigned number gives; for no bits it is 0. BITVEC_TOO_WIDE: `count` is past 64. */
-BITVEC_CHECKED uint8_t bitvec_c_load_signed_u8(
-    uint8_t order, bool big_endian, const uint8_t *memory, size_t words, size_t start, size_t count,
-    int64_t *number) BITVEC_NONNULL(7);
-BITVEC_CHECKED uint8_t bitvec_c_load_signed_u16(
-    uint8_t order, bool big_endian, const uint16_t *memory, size_t words, size_t start,
-    size_t count, int64_t *number) BITVEC_NONNULL(7);
-BITVEC_CHECKED uint8_t bitvec_c_load_signed_u32(
-    uint8_t order, bool big_endian, const uint32_t *memory, size_t words, size_t start,
-    size_t count, int64_t *number) BITVEC_NONNULL(7);
-BITVEC_CHECKED uint8_t bitvec_c_load_signed_u64(
-    uint8_t order, bool big_endian, const uint64_t *memory, size_t words, size_t start,
-    size_t count, int64_t *number) BITVEC_NONNULL(7);
+/* Makes each bit of a range the same as `bit`. Refuses with BITVEC_NO_ORDER, BITVEC_TOO_LONG or
+ * BITVEC_OUTSIDE. Costs by words. */
+BITVEC_CHECKED uint8_t bitvec_c_fill_u8(
+    uint8_t order, uint8_t *memory, size_t words, size_t start, size_t count, bool bit);
+BITVEC_CHECKED uint8_t bitvec_c_fill_u16(
+    uint8_t order, uint16_t *memory, size_t words, size_t start, size_t count, bool bit);
+BITVEC_CHECKED uint8_t bitvec_c_fill_u32(
+    uint8_t order, uint32_t *memory, size_t words, size_t start, size_t count, bool bit);
+BITVEC_CHECKED uint8_t bitvec_c_fill_u64(
+    uint8_t order, uint64_t *memory, size_t words, size_t start, size_t count, bool bit);
 
-/* Makes `count` bits from `start` on the lowest digits of a signed number's two's complement, so
- * that the load of the signed number gives back a number that has no more digits. BITVEC_TOO_WIDE:
- * `count` is past 64. */
-BITVEC_CHECKED uint8_t bitvec_c_store_signed_u8(
-    uint8_t order, bool big_endian, uint8_t *memory, size_t words, size_t start, size_t count,
-    int64_t number);
-BITVEC_CHECKED uint8_t bitvec_c_store_signed_u16(
-    uint8_t order, bool big_endian, uint16_t *memory, size_t words, size_t start, size_t count,
-    int64_t number);
-BITVEC_CHECKED uint8_t bitvec_c_store_signed_u32(
-    uint8_t order, bool big_endian, uint32_t *memory, size_t words, size_t start, size_t count,
-    int64_t number);
-BITVEC_CHECKED uint8_t bitvec_c_store_signed_u64(
-    uint8_t order, bool big_endian, uint64_t *memory, size_t words, size_t start, size_t count,
-    int64_t number);
+/* Turns over each bit of a range. Refuses with BITVEC_NO_ORDER, BITVEC_TOO_LONG or BITVEC_OUTSIDE.
+ * Costs by words. */
+BITVEC_CHECKED uint8_t bitvec_c_invert_u8(
+    uint8_t order, uint8_t *memory, size_t words, size_t start, size_t count);
+BITVEC_CHECKED uint8_t bitvec_c_invert_u16(
+    uint8_t order, uint16_t *memory, size_t words, size_t start, size_t count);
+BITVEC_CHECKED uint8_t bitvec_c_invert_u32(
+    uint8_t order, uint32_t *memory, size_t words, size_t start, size_t count);
+BITVEC_CHECKED uint8_t bitvec_c_invert_u64(
+    uint8_t order, uint64_t *memory, size_t words, size_t start, size_t count);
 
-/* Writes to `ones` how many of the `count` bits from `start` on are one. Costs by words. */
-BITVEC_CHECKED uint8_t bitvec_c_count_ones_u8(
-    uint8_t order, const uint8_t *memory, size_t words, size_t start, size_t count,
-    size_t *ones) BITVEC_NONNULL(6);
-BITVEC_CHECKED uint8_t bitvec_c_count_ones_u16(
-    uint8_t order, const uint16_t *memory, size_t words, size_t start, size_t count,
-    size_t *ones) BITVEC_NONNULL(6);
-BITVEC_CHECKED uint8_t bitvec_c_count_ones_u32(
-    uint8_t order, const uint32_t *memory, size_t words, size_t start, size_t count,
-    size_t *ones) BITVEC_NONNULL(6);
-BITVEC_CHECKED uint8_t bitvec_c_count_ones_u64(
-    uint8_t order, const uint64_t *memory, size_t words, size_t start, size_t count,
-    size_t *ones) BITVEC_NONNULL(6);
+/* Puts the bits of a range in the opposite order. Refuses with BITVEC_NO_ORDER, BITVEC_TOO_LONG or
+ * BITVEC_OUTSIDE. Costs by words. */
+BITVEC_CHECKED uint8_t bitvec_c_reverse_u8(
+    uint8_t order, uint8_t *memory, size_t words, size_t start, size_t count);
+BITVEC_CHECKED uint8_t bitvec_c_reverse_u16(
+    uint8_t order, uint16_t *memory, size_t words, size_t start, size_t count);
+BITVEC_CHECKED uint8_t bitvec_c_reverse_u32(
+    uint8_t order, uint32_t *memory, size_t words, size_t start, size_t count);
+BITVEC_CHECKED uint8_t bitvec_c_reverse_u64(
+    uint8_t order, uint64_t *memory, size_t words, size_t start, size_t count);
 
-/* Writes to `index` the index, in the range of `count` bits from `start` on, of its first bit that
- * is one, from 0 on, or `count` where there is none. Costs by words, up to that bit. */
+/* ---------------------------------------- Searching ----------------------------------------- */
+
+/* The range has `count` bits from `start` on. The answer is an index in the range, from 0 on, and
+ * `count` where there is none; the place of that bit is `start` and the index. */
+
+/* Writes to `index` the index of the first bit that is one. Refuses with BITVEC_NO_ORDER,
+ * BITVEC_TOO_LONG or BITVEC_OUTSIDE. Costs by words, up to that bit. */
 BITVEC_CHECKED uint8_t bitvec_c_first_one_u8(
-    uint8_t order, const uint8_t *memory, size_t words, size_t start, size_t count,
-    size_t *index) BITVEC_NONNULL(6);
+    uint8_t order, const uint8_t *memory, size_t words, size_t start, size_t count, size_t *index)
+    BITVEC_NONNULL(6);
 BITVEC_CHECKED uint8_t bitvec_c_first_one_u16(
-    uint8_t order, const uint16_t *memory, size_t words, size_t start, size_t count,
-    size_t *index) BITVEC_NONNULL(6);
+    uint8_t order, const uint16_t *memory, size_t words, size_t start, size_t count, size_t *index)
+    BITVEC_NONNULL(6);
 BITVEC_CHECKED uint8_t bitvec_c_first_one_u32(
-    uint8_t order, const uint32_t *memory, size_t words, size_t start, size_t count,
-    size_t *index) BITVEC_NONNULL(6);
+    uint8_t order, const uint32_t *memory, size_t words, size_t start, size_t count, size_t *index)
+    BITVEC_NONNULL(6);
 BITVEC_CHECKED uint8_t bitvec_c_first_one_u64(
-    uint8_t order, const uint64_t *memory, size_t words, size_t start, size_t count,
-    size_t *index) BITVEC_NONNULL(6);
+    uint8_t order, const uint64_t *memory, size_t words, size_t start, size_t count, size_t *index)
+    BITVEC_NONNULL(6);
 
-/* Writes to `same` whether two ranges of `count` bits have the same bits, in order. Both ranges
- * are tested, and they may share words. Costs by words, up to the first difference. */
-BITVEC_CHECKED uint8_t bitvec_c_equal_u8(
-    uint8_t order, const uint8_t *memory, size_t words, size_t start, const uint8_t *other,
-    size_t other_words, size_t other_start, size_t count, bool *same) BITVEC_NONNULL(9);
-BITVEC_CHECKED uint8_t bitvec_c_equal_u16(
-    uint8_t order, const uint16_t *memory, size_t words, size_t start, const uint16_t *other,
-    size_t other_words, size_t other_start, size_t count, bool *same) BITVEC_NONNULL(9);
-BITVEC_CHECKED uint8_t bitvec_c_equal_u32(
-    uint8_t order, const uint32_t *memory, size_t words, size_t start, const uint32_t *other,
-    size_t other_words, size_t other_start, size_t count, bool *same) BITVEC_NONNULL(9);
-BITVEC_CHECKED uint8_t bitvec_c_equal_u64(
-    uint8_t order, const uint64_t *memory, size_t words, size_t start, const uint64_t *other,
-    size_t other_words, size_t other_start, size_t count, bool *same) BITVEC_NONNULL(9);
-
-/* Writes to `index` the index, in the range of `count` bits from `start` on, of its first bit that
- * is the same as `bit`, from 0 on, or `count` where there is none. The next one behind a bit is
- * the first of the range that starts there. Costs by words, up to that bit. */
+/* Writes to `index` the index of the first bit that is the same as `bit`. Refuses with
+ * BITVEC_NO_ORDER, BITVEC_TOO_LONG or BITVEC_OUTSIDE. Costs by words, up to that bit. */
 BITVEC_CHECKED uint8_t bitvec_c_first_u8(
-    uint8_t order, const uint8_t *memory, size_t words, size_t start, size_t count, bool bit,
-    size_t *index) BITVEC_NONNULL(7);
+    uint8_t order, const uint8_t *memory, size_t words, size_t start, size_t count, bool bit, size_t
+    *index) BITVEC_NONNULL(7);
 BITVEC_CHECKED uint8_t bitvec_c_first_u16(
     uint8_t order, const uint16_t *memory, size_t words, size_t start, size_t count, bool bit,
     size_t *index) BITVEC_NONNULL(7);
@@ -364,12 +279,11 @@ BITVEC_CHECKED uint8_t bitvec_c_first_u64(
     uint8_t order, const uint64_t *memory, size_t words, size_t start, size_t count, bool bit,
     size_t *index) BITVEC_NONNULL(7);
 
-/* Writes to `index` the index of the last bit of the range that is the same as `bit`, or `count`
- * where there is none. The one before a bit is the last of the range that ends there. Costs by
- * words, down to that bit. */
+/* Writes to `index` the index of the last bit that is the same as `bit`. Refuses with
+ * BITVEC_NO_ORDER, BITVEC_TOO_LONG or BITVEC_OUTSIDE. Costs by words, down to that bit. */
 BITVEC_CHECKED uint8_t bitvec_c_last_u8(
-    uint8_t order, const uint8_t *memory, size_t words, size_t start, size_t count, bool bit,
-    size_t *index) BITVEC_NONNULL(7);
+    uint8_t order, const uint8_t *memory, size_t words, size_t start, size_t count, bool bit, size_t
+    *index) BITVEC_NONNULL(7);
 BITVEC_CHECKED uint8_t bitvec_c_last_u16(
     uint8_t order, const uint16_t *memory, size_t words, size_t start, size_t count, bool bit,
     size_t *index) BITVEC_NONNULL(7);
@@ -380,24 +294,9 @@ BITVEC_CHECKED uint8_t bitvec_c_last_u64(
     uint8_t order, const uint64_t *memory, size_t words, size_t start, size_t count, bool bit,
     size_t *index) BITVEC_NONNULL(7);
 
-/* Writes to `index` the first index in the range from which on `zeros` bits are in it and zero, or
- * `count` where there is none; for 0 zeros it is 0. Costs by words, where a run is no longer than
- * a word, else by bits in words that are not zero. */
-BITVEC_CHECKED uint8_t bitvec_c_find_zeros_u8(
-    uint8_t order, const uint8_t *memory, size_t words, size_t start, size_t count, size_t zeros,
-    size_t *index) BITVEC_NONNULL(7);
-BITVEC_CHECKED uint8_t bitvec_c_find_zeros_u16(
-    uint8_t order, const uint16_t *memory, size_t words, size_t start, size_t count, size_t zeros,
-    size_t *index) BITVEC_NONNULL(7);
-BITVEC_CHECKED uint8_t bitvec_c_find_zeros_u32(
-    uint8_t order, const uint32_t *memory, size_t words, size_t start, size_t count, size_t zeros,
-    size_t *index) BITVEC_NONNULL(7);
-BITVEC_CHECKED uint8_t bitvec_c_find_zeros_u64(
-    uint8_t order, const uint64_t *memory, size_t words, size_t start, size_t count, size_t zeros,
-    size_t *index) BITVEC_NONNULL(7);
-
-/* Writes to `index` the index of the first bit of the range, of those from index `from` on, that is
- * the same as `bit`, or `count` where there is none. Costs by words, up to that bit. */
+/* Writes to `index` the index of the first bit, of those from index `from` on, that is the same as
+ * `bit`. Refuses with BITVEC_NO_ORDER, BITVEC_TOO_LONG or BITVEC_OUTSIDE. Costs by words, up to
+ * that bit. */
 BITVEC_CHECKED uint8_t bitvec_c_next_u8(
     uint8_t order, const uint8_t *memory, size_t words, size_t start, size_t count, size_t from,
     bool bit, size_t *index) BITVEC_NONNULL(8);
@@ -411,8 +310,9 @@ BITVEC_CHECKED uint8_t bitvec_c_next_u64(
     uint8_t order, const uint64_t *memory, size_t words, size_t start, size_t count, size_t from,
     bool bit, size_t *index) BITVEC_NONNULL(8);
 
-/* Writes to `index` the index of the last bit of the range, of those before index `before`, that is
- * the same as `bit`, or `count` where there is none. Costs by words, down to that bit. */
+/* Writes to `index` the index of the last bit, of those before index `before`, that is the same as
+ * `bit`. Refuses with BITVEC_NO_ORDER, BITVEC_TOO_LONG or BITVEC_OUTSIDE. Costs by words, down to
+ * that bit. */
 BITVEC_CHECKED uint8_t bitvec_c_previous_u8(
     uint8_t order, const uint8_t *memory, size_t words, size_t start, size_t count, size_t before,
     bool bit, size_t *index) BITVEC_NONNULL(8);
@@ -426,10 +326,26 @@ BITVEC_CHECKED uint8_t bitvec_c_previous_u64(
     uint8_t order, const uint64_t *memory, size_t words, size_t start, size_t count, size_t before,
     bool bit, size_t *index) BITVEC_NONNULL(8);
 
-/* Writes to `index` the first index in the range, not before `from` and a multiple of
- * `multiple_of`, from which on `zeros` bits are in it and zero, or `count` where there is none. A
- * `multiple_of` of 0 is taken as 1. Costs as bitvec_c_find_zeros_W, and once more for each run that
- * is long enough, but not from a multiple on. */
+/* Writes to `index` the first index from which on `zeros` bits are in the range and zero. For 0
+ * zeros it is 0. Refuses with BITVEC_NO_ORDER, BITVEC_TOO_LONG or BITVEC_OUTSIDE. Costs by words,
+ * where a run is no longer than a word, else by bits in words that are not zero. */
+BITVEC_CHECKED uint8_t bitvec_c_find_zeros_u8(
+    uint8_t order, const uint8_t *memory, size_t words, size_t start, size_t count, size_t zeros,
+    size_t *index) BITVEC_NONNULL(7);
+BITVEC_CHECKED uint8_t bitvec_c_find_zeros_u16(
+    uint8_t order, const uint16_t *memory, size_t words, size_t start, size_t count, size_t zeros,
+    size_t *index) BITVEC_NONNULL(7);
+BITVEC_CHECKED uint8_t bitvec_c_find_zeros_u32(
+    uint8_t order, const uint32_t *memory, size_t words, size_t start, size_t count, size_t zeros,
+    size_t *index) BITVEC_NONNULL(7);
+BITVEC_CHECKED uint8_t bitvec_c_find_zeros_u64(
+    uint8_t order, const uint64_t *memory, size_t words, size_t start, size_t count, size_t zeros,
+    size_t *index) BITVEC_NONNULL(7);
+
+/* Writes to `index` the first index, not before `from` and a multiple of `multiple_of`, from which
+ * on `zeros` bits are in the range and zero. A `multiple_of` of 0 is taken as 1. Refuses with
+ * BITVEC_NO_ORDER, BITVEC_TOO_LONG or BITVEC_OUTSIDE. Costs as bitvec_c_find_zeros_W, and once more
+ * for each run that is long enough, but not from a multiple on. */
 BITVEC_CHECKED uint8_t bitvec_c_find_zeros_from_u8(
     uint8_t order, const uint8_t *memory, size_t words, size_t start, size_t count, size_t from,
     size_t zeros, size_t multiple_of, size_t *index) BITVEC_NONNULL(9);
@@ -443,29 +359,116 @@ BITVEC_CHECKED uint8_t bitvec_c_find_zeros_from_u64(
     uint8_t order, const uint64_t *memory, size_t words, size_t start, size_t count, size_t from,
     size_t zeros, size_t multiple_of, size_t *index) BITVEC_NONNULL(9);
 
-/* Turns over each of the `count` bits from `start` on. Costs by words. */
-BITVEC_CHECKED uint8_t bitvec_c_invert_u8(
-    uint8_t order, uint8_t *memory, size_t words, size_t start, size_t count);
-BITVEC_CHECKED uint8_t bitvec_c_invert_u16(
-    uint8_t order, uint16_t *memory, size_t words, size_t start, size_t count);
-BITVEC_CHECKED uint8_t bitvec_c_invert_u32(
-    uint8_t order, uint32_t *memory, size_t words, size_t start, size_t count);
-BITVEC_CHECKED uint8_t bitvec_c_invert_u64(
-    uint8_t order, uint64_t *memory, size_t words, size_t start, size_t count);
+/* ----------------------------------------- Counting ----------------------------------------- */
 
-/* Puts the `count` bits from `start` on in the opposite order. Costs by words. */
-BITVEC_CHECKED uint8_t bitvec_c_reverse_u8(
-    uint8_t order, uint8_t *memory, size_t words, size_t start, size_t count);
-BITVEC_CHECKED uint8_t bitvec_c_reverse_u16(
-    uint8_t order, uint16_t *memory, size_t words, size_t start, size_t count);
-BITVEC_CHECKED uint8_t bitvec_c_reverse_u32(
-    uint8_t order, uint32_t *memory, size_t words, size_t start, size_t count);
-BITVEC_CHECKED uint8_t bitvec_c_reverse_u64(
-    uint8_t order, uint64_t *memory, size_t words, size_t start, size_t count);
+/* The range has `count` bits from `start` on. */
+
+/* Writes to `ones` how many bits of a range are one. Refuses with BITVEC_NO_ORDER, BITVEC_TOO_LONG
+ * or BITVEC_OUTSIDE. Costs by words. */
+BITVEC_CHECKED uint8_t bitvec_c_count_ones_u8(
+    uint8_t order, const uint8_t *memory, size_t words, size_t start, size_t count, size_t *ones)
+    BITVEC_NONNULL(6);
+BITVEC_CHECKED uint8_t bitvec_c_count_ones_u16(
+    uint8_t order, const uint16_t *memory, size_t words, size_t start, size_t count, size_t *ones)
+    BITVEC_NONNULL(6);
+BITVEC_CHECKED uint8_t bitvec_c_count_ones_u32(
+    uint8_t order, const uint32_t *memory, size_t words, size_t start, size_t count, size_t *ones)
+    BITVEC_NONNULL(6);
+BITVEC_CHECKED uint8_t bitvec_c_count_ones_u64(
+    uint8_t order, const uint64_t *memory, size_t words, size_t start, size_t count, size_t *ones)
+    BITVEC_NONNULL(6);
+
+/* ------------------------------------------ Moving ------------------------------------------ */
+
+/* A copy goes from `source_start` on to `target_start` on. Both ranges have `count` bits, and both
+ * are tested. */
+
+/* Copies bits of one memory to another, under one order. The two arrays share no word. Refuses with
+ * BITVEC_NO_ORDER, BITVEC_TOO_LONG or BITVEC_OUTSIDE. Costs by words. */
+BITVEC_CHECKED uint8_t bitvec_c_copy_u8(
+    uint8_t order, const uint8_t *source, size_t source_words, size_t source_start, uint8_t *target,
+    size_t target_words, size_t target_start, size_t count);
+BITVEC_CHECKED uint8_t bitvec_c_copy_u16(
+    uint8_t order, const uint16_t *source, size_t source_words, size_t source_start, uint16_t
+    *target, size_t target_words, size_t target_start, size_t count);
+BITVEC_CHECKED uint8_t bitvec_c_copy_u32(
+    uint8_t order, const uint32_t *source, size_t source_words, size_t source_start, uint32_t
+    *target, size_t target_words, size_t target_start, size_t count);
+BITVEC_CHECKED uint8_t bitvec_c_copy_u64(
+    uint8_t order, const uint64_t *source, size_t source_words, size_t source_start, uint64_t
+    *target, size_t target_words, size_t target_start, size_t count);
+
+/* Copies bits of a memory to another place of it. The two ranges may overlap: the target gets the
+ * bits as they were before. Refuses with BITVEC_NO_ORDER, BITVEC_TOO_LONG or BITVEC_OUTSIDE. Costs
+ * by words. */
+BITVEC_CHECKED uint8_t bitvec_c_copy_within_u8(
+    uint8_t order, uint8_t *memory, size_t words, size_t source_start, size_t target_start, size_t
+    count);
+BITVEC_CHECKED uint8_t bitvec_c_copy_within_u16(
+    uint8_t order, uint16_t *memory, size_t words, size_t source_start, size_t target_start, size_t
+    count);
+BITVEC_CHECKED uint8_t bitvec_c_copy_within_u32(
+    uint8_t order, uint32_t *memory, size_t words, size_t source_start, size_t target_start, size_t
+    count);
+BITVEC_CHECKED uint8_t bitvec_c_copy_within_u64(
+    uint8_t order, uint64_t *memory, size_t words, size_t source_start, size_t target_start, size_t
+    count);
+
+/* Copies bits of a memory of words of one width to one of words of another, each under an order of
+ * its own. The two memories share no word. Refuses with BITVEC_NO_ORDER, BITVEC_TOO_LONG or
+ * BITVEC_OUTSIDE. Costs by words where the orders are the same, else by bits. */
+BITVEC_CHECKED uint8_t bitvec_c_copy_u8_to_u8(
+    uint8_t source_order, const uint8_t *source, size_t source_words, size_t source_start, uint8_t
+    order, uint8_t *target, size_t target_words, size_t target_start, size_t count);
+BITVEC_CHECKED uint8_t bitvec_c_copy_u8_to_u16(
+    uint8_t source_order, const uint8_t *source, size_t source_words, size_t source_start, uint8_t
+    order, uint16_t *target, size_t target_words, size_t target_start, size_t count);
+BITVEC_CHECKED uint8_t bitvec_c_copy_u8_to_u32(
+    uint8_t source_order, const uint8_t *source, size_t source_words, size_t source_start, uint8_t
+    order, uint32_t *target, size_t target_words, size_t target_start, size_t count);
+BITVEC_CHECKED uint8_t bitvec_c_copy_u8_to_u64(
+    uint8_t source_order, const uint8_t *source, size_t source_words, size_t source_start, uint8_t
+    order, uint64_t *target, size_t target_words, size_t target_start, size_t count);
+BITVEC_CHECKED uint8_t bitvec_c_copy_u16_to_u8(
+    uint8_t source_order, const uint16_t *source, size_t source_words, size_t source_start, uint8_t
+    order, uint8_t *target, size_t target_words, size_t target_start, size_t count);
+BITVEC_CHECKED uint8_t bitvec_c_copy_u16_to_u16(
+    uint8_t source_order, const uint16_t *source, size_t source_words, size_t source_start, uint8_t
+    order, uint16_t *target, size_t target_words, size_t target_start, size_t count);
+BITVEC_CHECKED uint8_t bitvec_c_copy_u16_to_u32(
+    uint8_t source_order, const uint16_t *source, size_t source_words, size_t source_start, uint8_t
+    order, uint32_t *target, size_t target_words, size_t target_start, size_t count);
+BITVEC_CHECKED uint8_t bitvec_c_copy_u16_to_u64(
+    uint8_t source_order, const uint16_t *source, size_t source_words, size_t source_start, uint8_t
+    order, uint64_t *target, size_t target_words, size_t target_start, size_t count);
+BITVEC_CHECKED uint8_t bitvec_c_copy_u32_to_u8(
+    uint8_t source_order, const uint32_t *source, size_t source_words, size_t source_start, uint8_t
+    order, uint8_t *target, size_t target_words, size_t target_start, size_t count);
+BITVEC_CHECKED uint8_t bitvec_c_copy_u32_to_u16(
+    uint8_t source_order, const uint32_t *source, size_t source_words, size_t source_start, uint8_t
+    order, uint16_t *target, size_t target_words, size_t target_start, size_t count);
+BITVEC_CHECKED uint8_t bitvec_c_copy_u32_to_u32(
+    uint8_t source_order, const uint32_t *source, size_t source_words, size_t source_start, uint8_t
+    order, uint32_t *target, size_t target_words, size_t target_start, size_t count);
+BITVEC_CHECKED uint8_t bitvec_c_copy_u32_to_u64(
+    uint8_t source_order, const uint32_t *source, size_t source_words, size_t source_start, uint8_t
+    order, uint64_t *target, size_t target_words, size_t target_start, size_t count);
+BITVEC_CHECKED uint8_t bitvec_c_copy_u64_to_u8(
+    uint8_t source_order, const uint64_t *source, size_t source_words, size_t source_start, uint8_t
+    order, uint8_t *target, size_t target_words, size_t target_start, size_t count);
+BITVEC_CHECKED uint8_t bitvec_c_copy_u64_to_u16(
+    uint8_t source_order, const uint64_t *source, size_t source_words, size_t source_start, uint8_t
+    order, uint16_t *target, size_t target_words, size_t target_start, size_t count);
+BITVEC_CHECKED uint8_t bitvec_c_copy_u64_to_u32(
+    uint8_t source_order, const uint64_t *source, size_t source_words, size_t source_start, uint8_t
+    order, uint32_t *target, size_t target_words, size_t target_start, size_t count);
+BITVEC_CHECKED uint8_t bitvec_c_copy_u64_to_u64(
+    uint8_t source_order, const uint64_t *source, size_t source_words, size_t source_start, uint8_t
+    order, uint64_t *target, size_t target_words, size_t target_start, size_t count);
 
 /* Moves each of the `count` bits from `start` on `by` places towards the first, so that the first
  * `by` are lost, and makes the last `by` zero. BITVEC_OUTSIDE: also where `by` is past `count`.
- * Costs by words. */
+ * Refuses with BITVEC_NO_ORDER, BITVEC_TOO_LONG or BITVEC_OUTSIDE. Costs by words. */
 BITVEC_CHECKED uint8_t bitvec_c_shift_left_u8(
     uint8_t order, uint8_t *memory, size_t words, size_t start, size_t count, size_t by);
 BITVEC_CHECKED uint8_t bitvec_c_shift_left_u16(
@@ -477,7 +480,7 @@ BITVEC_CHECKED uint8_t bitvec_c_shift_left_u64(
 
 /* Moves each of the `count` bits from `start` on `by` places towards the last, so that the last
  * `by` are lost, and makes the first `by` zero. BITVEC_OUTSIDE: also where `by` is past `count`.
- * Costs by words. */
+ * Refuses with BITVEC_NO_ORDER, BITVEC_TOO_LONG or BITVEC_OUTSIDE. Costs by words. */
 BITVEC_CHECKED uint8_t bitvec_c_shift_right_u8(
     uint8_t order, uint8_t *memory, size_t words, size_t start, size_t count, size_t by);
 BITVEC_CHECKED uint8_t bitvec_c_shift_right_u16(
@@ -488,7 +491,8 @@ BITVEC_CHECKED uint8_t bitvec_c_shift_right_u64(
     uint8_t order, uint64_t *memory, size_t words, size_t start, size_t count, size_t by);
 
 /* Puts the first `by` of the `count` bits from `start` on behind the others. BITVEC_OUTSIDE: also
- * where `by` is past `count`. Costs by words. */
+ * where `by` is past `count`. Refuses with BITVEC_NO_ORDER, BITVEC_TOO_LONG or BITVEC_OUTSIDE.
+ * Costs by words. */
 BITVEC_CHECKED uint8_t bitvec_c_rotate_left_u8(
     uint8_t order, uint8_t *memory, size_t words, size_t start, size_t count, size_t by);
 BITVEC_CHECKED uint8_t bitvec_c_rotate_left_u16(
@@ -498,273 +502,321 @@ BITVEC_CHECKED uint8_t bitvec_c_rotate_left_u32(
 BITVEC_CHECKED uint8_t bitvec_c_rotate_left_u64(
     uint8_t order, uint64_t *memory, size_t words, size_t start, size_t count, size_t by);
 
-/* Leaves one those of the `count` bits from `target_start` on whose bit in the source is one: an
- * intersection. The two memories share no word, and each has an order of its own. Both ranges are
- * tested, the source's first. Costs by words where the orders are the same, else by bits. */
+/* ---------------------------------------- Two ranges ---------------------------------------- */
+
+/* Both ranges have `count` bits, and both are tested. But for bitvec_c_equal_W each memory has an
+ * order of its own. What is written shares no word with the other memory; what is only read may. */
+
+/* Leaves one those bits of the target whose bit in the source is one: an intersection. Refuses with
+ * BITVEC_NO_ORDER, BITVEC_TOO_LONG or BITVEC_OUTSIDE. Costs by words where the orders are the same,
+ * else by bits. */
 BITVEC_CHECKED uint8_t bitvec_c_and_u8(
-    uint8_t source_order, const uint8_t *source, size_t source_words, size_t source_start,
-    uint8_t order, uint8_t *target, size_t target_words, size_t target_start, size_t count);
+    uint8_t source_order, const uint8_t *source, size_t source_words, size_t source_start, uint8_t
+    order, uint8_t *target, size_t target_words, size_t target_start, size_t count);
 BITVEC_CHECKED uint8_t bitvec_c_and_u16(
-    uint8_t source_order, const uint16_t *source, size_t source_words, size_t source_start,
-    uint8_t order, uint16_t *target, size_t target_words, size_t target_start, size_t count);
+    uint8_t source_order, const uint16_t *source, size_t source_words, size_t source_start, uint8_t
+    order, uint16_t *target, size_t target_words, size_t target_start, size_t count);
 BITVEC_CHECKED uint8_t bitvec_c_and_u32(
-    uint8_t source_order, const uint32_t *source, size_t source_words, size_t source_start,
-    uint8_t order, uint32_t *target, size_t target_words, size_t target_start, size_t count);
+    uint8_t source_order, const uint32_t *source, size_t source_words, size_t source_start, uint8_t
+    order, uint32_t *target, size_t target_words, size_t target_start, size_t count);
 BITVEC_CHECKED uint8_t bitvec_c_and_u64(
-    uint8_t source_order, const uint64_t *source, size_t source_words, size_t source_start,
-    uint8_t order, uint64_t *target, size_t target_words, size_t target_start, size_t count);
+    uint8_t source_order, const uint64_t *source, size_t source_words, size_t source_start, uint8_t
+    order, uint64_t *target, size_t target_words, size_t target_start, size_t count);
 
-/* Makes one those bits whose bit in the source is one: a union. As bitvec_c_and_W. */
+/* Makes one those bits of the target whose bit in the source is one: a union. Refuses with
+ * BITVEC_NO_ORDER, BITVEC_TOO_LONG or BITVEC_OUTSIDE. Costs by words where the orders are the same,
+ * else by bits. */
 BITVEC_CHECKED uint8_t bitvec_c_or_u8(
-    uint8_t source_order, const uint8_t *source, size_t source_words, size_t source_start,
-    uint8_t order, uint8_t *target, size_t target_words, size_t target_start, size_t count);
+    uint8_t source_order, const uint8_t *source, size_t source_words, size_t source_start, uint8_t
+    order, uint8_t *target, size_t target_words, size_t target_start, size_t count);
 BITVEC_CHECKED uint8_t bitvec_c_or_u16(
-    uint8_t source_order, const uint16_t *source, size_t source_words, size_t source_start,
-    uint8_t order, uint16_t *target, size_t target_words, size_t target_start, size_t count);
+    uint8_t source_order, const uint16_t *source, size_t source_words, size_t source_start, uint8_t
+    order, uint16_t *target, size_t target_words, size_t target_start, size_t count);
 BITVEC_CHECKED uint8_t bitvec_c_or_u32(
-    uint8_t source_order, const uint32_t *source, size_t source_words, size_t source_start,
-    uint8_t order, uint32_t *target, size_t target_words, size_t target_start, size_t count);
+    uint8_t source_order, const uint32_t *source, size_t source_words, size_t source_start, uint8_t
+    order, uint32_t *target, size_t target_words, size_t target_start, size_t count);
 BITVEC_CHECKED uint8_t bitvec_c_or_u64(
-    uint8_t source_order, const uint64_t *source, size_t source_words, size_t source_start,
-    uint8_t order, uint64_t *target, size_t target_words, size_t target_start, size_t count);
+    uint8_t source_order, const uint64_t *source, size_t source_words, size_t source_start, uint8_t
+    order, uint64_t *target, size_t target_words, size_t target_start, size_t count);
 
-/* Turns over those bits whose bit in the source is one: a symmetric difference. As
- * bitvec_c_and_W. */
+/* Turns over those bits of the target whose bit in the source is one: a symmetric difference.
+ * Refuses with BITVEC_NO_ORDER, BITVEC_TOO_LONG or BITVEC_OUTSIDE. Costs by words where the orders
+ * are the same, else by bits. */
 BITVEC_CHECKED uint8_t bitvec_c_xor_u8(
-    uint8_t source_order, const uint8_t *source, size_t source_words, size_t source_start,
-    uint8_t order, uint8_t *target, size_t target_words, size_t target_start, size_t count);
+    uint8_t source_order, const uint8_t *source, size_t source_words, size_t source_start, uint8_t
+    order, uint8_t *target, size_t target_words, size_t target_start, size_t count);
 BITVEC_CHECKED uint8_t bitvec_c_xor_u16(
-    uint8_t source_order, const uint16_t *source, size_t source_words, size_t source_start,
-    uint8_t order, uint16_t *target, size_t target_words, size_t target_start, size_t count);
+    uint8_t source_order, const uint16_t *source, size_t source_words, size_t source_start, uint8_t
+    order, uint16_t *target, size_t target_words, size_t target_start, size_t count);
 BITVEC_CHECKED uint8_t bitvec_c_xor_u32(
-    uint8_t source_order, const uint32_t *source, size_t source_words, size_t source_start,
-    uint8_t order, uint32_t *target, size_t target_words, size_t target_start, size_t count);
+    uint8_t source_order, const uint32_t *source, size_t source_words, size_t source_start, uint8_t
+    order, uint32_t *target, size_t target_words, size_t target_start, size_t count);
 BITVEC_CHECKED uint8_t bitvec_c_xor_u64(
-    uint8_t source_order, const uint64_t *source, size_t source_words, size_t source_start,
-    uint8_t order, uint64_t *target, size_t target_words, size_t target_start, size_t count);
+    uint8_t source_order, const uint64_t *source, size_t source_words, size_t source_start, uint8_t
+    order, uint64_t *target, size_t target_words, size_t target_start, size_t count);
 
-/* Makes zero those bits whose bit in the source is one: a difference. As bitvec_c_and_W. */
+/* Makes zero those bits of the target whose bit in the source is one: a difference. Refuses with
+ * BITVEC_NO_ORDER, BITVEC_TOO_LONG or BITVEC_OUTSIDE. Costs by words where the orders are the same,
+ * else by bits. */
 BITVEC_CHECKED uint8_t bitvec_c_and_not_u8(
-    uint8_t source_order, const uint8_t *source, size_t source_words, size_t source_start,
-    uint8_t order, uint8_t *target, size_t target_words, size_t target_start, size_t count);
+    uint8_t source_order, const uint8_t *source, size_t source_words, size_t source_start, uint8_t
+    order, uint8_t *target, size_t target_words, size_t target_start, size_t count);
 BITVEC_CHECKED uint8_t bitvec_c_and_not_u16(
-    uint8_t source_order, const uint16_t *source, size_t source_words, size_t source_start,
-    uint8_t order, uint16_t *target, size_t target_words, size_t target_start, size_t count);
+    uint8_t source_order, const uint16_t *source, size_t source_words, size_t source_start, uint8_t
+    order, uint16_t *target, size_t target_words, size_t target_start, size_t count);
 BITVEC_CHECKED uint8_t bitvec_c_and_not_u32(
-    uint8_t source_order, const uint32_t *source, size_t source_words, size_t source_start,
-    uint8_t order, uint32_t *target, size_t target_words, size_t target_start, size_t count);
+    uint8_t source_order, const uint32_t *source, size_t source_words, size_t source_start, uint8_t
+    order, uint32_t *target, size_t target_words, size_t target_start, size_t count);
 BITVEC_CHECKED uint8_t bitvec_c_and_not_u64(
-    uint8_t source_order, const uint64_t *source, size_t source_words, size_t source_start,
-    uint8_t order, uint64_t *target, size_t target_words, size_t target_start, size_t count);
+    uint8_t source_order, const uint64_t *source, size_t source_words, size_t source_start, uint8_t
+    order, uint64_t *target, size_t target_words, size_t target_start, size_t count);
 
-/* Writes to `ones` how many of the `count` bits from `start` on are one whose bit in the other
- * range is one too. Each memory has an order of its own, and they may share words. Both ranges are
- * tested. Costs by words where the orders are the same, else by bits. */
+/* Writes to `same` whether two ranges have the same bits, in order. Refuses with BITVEC_NO_ORDER,
+ * BITVEC_TOO_LONG or BITVEC_OUTSIDE. Costs by words, up to the first difference. */
+BITVEC_CHECKED uint8_t bitvec_c_equal_u8(
+    uint8_t order, const uint8_t *memory, size_t words, size_t start, const uint8_t *other, size_t
+    other_words, size_t other_start, size_t count, bool *same) BITVEC_NONNULL(9);
+BITVEC_CHECKED uint8_t bitvec_c_equal_u16(
+    uint8_t order, const uint16_t *memory, size_t words, size_t start, const uint16_t *other, size_t
+    other_words, size_t other_start, size_t count, bool *same) BITVEC_NONNULL(9);
+BITVEC_CHECKED uint8_t bitvec_c_equal_u32(
+    uint8_t order, const uint32_t *memory, size_t words, size_t start, const uint32_t *other, size_t
+    other_words, size_t other_start, size_t count, bool *same) BITVEC_NONNULL(9);
+BITVEC_CHECKED uint8_t bitvec_c_equal_u64(
+    uint8_t order, const uint64_t *memory, size_t words, size_t start, const uint64_t *other, size_t
+    other_words, size_t other_start, size_t count, bool *same) BITVEC_NONNULL(9);
+
+/* Writes to `ones` how many bits of a range are one whose bit in the other range is one too.
+ * Refuses with BITVEC_NO_ORDER, BITVEC_TOO_LONG or BITVEC_OUTSIDE. Costs by words where the orders
+ * are the same, else by bits. */
 BITVEC_CHECKED uint8_t bitvec_c_count_and_u8(
-    uint8_t order, const uint8_t *memory, size_t words, size_t start, uint8_t other_order,
-    const uint8_t *other, size_t other_words, size_t other_start, size_t count,
-    size_t *ones) BITVEC_NONNULL(10);
+    uint8_t order, const uint8_t *memory, size_t words, size_t start, uint8_t other_order, const
+    uint8_t *other, size_t other_words, size_t other_start, size_t count, size_t *ones)
+    BITVEC_NONNULL(10);
 BITVEC_CHECKED uint8_t bitvec_c_count_and_u16(
-    uint8_t order, const uint16_t *memory, size_t words, size_t start, uint8_t other_order,
-    const uint16_t *other, size_t other_words, size_t other_start, size_t count,
-    size_t *ones) BITVEC_NONNULL(10);
+    uint8_t order, const uint16_t *memory, size_t words, size_t start, uint8_t other_order, const
+    uint16_t *other, size_t other_words, size_t other_start, size_t count, size_t *ones)
+    BITVEC_NONNULL(10);
 BITVEC_CHECKED uint8_t bitvec_c_count_and_u32(
-    uint8_t order, const uint32_t *memory, size_t words, size_t start, uint8_t other_order,
-    const uint32_t *other, size_t other_words, size_t other_start, size_t count,
-    size_t *ones) BITVEC_NONNULL(10);
+    uint8_t order, const uint32_t *memory, size_t words, size_t start, uint8_t other_order, const
+    uint32_t *other, size_t other_words, size_t other_start, size_t count, size_t *ones)
+    BITVEC_NONNULL(10);
 BITVEC_CHECKED uint8_t bitvec_c_count_and_u64(
-    uint8_t order, const uint64_t *memory, size_t words, size_t start, uint8_t other_order,
-    const uint64_t *other, size_t other_words, size_t other_start, size_t count,
-    size_t *ones) BITVEC_NONNULL(10);
+    uint8_t order, const uint64_t *memory, size_t words, size_t start, uint8_t other_order, const
+    uint64_t *other, size_t other_words, size_t other_start, size_t count, size_t *ones)
+    BITVEC_NONNULL(10);
 
-/* Writes to `index` the index, in the range, of its first bit that is one and whose bit in the
- * other range is one too, or `count` where there is none: whether two sets meet. As
- * bitvec_c_count_and_W, up to that bit. */
+/* Writes to `index` the index of the first bit of a range that is one and whose bit in the other
+ * range is one too, or `count` where there is none. Refuses with BITVEC_NO_ORDER, BITVEC_TOO_LONG
+ * or BITVEC_OUTSIDE. Costs by words where the orders are the same, else by bits, up to that bit. */
 BITVEC_CHECKED uint8_t bitvec_c_first_and_u8(
-    uint8_t order, const uint8_t *memory, size_t words, size_t start, uint8_t other_order,
-    const uint8_t *other, size_t other_words, size_t other_start, size_t count,
-    size_t *index) BITVEC_NONNULL(10);
+    uint8_t order, const uint8_t *memory, size_t words, size_t start, uint8_t other_order, const
+    uint8_t *other, size_t other_words, size_t other_start, size_t count, size_t *index)
+    BITVEC_NONNULL(10);
 BITVEC_CHECKED uint8_t bitvec_c_first_and_u16(
-    uint8_t order, const uint16_t *memory, size_t words, size_t start, uint8_t other_order,
-    const uint16_t *other, size_t other_words, size_t other_start, size_t count,
-    size_t *index) BITVEC_NONNULL(10);
+    uint8_t order, const uint16_t *memory, size_t words, size_t start, uint8_t other_order, const
+    uint16_t *other, size_t other_words, size_t other_start, size_t count, size_t *index)
+    BITVEC_NONNULL(10);
 BITVEC_CHECKED uint8_t bitvec_c_first_and_u32(
-    uint8_t order, const uint32_t *memory, size_t words, size_t start, uint8_t other_order,
-    const uint32_t *other, size_t other_words, size_t other_start, size_t count,
-    size_t *index) BITVEC_NONNULL(10);
+    uint8_t order, const uint32_t *memory, size_t words, size_t start, uint8_t other_order, const
+    uint32_t *other, size_t other_words, size_t other_start, size_t count, size_t *index)
+    BITVEC_NONNULL(10);
 BITVEC_CHECKED uint8_t bitvec_c_first_and_u64(
-    uint8_t order, const uint64_t *memory, size_t words, size_t start, uint8_t other_order,
-    const uint64_t *other, size_t other_words, size_t other_start, size_t count,
-    size_t *index) BITVEC_NONNULL(10);
+    uint8_t order, const uint64_t *memory, size_t words, size_t start, uint8_t other_order, const
+    uint64_t *other, size_t other_words, size_t other_start, size_t count, size_t *index)
+    BITVEC_NONNULL(10);
 
-/* The same of the first bit that is one and whose bit in the other range is zero: whether one set
- * is part of another. */
+/* The same of the first bit that is one and whose bit in the other range is zero. Refuses with
+ * BITVEC_NO_ORDER, BITVEC_TOO_LONG or BITVEC_OUTSIDE. Costs by words where the orders are the same,
+ * else by bits, up to that bit. */
 BITVEC_CHECKED uint8_t bitvec_c_first_and_not_u8(
-    uint8_t order, const uint8_t *memory, size_t words, size_t start, uint8_t other_order,
-    const uint8_t *other, size_t other_words, size_t other_start, size_t count,
-    size_t *index) BITVEC_NONNULL(10);
+    uint8_t order, const uint8_t *memory, size_t words, size_t start, uint8_t other_order, const
+    uint8_t *other, size_t other_words, size_t other_start, size_t count, size_t *index)
+    BITVEC_NONNULL(10);
 BITVEC_CHECKED uint8_t bitvec_c_first_and_not_u16(
-    uint8_t order, const uint16_t *memory, size_t words, size_t start, uint8_t other_order,
-    const uint16_t *other, size_t other_words, size_t other_start, size_t count,
-    size_t *index) BITVEC_NONNULL(10);
+    uint8_t order, const uint16_t *memory, size_t words, size_t start, uint8_t other_order, const
+    uint16_t *other, size_t other_words, size_t other_start, size_t count, size_t *index)
+    BITVEC_NONNULL(10);
 BITVEC_CHECKED uint8_t bitvec_c_first_and_not_u32(
-    uint8_t order, const uint32_t *memory, size_t words, size_t start, uint8_t other_order,
-    const uint32_t *other, size_t other_words, size_t other_start, size_t count,
-    size_t *index) BITVEC_NONNULL(10);
+    uint8_t order, const uint32_t *memory, size_t words, size_t start, uint8_t other_order, const
+    uint32_t *other, size_t other_words, size_t other_start, size_t count, size_t *index)
+    BITVEC_NONNULL(10);
 BITVEC_CHECKED uint8_t bitvec_c_first_and_not_u64(
-    uint8_t order, const uint64_t *memory, size_t words, size_t start, uint8_t other_order,
-    const uint64_t *other, size_t other_words, size_t other_start, size_t count,
-    size_t *index) BITVEC_NONNULL(10);
+    uint8_t order, const uint64_t *memory, size_t words, size_t start, uint8_t other_order, const
+    uint64_t *other, size_t other_words, size_t other_start, size_t count, size_t *index)
+    BITVEC_NONNULL(10);
 
-/* The same of the first bit that is not the same in the other range: whether, and how, two ranges
- * differ. */
+/* The same of the first bit that is not the same in the other range. The two ranges are equal where
+ * it is `count`, and else the bit at that index tells which one is less. Refuses with
+ * BITVEC_NO_ORDER, BITVEC_TOO_LONG or BITVEC_OUTSIDE. Costs by words where the orders are the same,
+ * else by bits, up to that bit. */
 BITVEC_CHECKED uint8_t bitvec_c_first_difference_u8(
-    uint8_t order, const uint8_t *memory, size_t words, size_t start, uint8_t other_order,
-    const uint8_t *other, size_t other_words, size_t other_start, size_t count,
-    size_t *index) BITVEC_NONNULL(10);
+    uint8_t order, const uint8_t *memory, size_t words, size_t start, uint8_t other_order, const
+    uint8_t *other, size_t other_words, size_t other_start, size_t count, size_t *index)
+    BITVEC_NONNULL(10);
 BITVEC_CHECKED uint8_t bitvec_c_first_difference_u16(
-    uint8_t order, const uint16_t *memory, size_t words, size_t start, uint8_t other_order,
-    const uint16_t *other, size_t other_words, size_t other_start, size_t count,
-    size_t *index) BITVEC_NONNULL(10);
+    uint8_t order, const uint16_t *memory, size_t words, size_t start, uint8_t other_order, const
+    uint16_t *other, size_t other_words, size_t other_start, size_t count, size_t *index)
+    BITVEC_NONNULL(10);
 BITVEC_CHECKED uint8_t bitvec_c_first_difference_u32(
-    uint8_t order, const uint32_t *memory, size_t words, size_t start, uint8_t other_order,
-    const uint32_t *other, size_t other_words, size_t other_start, size_t count,
-    size_t *index) BITVEC_NONNULL(10);
+    uint8_t order, const uint32_t *memory, size_t words, size_t start, uint8_t other_order, const
+    uint32_t *other, size_t other_words, size_t other_start, size_t count, size_t *index)
+    BITVEC_NONNULL(10);
 BITVEC_CHECKED uint8_t bitvec_c_first_difference_u64(
-    uint8_t order, const uint64_t *memory, size_t words, size_t start, uint8_t other_order,
-    const uint64_t *other, size_t other_words, size_t other_start, size_t count,
-    size_t *index) BITVEC_NONNULL(10);
+    uint8_t order, const uint64_t *memory, size_t words, size_t start, uint8_t other_order, const
+    uint64_t *other, size_t other_words, size_t other_start, size_t count, size_t *index)
+    BITVEC_NONNULL(10);
 
-/* The same where the words of the two memories may have other widths. The two ranges are equal
- * where it is `count`, and else the bit at that index tells which one is less. */
+/* The same where the words of the two memories may have other widths. Refuses with BITVEC_NO_ORDER,
+ * BITVEC_TOO_LONG or BITVEC_OUTSIDE. Costs by words where the orders are the same, else by bits, up
+ * to that bit. */
 BITVEC_CHECKED uint8_t bitvec_c_first_difference_u8_with_u8(
-    uint8_t order, const uint8_t *memory, size_t words, size_t start, uint8_t other_order,
-    const uint8_t *other, size_t other_words, size_t other_start, size_t count,
-    size_t *index) BITVEC_NONNULL(10);
+    uint8_t order, const uint8_t *memory, size_t words, size_t start, uint8_t other_order, const
+    uint8_t *other, size_t other_words, size_t other_start, size_t count, size_t *index)
+    BITVEC_NONNULL(10);
 BITVEC_CHECKED uint8_t bitvec_c_first_difference_u8_with_u16(
-    uint8_t order, const uint8_t *memory, size_t words, size_t start, uint8_t other_order,
-    const uint16_t *other, size_t other_words, size_t other_start, size_t count,
-    size_t *index) BITVEC_NONNULL(10);
+    uint8_t order, const uint8_t *memory, size_t words, size_t start, uint8_t other_order, const
+    uint16_t *other, size_t other_words, size_t other_start, size_t count, size_t *index)
+    BITVEC_NONNULL(10);
 BITVEC_CHECKED uint8_t bitvec_c_first_difference_u8_with_u32(
-    uint8_t order, const uint8_t *memory, size_t words, size_t start, uint8_t other_order,
-    const uint32_t *other, size_t other_words, size_t other_start, size_t count,
-    size_t *index) BITVEC_NONNULL(10);
+    uint8_t order, const uint8_t *memory, size_t words, size_t start, uint8_t other_order, const
+    uint32_t *other, size_t other_words, size_t other_start, size_t count, size_t *index)
+    BITVEC_NONNULL(10);
 BITVEC_CHECKED uint8_t bitvec_c_first_difference_u8_with_u64(
-    uint8_t order, const uint8_t *memory, size_t words, size_t start, uint8_t other_order,
-    const uint64_t *other, size_t other_words, size_t other_start, size_t count,
-    size_t *index) BITVEC_NONNULL(10);
+    uint8_t order, const uint8_t *memory, size_t words, size_t start, uint8_t other_order, const
+    uint64_t *other, size_t other_words, size_t other_start, size_t count, size_t *index)
+    BITVEC_NONNULL(10);
 BITVEC_CHECKED uint8_t bitvec_c_first_difference_u16_with_u8(
-    uint8_t order, const uint16_t *memory, size_t words, size_t start, uint8_t other_order,
-    const uint8_t *other, size_t other_words, size_t other_start, size_t count,
-    size_t *index) BITVEC_NONNULL(10);
+    uint8_t order, const uint16_t *memory, size_t words, size_t start, uint8_t other_order, const
+    uint8_t *other, size_t other_words, size_t other_start, size_t count, size_t *index)
+    BITVEC_NONNULL(10);
 BITVEC_CHECKED uint8_t bitvec_c_first_difference_u16_with_u16(
-    uint8_t order, const uint16_t *memory, size_t words, size_t start, uint8_t other_order,
-    const uint16_t *other, size_t other_words, size_t other_start, size_t count,
-    size_t *index) BITVEC_NONNULL(10);
+    uint8_t order, const uint16_t *memory, size_t words, size_t start, uint8_t other_order, const
+    uint16_t *other, size_t other_words, size_t other_start, size_t count, size_t *index)
+    BITVEC_NONNULL(10);
 BITVEC_CHECKED uint8_t bitvec_c_first_difference_u16_with_u32(
-    uint8_t order, const uint16_t *memory, size_t words, size_t start, uint8_t other_order,
-    const uint32_t *other, size_t other_words, size_t other_start, size_t count,
-    size_t *index) BITVEC_NONNULL(10);
+    uint8_t order, const uint16_t *memory, size_t words, size_t start, uint8_t other_order, const
+    uint32_t *other, size_t other_words, size_t other_start, size_t count, size_t *index)
+    BITVEC_NONNULL(10);
 BITVEC_CHECKED uint8_t bitvec_c_first_difference_u16_with_u64(
-    uint8_t order, const uint16_t *memory, size_t words, size_t start, uint8_t other_order,
-    const uint64_t *other, size_t other_words, size_t other_start, size_t count,
-    size_t *index) BITVEC_NONNULL(10);
+    uint8_t order, const uint16_t *memory, size_t words, size_t start, uint8_t other_order, const
+    uint64_t *other, size_t other_words, size_t other_start, size_t count, size_t *index)
+    BITVEC_NONNULL(10);
 BITVEC_CHECKED uint8_t bitvec_c_first_difference_u32_with_u8(
-    uint8_t order, const uint32_t *memory, size_t words, size_t start, uint8_t other_order,
-    const uint8_t *other, size_t other_words, size_t other_start, size_t count,
-    size_t *index) BITVEC_NONNULL(10);
+    uint8_t order, const uint32_t *memory, size_t words, size_t start, uint8_t other_order, const
+    uint8_t *other, size_t other_words, size_t other_start, size_t count, size_t *index)
+    BITVEC_NONNULL(10);
 BITVEC_CHECKED uint8_t bitvec_c_first_difference_u32_with_u16(
-    uint8_t order, const uint32_t *memory, size_t words, size_t start, uint8_t other_order,
-    const uint16_t *other, size_t other_words, size_t other_start, size_t count,
-    size_t *index) BITVEC_NONNULL(10);
+    uint8_t order, const uint32_t *memory, size_t words, size_t start, uint8_t other_order, const
+    uint16_t *other, size_t other_words, size_t other_start, size_t count, size_t *index)
+    BITVEC_NONNULL(10);
 BITVEC_CHECKED uint8_t bitvec_c_first_difference_u32_with_u32(
-    uint8_t order, const uint32_t *memory, size_t words, size_t start, uint8_t other_order,
-    const uint32_t *other, size_t other_words, size_t other_start, size_t count,
-    size_t *index) BITVEC_NONNULL(10);
+    uint8_t order, const uint32_t *memory, size_t words, size_t start, uint8_t other_order, const
+    uint32_t *other, size_t other_words, size_t other_start, size_t count, size_t *index)
+    BITVEC_NONNULL(10);
 BITVEC_CHECKED uint8_t bitvec_c_first_difference_u32_with_u64(
-    uint8_t order, const uint32_t *memory, size_t words, size_t start, uint8_t other_order,
-    const uint64_t *other, size_t other_words, size_t other_start, size_t count,
-    size_t *index) BITVEC_NONNULL(10);
+    uint8_t order, const uint32_t *memory, size_t words, size_t start, uint8_t other_order, const
+    uint64_t *other, size_t other_words, size_t other_start, size_t count, size_t *index)
+    BITVEC_NONNULL(10);
 BITVEC_CHECKED uint8_t bitvec_c_first_difference_u64_with_u8(
-    uint8_t order, const uint64_t *memory, size_t words, size_t start, uint8_t other_order,
-    const uint8_t *other, size_t other_words, size_t other_start, size_t count,
-    size_t *index) BITVEC_NONNULL(10);
+    uint8_t order, const uint64_t *memory, size_t words, size_t start, uint8_t other_order, const
+    uint8_t *other, size_t other_words, size_t other_start, size_t count, size_t *index)
+    BITVEC_NONNULL(10);
 BITVEC_CHECKED uint8_t bitvec_c_first_difference_u64_with_u16(
-    uint8_t order, const uint64_t *memory, size_t words, size_t start, uint8_t other_order,
-    const uint16_t *other, size_t other_words, size_t other_start, size_t count,
-    size_t *index) BITVEC_NONNULL(10);
+    uint8_t order, const uint64_t *memory, size_t words, size_t start, uint8_t other_order, const
+    uint16_t *other, size_t other_words, size_t other_start, size_t count, size_t *index)
+    BITVEC_NONNULL(10);
 BITVEC_CHECKED uint8_t bitvec_c_first_difference_u64_with_u32(
-    uint8_t order, const uint64_t *memory, size_t words, size_t start, uint8_t other_order,
-    const uint32_t *other, size_t other_words, size_t other_start, size_t count,
-    size_t *index) BITVEC_NONNULL(10);
+    uint8_t order, const uint64_t *memory, size_t words, size_t start, uint8_t other_order, const
+    uint32_t *other, size_t other_words, size_t other_start, size_t count, size_t *index)
+    BITVEC_NONNULL(10);
 BITVEC_CHECKED uint8_t bitvec_c_first_difference_u64_with_u64(
-    uint8_t order, const uint64_t *memory, size_t words, size_t start, uint8_t other_order,
-    const uint64_t *other, size_t other_words, size_t other_start, size_t count,
-    size_t *index) BITVEC_NONNULL(10);
+    uint8_t order, const uint64_t *memory, size_t words, size_t start, uint8_t other_order, const
+    uint64_t *other, size_t other_words, size_t other_start, size_t count, size_t *index)
+    BITVEC_NONNULL(10);
 
-/* For any two widths V and W: bitvec_c_copy_V_to_W copies `count` bits from `source_start` of a
- * memory of words of one width to `target_start` of one of words of another, each under an order
- * of its own. The two memories share no word. Both ranges are tested, the source's first. Costs by
- * words where the orders are the same, else by bits. */
-BITVEC_CHECKED uint8_t bitvec_c_copy_u8_to_u8(
-    uint8_t source_order, const uint8_t *source, size_t source_words, size_t source_start,
-    uint8_t order, uint8_t *target, size_t target_words, size_t target_start, size_t count);
-BITVEC_CHECKED uint8_t bitvec_c_copy_u8_to_u16(
-    uint8_t source_order, const uint8_t *source, size_t source_words, size_t source_start,
-    uint8_t order, uint16_t *target, size_t target_words, size_t target_start, size_t count);
-BITVEC_CHECKED uint8_t bitvec_c_copy_u8_to_u32(
-    uint8_t source_order, const uint8_t *source, size_t source_words, size_t source_start,
-    uint8_t order, uint32_t *target, size_t target_words, size_t target_start, size_t count);
-BITVEC_CHECKED uint8_t bitvec_c_copy_u8_to_u64(
-    uint8_t source_order, const uint8_t *source, size_t source_words, size_t source_start,
-    uint8_t order, uint64_t *target, size_t target_words, size_t target_start, size_t count);
-BITVEC_CHECKED uint8_t bitvec_c_copy_u16_to_u8(
-    uint8_t source_order, const uint16_t *source, size_t source_words, size_t source_start,
-    uint8_t order, uint8_t *target, size_t target_words, size_t target_start, size_t count);
-BITVEC_CHECKED uint8_t bitvec_c_copy_u16_to_u16(
-    uint8_t source_order, const uint16_t *source, size_t source_words, size_t source_start,
-    uint8_t order, uint16_t *target, size_t target_words, size_t target_start, size_t count);
-BITVEC_CHECKED uint8_t bitvec_c_copy_u16_to_u32(
-    uint8_t source_order, const uint16_t *source, size_t source_words, size_t source_start,
-    uint8_t order, uint32_t *target, size_t target_words, size_t target_start, size_t count);
-BITVEC_CHECKED uint8_t bitvec_c_copy_u16_to_u64(
-    uint8_t source_order, const uint16_t *source, size_t source_words, size_t source_start,
-    uint8_t order, uint64_t *target, size_t target_words, size_t target_start, size_t count);
-BITVEC_CHECKED uint8_t bitvec_c_copy_u32_to_u8(
-    uint8_t source_order, const uint32_t *source, size_t source_words, size_t source_start,
-    uint8_t order, uint8_t *target, size_t target_words, size_t target_start, size_t count);
-BITVEC_CHECKED uint8_t bitvec_c_copy_u32_to_u16(
-    uint8_t source_order, const uint32_t *source, size_t source_words, size_t source_start,
-    uint8_t order, uint16_t *target, size_t target_words, size_t target_start, size_t count);
-BITVEC_CHECKED uint8_t bitvec_c_copy_u32_to_u32(
-    uint8_t source_order, const uint32_t *source, size_t source_words, size_t source_start,
-    uint8_t order, uint32_t *target, size_t target_words, size_t target_start, size_t count);
-BITVEC_CHECKED uint8_t bitvec_c_copy_u32_to_u64(
-    uint8_t source_order, const uint32_t *source, size_t source_words, size_t source_start,
-    uint8_t order, uint64_t *target, size_t target_words, size_t target_start, size_t count);
-BITVEC_CHECKED uint8_t bitvec_c_copy_u64_to_u8(
-    uint8_t source_order, const uint64_t *source, size_t source_words, size_t source_start,
-    uint8_t order, uint8_t *target, size_t target_words, size_t target_start, size_t count);
-BITVEC_CHECKED uint8_t bitvec_c_copy_u64_to_u16(
-    uint8_t source_order, const uint64_t *source, size_t source_words, size_t source_start,
-    uint8_t order, uint16_t *target, size_t target_words, size_t target_start, size_t count);
-BITVEC_CHECKED uint8_t bitvec_c_copy_u64_to_u32(
-    uint8_t source_order, const uint64_t *source, size_t source_words, size_t source_start,
-    uint8_t order, uint32_t *target, size_t target_words, size_t target_start, size_t count);
-BITVEC_CHECKED uint8_t bitvec_c_copy_u64_to_u64(
-    uint8_t source_order, const uint64_t *source, size_t source_words, size_t source_start,
-    uint8_t order, uint64_t *target, size_t target_words, size_t target_start, size_t count);
+/* ----------------------------------------- Numbers ------------------------------------------ */
 
-/* The calls from here to bitvec_c_read_signed_exp_golomb_W read numbers that stand one behind the
- * other: each takes bits from `*place` on, of those that end before `end`, and moves `*place`
- * behind them. BITVEC_TOO_LONG: more than BITVEC_MAX_BITS bits lie between the two.
- * BITVEC_OUTSIDE: `end` is before `*place`, or past the last bit of the memory. BITVEC_TOO_FEW:
- * fewer bits are left than it takes. To pass over bits, or to go back, a caller sets `*place`
- * itself. */
+/* The range has `count` bits from `start` on, at most 64, or the call refuses with BITVEC_TOO_WIDE.
+ * The bits that one word has of the range are digits of the number as they are digits of the word,
+ * in the same order; those of the range's first word are the lowest or, where `big_endian`, the
+ * highest. */
+
+/* Writes to `number` the number whose digits the bits of a range are; its other digits are 0.
+ * Refuses with BITVEC_NO_ORDER, BITVEC_TOO_LONG, BITVEC_OUTSIDE or BITVEC_TOO_WIDE. */
+BITVEC_CHECKED uint8_t bitvec_c_load_u8(
+    uint8_t order, bool big_endian, const uint8_t *memory, size_t words, size_t start, size_t count,
+    uint64_t *number) BITVEC_NONNULL(7);
+BITVEC_CHECKED uint8_t bitvec_c_load_u16(
+    uint8_t order, bool big_endian, const uint16_t *memory, size_t words, size_t start, size_t
+    count, uint64_t *number) BITVEC_NONNULL(7);
+BITVEC_CHECKED uint8_t bitvec_c_load_u32(
+    uint8_t order, bool big_endian, const uint32_t *memory, size_t words, size_t start, size_t
+    count, uint64_t *number) BITVEC_NONNULL(7);
+BITVEC_CHECKED uint8_t bitvec_c_load_u64(
+    uint8_t order, bool big_endian, const uint64_t *memory, size_t words, size_t start, size_t
+    count, uint64_t *number) BITVEC_NONNULL(7);
+
+/* Makes the bits of a range the lowest digits of a number, so that bitvec_c_load_W gives them back.
+ * Its other digits are dropped. Refuses with BITVEC_NO_ORDER, BITVEC_TOO_LONG, BITVEC_OUTSIDE or
+ * BITVEC_TOO_WIDE. */
+BITVEC_CHECKED uint8_t bitvec_c_store_u8(
+    uint8_t order, bool big_endian, uint8_t *memory, size_t words, size_t start, size_t count,
+    uint64_t number);
+BITVEC_CHECKED uint8_t bitvec_c_store_u16(
+    uint8_t order, bool big_endian, uint16_t *memory, size_t words, size_t start, size_t count,
+    uint64_t number);
+BITVEC_CHECKED uint8_t bitvec_c_store_u32(
+    uint8_t order, bool big_endian, uint32_t *memory, size_t words, size_t start, size_t count,
+    uint64_t number);
+BITVEC_CHECKED uint8_t bitvec_c_store_u64(
+    uint8_t order, bool big_endian, uint64_t *memory, size_t words, size_t start, size_t count,
+    uint64_t number);
+
+/* Writes to `number` the signed number whose two's complement of `count` digits bitvec_c_load_W
+ * gives. For no bits it is 0. Refuses with BITVEC_NO_ORDER, BITVEC_TOO_LONG, BITVEC_OUTSIDE or
+ * BITVEC_TOO_WIDE. */
+BITVEC_CHECKED uint8_t bitvec_c_load_signed_u8(
+    uint8_t order, bool big_endian, const uint8_t *memory, size_t words, size_t start, size_t count,
+    int64_t *number) BITVEC_NONNULL(7);
+BITVEC_CHECKED uint8_t bitvec_c_load_signed_u16(
+    uint8_t order, bool big_endian, const uint16_t *memory, size_t words, size_t start, size_t
+    count, int64_t *number) BITVEC_NONNULL(7);
+BITVEC_CHECKED uint8_t bitvec_c_load_signed_u32(
+    uint8_t order, bool big_endian, const uint32_t *memory, size_t words, size_t start, size_t
+    count, int64_t *number) BITVEC_NONNULL(7);
+BITVEC_CHECKED uint8_t bitvec_c_load_signed_u64(
+    uint8_t order, bool big_endian, const uint64_t *memory, size_t words, size_t start, size_t
+    count, int64_t *number) BITVEC_NONNULL(7);
+
+/* Makes the bits of a range the lowest digits of a signed number's two's complement, so that
+ * bitvec_c_load_signed_W gives back a number that has no more digits. Refuses with BITVEC_NO_ORDER,
+ * BITVEC_TOO_LONG, BITVEC_OUTSIDE or BITVEC_TOO_WIDE. */
+BITVEC_CHECKED uint8_t bitvec_c_store_signed_u8(
+    uint8_t order, bool big_endian, uint8_t *memory, size_t words, size_t start, size_t count,
+    int64_t number);
+BITVEC_CHECKED uint8_t bitvec_c_store_signed_u16(
+    uint8_t order, bool big_endian, uint16_t *memory, size_t words, size_t start, size_t count,
+    int64_t number);
+BITVEC_CHECKED uint8_t bitvec_c_store_signed_u32(
+    uint8_t order, bool big_endian, uint32_t *memory, size_t words, size_t start, size_t count,
+    int64_t number);
+BITVEC_CHECKED uint8_t bitvec_c_store_signed_u64(
+    uint8_t order, bool big_endian, uint64_t *memory, size_t words, size_t start, size_t count,
+    int64_t number);
+
+/* ----------------------------------------- Streams ------------------------------------------ */
+
+/* Numbers that stand one behind the other: each call reads or writes bits from `*place` on, of
+ * those that end before `end`, and moves `*place` behind them. BITVEC_TOO_LONG: more than
+ * BITVEC_MAX_BITS bits lie between the two. BITVEC_OUTSIDE: `end` is before `*place`, or past the
+ * last bit of the memory. BITVEC_TOO_FEW: fewer bits are left than it takes or writes. To pass over
+ * bits, or to go back, a caller sets `*place` itself. */
 
 /* Writes to `number` the number of the next `count` bits: the first is its lowest digit or, where
  * `big_endian`, the highest, whatever the order and the width are. For no bits it is 0.
- * BITVEC_TOO_WIDE: `count` is past 64. Costs by words. */
+ * BITVEC_TOO_WIDE: `count` is past 64. Refuses with BITVEC_NO_ORDER, BITVEC_TOO_LONG,
+ * BITVEC_OUTSIDE, BITVEC_TOO_WIDE or BITVEC_TOO_FEW. Costs by words. */
 BITVEC_CHECKED uint8_t bitvec_c_read_u8(
     uint8_t order, bool big_endian, const uint8_t *memory, size_t words, size_t *place, size_t end,
     size_t count, uint64_t *number) BITVEC_NONNULL(5) BITVEC_NONNULL(8);
@@ -778,8 +830,9 @@ BITVEC_CHECKED uint8_t bitvec_c_read_u64(
     uint8_t order, bool big_endian, const uint64_t *memory, size_t words, size_t *place, size_t end,
     size_t count, uint64_t *number) BITVEC_NONNULL(5) BITVEC_NONNULL(8);
 
-/* Writes to `number` the signed number whose two's complement of `count` digits that is; for no
- * bits it is 0. BITVEC_TOO_WIDE: as above. Costs by words. */
+/* Writes to `number` the signed number whose two's complement of `count` digits that is. For no
+ * bits it is 0. BITVEC_TOO_WIDE: as above. Refuses with BITVEC_NO_ORDER, BITVEC_TOO_LONG,
+ * BITVEC_OUTSIDE, BITVEC_TOO_WIDE or BITVEC_TOO_FEW. Costs by words. */
 BITVEC_CHECKED uint8_t bitvec_c_read_signed_u8(
     uint8_t order, bool big_endian, const uint8_t *memory, size_t words, size_t *place, size_t end,
     size_t count, int64_t *number) BITVEC_NONNULL(5) BITVEC_NONNULL(8);
@@ -794,66 +847,65 @@ BITVEC_CHECKED uint8_t bitvec_c_read_signed_u64(
     size_t count, int64_t *number) BITVEC_NONNULL(5) BITVEC_NONNULL(8);
 
 /* Writes to `count` how many bits are the same as `bit` before the first that is not, which is
- * taken too. BITVEC_TOO_FEW: all bits that are left are the same as `bit`, also where none is
- * left. Costs by words. */
+ * taken too. BITVEC_TOO_FEW: all bits that are left are the same as `bit`, also where none is left.
+ * Refuses with BITVEC_NO_ORDER, BITVEC_TOO_LONG, BITVEC_OUTSIDE or BITVEC_TOO_FEW. Costs by words.
+ * */
 BITVEC_CHECKED uint8_t bitvec_c_read_unary_u8(
-    uint8_t order, const uint8_t *memory, size_t words, size_t *place, size_t end, bool bit,
-    size_t *count) BITVEC_NONNULL(4) BITVEC_NONNULL(7);
+    uint8_t order, const uint8_t *memory, size_t words, size_t *place, size_t end, bool bit, size_t
+    *count) BITVEC_NONNULL(4) BITVEC_NONNULL(7);
 BITVEC_CHECKED uint8_t bitvec_c_read_unary_u16(
-    uint8_t order, const uint16_t *memory, size_t words, size_t *place, size_t end, bool bit,
-    size_t *count) BITVEC_NONNULL(4) BITVEC_NONNULL(7);
+    uint8_t order, const uint16_t *memory, size_t words, size_t *place, size_t end, bool bit, size_t
+    *count) BITVEC_NONNULL(4) BITVEC_NONNULL(7);
 BITVEC_CHECKED uint8_t bitvec_c_read_unary_u32(
-    uint8_t order, const uint32_t *memory, size_t words, size_t *place, size_t end, bool bit,
-    size_t *count) BITVEC_NONNULL(4) BITVEC_NONNULL(7);
+    uint8_t order, const uint32_t *memory, size_t words, size_t *place, size_t end, bool bit, size_t
+    *count) BITVEC_NONNULL(4) BITVEC_NONNULL(7);
 BITVEC_CHECKED uint8_t bitvec_c_read_unary_u64(
-    uint8_t order, const uint64_t *memory, size_t words, size_t *place, size_t end, bool bit,
-    size_t *count) BITVEC_NONNULL(4) BITVEC_NONNULL(7);
+    uint8_t order, const uint64_t *memory, size_t words, size_t *place, size_t end, bool bit, size_t
+    *count) BITVEC_NONNULL(4) BITVEC_NONNULL(7);
 
 /* Writes to `number` the number of an Exp-Golomb code, ue(v) of ITU-T H.264 and H.265: as many
  * zeros as the number and one have binary digits, less one, and then these digits, the highest
  * first. So 1 is 0, 010 is 1, 011 is 2 and 00100 is 3. BITVEC_TOO_FEW: the bits end before a code
- * does. BITVEC_TOO_LARGE: the number has more than 64 digits. Costs by words. */
+ * does. BITVEC_TOO_LARGE: the number has more than 64 digits. Refuses with BITVEC_NO_ORDER,
+ * BITVEC_TOO_LONG, BITVEC_OUTSIDE, BITVEC_TOO_FEW or BITVEC_TOO_LARGE. Costs by words. */
 BITVEC_CHECKED uint8_t bitvec_c_read_exp_golomb_u8(
-    uint8_t order, const uint8_t *memory, size_t words, size_t *place, size_t end,
-    uint64_t *number) BITVEC_NONNULL(4) BITVEC_NONNULL(6);
+    uint8_t order, const uint8_t *memory, size_t words, size_t *place, size_t end, uint64_t *number)
+    BITVEC_NONNULL(4) BITVEC_NONNULL(6);
 BITVEC_CHECKED uint8_t bitvec_c_read_exp_golomb_u16(
-    uint8_t order, const uint16_t *memory, size_t words, size_t *place, size_t end,
-    uint64_t *number) BITVEC_NONNULL(4) BITVEC_NONNULL(6);
+    uint8_t order, const uint16_t *memory, size_t words, size_t *place, size_t end, uint64_t
+    *number) BITVEC_NONNULL(4) BITVEC_NONNULL(6);
 BITVEC_CHECKED uint8_t bitvec_c_read_exp_golomb_u32(
-    uint8_t order, const uint32_t *memory, size_t words, size_t *place, size_t end,
-    uint64_t *number) BITVEC_NONNULL(4) BITVEC_NONNULL(6);
+    uint8_t order, const uint32_t *memory, size_t words, size_t *place, size_t end, uint64_t
+    *number) BITVEC_NONNULL(4) BITVEC_NONNULL(6);
 BITVEC_CHECKED uint8_t bitvec_c_read_exp_golomb_u64(
-    uint8_t order, const uint64_t *memory, size_t words, size_t *place, size_t end,
-    uint64_t *number) BITVEC_NONNULL(4) BITVEC_NONNULL(6);
+    uint8_t order, const uint64_t *memory, size_t words, size_t *place, size_t end, uint64_t
+    *number) BITVEC_NONNULL(4) BITVEC_NONNULL(6);
 
 /* Writes to `number` the signed number of one, se(v) there: the codes of 0, 1, 2, 3, 4 and so on
  * are those of 0, 1, -1, 2, -2 and so on. BITVEC_TOO_FEW and BITVEC_TOO_LARGE: as above, where an
- * int64_t has not the number. Costs by words. */
+ * int64_t has not the number. Refuses with BITVEC_NO_ORDER, BITVEC_TOO_LONG, BITVEC_OUTSIDE,
+ * BITVEC_TOO_FEW or BITVEC_TOO_LARGE. Costs by words. */
 BITVEC_CHECKED uint8_t bitvec_c_read_signed_exp_golomb_u8(
-    uint8_t order, const uint8_t *memory, size_t words, size_t *place, size_t end,
-    int64_t *number) BITVEC_NONNULL(4) BITVEC_NONNULL(6);
+    uint8_t order, const uint8_t *memory, size_t words, size_t *place, size_t end, int64_t *number)
+    BITVEC_NONNULL(4) BITVEC_NONNULL(6);
 BITVEC_CHECKED uint8_t bitvec_c_read_signed_exp_golomb_u16(
-    uint8_t order, const uint16_t *memory, size_t words, size_t *place, size_t end,
-    int64_t *number) BITVEC_NONNULL(4) BITVEC_NONNULL(6);
+    uint8_t order, const uint16_t *memory, size_t words, size_t *place, size_t end, int64_t *number)
+    BITVEC_NONNULL(4) BITVEC_NONNULL(6);
 BITVEC_CHECKED uint8_t bitvec_c_read_signed_exp_golomb_u32(
-    uint8_t order, const uint32_t *memory, size_t words, size_t *place, size_t end,
-    int64_t *number) BITVEC_NONNULL(4) BITVEC_NONNULL(6);
+    uint8_t order, const uint32_t *memory, size_t words, size_t *place, size_t end, int64_t *number)
+    BITVEC_NONNULL(4) BITVEC_NONNULL(6);
 BITVEC_CHECKED uint8_t bitvec_c_read_signed_exp_golomb_u64(
-    uint8_t order, const uint64_t *memory, size_t words, size_t *place, size_t end,
-    int64_t *number) BITVEC_NONNULL(4) BITVEC_NONNULL(6);
-
-/* The calls from here to bitvec_c_write_signed_exp_golomb_W write numbers one behind the other, so
- * that the calls above read them back: each writes bits from `*place` on, of those that end before
- * `end`, moves `*place` behind them, and changes no other bit. BITVEC_TOO_LONG and
- * BITVEC_OUTSIDE: as above. BITVEC_TOO_FEW: fewer bits are left than it writes. */
+    uint8_t order, const uint64_t *memory, size_t words, size_t *place, size_t end, int64_t *number)
+    BITVEC_NONNULL(4) BITVEC_NONNULL(6);
 
 /* Makes the next `count` bits the digits of a number: the first becomes its lowest digit or, where
  * `big_endian`, the highest, whatever the order and the width are. BITVEC_TOO_WIDE: `count` is past
  * 64. BITVEC_TOO_LARGE: the number is not below 2^count, where bitvec_c_store_W drops its highest
- * digits. Costs by words. */
+ * digits. Refuses with BITVEC_NO_ORDER, BITVEC_TOO_LONG, BITVEC_OUTSIDE, BITVEC_TOO_WIDE,
+ * BITVEC_TOO_FEW or BITVEC_TOO_LARGE. Costs by words. */
 BITVEC_CHECKED uint8_t bitvec_c_write_u8(
-    uint8_t order, bool big_endian, uint8_t *memory, size_t words, size_t *place, size_t end,
-    size_t count, uint64_t number) BITVEC_NONNULL(5);
+    uint8_t order, bool big_endian, uint8_t *memory, size_t words, size_t *place, size_t end, size_t
+    count, uint64_t number) BITVEC_NONNULL(5);
 BITVEC_CHECKED uint8_t bitvec_c_write_u16(
     uint8_t order, bool big_endian, uint16_t *memory, size_t words, size_t *place, size_t end,
     size_t count, uint64_t number) BITVEC_NONNULL(5);
@@ -866,10 +918,11 @@ BITVEC_CHECKED uint8_t bitvec_c_write_u64(
 
 /* Makes them the digits of a signed number's two's complement. BITVEC_TOO_WIDE: as above.
  * BITVEC_TOO_LARGE: the number is below -2^(count - 1) or not below 2^(count - 1), or for no bits
- * not 0. Costs by words. */
+ * not 0. Refuses with BITVEC_NO_ORDER, BITVEC_TOO_LONG, BITVEC_OUTSIDE, BITVEC_TOO_WIDE,
+ * BITVEC_TOO_FEW or BITVEC_TOO_LARGE. Costs by words. */
 BITVEC_CHECKED uint8_t bitvec_c_write_signed_u8(
-    uint8_t order, bool big_endian, uint8_t *memory, size_t words, size_t *place, size_t end,
-    size_t count, int64_t number) BITVEC_NONNULL(5);
+    uint8_t order, bool big_endian, uint8_t *memory, size_t words, size_t *place, size_t end, size_t
+    count, int64_t number) BITVEC_NONNULL(5);
 BITVEC_CHECKED uint8_t bitvec_c_write_signed_u16(
     uint8_t order, bool big_endian, uint16_t *memory, size_t words, size_t *place, size_t end,
     size_t count, int64_t number) BITVEC_NONNULL(5);
@@ -881,52 +934,59 @@ BITVEC_CHECKED uint8_t bitvec_c_write_signed_u64(
     size_t count, int64_t number) BITVEC_NONNULL(5);
 
 /* Makes the next `count` bits the same as `bit`, and the one behind them the other. BITVEC_TOO_FEW:
- * no more than `count` bits are left. Costs by words. */
+ * no more than `count` bits are left. Refuses with BITVEC_NO_ORDER, BITVEC_TOO_LONG, BITVEC_OUTSIDE
+ * or BITVEC_TOO_FEW. Costs by words. */
 BITVEC_CHECKED uint8_t bitvec_c_write_unary_u8(
-    uint8_t order, uint8_t *memory, size_t words, size_t *place, size_t end, bool bit,
-    size_t count) BITVEC_NONNULL(4);
+    uint8_t order, uint8_t *memory, size_t words, size_t *place, size_t end, bool bit, size_t count)
+    BITVEC_NONNULL(4);
 BITVEC_CHECKED uint8_t bitvec_c_write_unary_u16(
-    uint8_t order, uint16_t *memory, size_t words, size_t *place, size_t end, bool bit,
-    size_t count) BITVEC_NONNULL(4);
+    uint8_t order, uint16_t *memory, size_t words, size_t *place, size_t end, bool bit, size_t
+    count) BITVEC_NONNULL(4);
 BITVEC_CHECKED uint8_t bitvec_c_write_unary_u32(
-    uint8_t order, uint32_t *memory, size_t words, size_t *place, size_t end, bool bit,
-    size_t count) BITVEC_NONNULL(4);
+    uint8_t order, uint32_t *memory, size_t words, size_t *place, size_t end, bool bit, size_t
+    count) BITVEC_NONNULL(4);
 BITVEC_CHECKED uint8_t bitvec_c_write_unary_u64(
-    uint8_t order, uint64_t *memory, size_t words, size_t *place, size_t end, bool bit,
-    size_t count) BITVEC_NONNULL(4);
+    uint8_t order, uint64_t *memory, size_t words, size_t *place, size_t end, bool bit, size_t
+    count) BITVEC_NONNULL(4);
 
-/* Writes the Exp-Golomb code of a number, as above: each number has one, of at most 129 bits. Costs
- * by words. */
+/* Writes the Exp-Golomb code of a number, as above: each number has one, of at most 129 bits.
+ * Refuses with BITVEC_NO_ORDER, BITVEC_TOO_LONG, BITVEC_OUTSIDE or BITVEC_TOO_FEW. Costs by words.
+ * */
 BITVEC_CHECKED uint8_t bitvec_c_write_exp_golomb_u8(
-    uint8_t order, uint8_t *memory, size_t words, size_t *place, size_t end,
-    uint64_t number) BITVEC_NONNULL(4);
+    uint8_t order, uint8_t *memory, size_t words, size_t *place, size_t end, uint64_t number)
+    BITVEC_NONNULL(4);
 BITVEC_CHECKED uint8_t bitvec_c_write_exp_golomb_u16(
-    uint8_t order, uint16_t *memory, size_t words, size_t *place, size_t end,
-    uint64_t number) BITVEC_NONNULL(4);
+    uint8_t order, uint16_t *memory, size_t words, size_t *place, size_t end, uint64_t number)
+    BITVEC_NONNULL(4);
 BITVEC_CHECKED uint8_t bitvec_c_write_exp_golomb_u32(
-    uint8_t order, uint32_t *memory, size_t words, size_t *place, size_t end,
-    uint64_t number) BITVEC_NONNULL(4);
+    uint8_t order, uint32_t *memory, size_t words, size_t *place, size_t end, uint64_t number)
+    BITVEC_NONNULL(4);
 BITVEC_CHECKED uint8_t bitvec_c_write_exp_golomb_u64(
-    uint8_t order, uint64_t *memory, size_t words, size_t *place, size_t end,
-    uint64_t number) BITVEC_NONNULL(4);
+    uint8_t order, uint64_t *memory, size_t words, size_t *place, size_t end, uint64_t number)
+    BITVEC_NONNULL(4);
 
-/* Writes the code of a signed number, as above, of at most 129 bits too. Costs by words. */
+/* Writes the code of a signed number, as above, of at most 129 bits too. Refuses with
+ * BITVEC_NO_ORDER, BITVEC_TOO_LONG, BITVEC_OUTSIDE or BITVEC_TOO_FEW. Costs by words. */
 BITVEC_CHECKED uint8_t bitvec_c_write_signed_exp_golomb_u8(
-    uint8_t order, uint8_t *memory, size_t words, size_t *place, size_t end,
-    int64_t number) BITVEC_NONNULL(4);
+    uint8_t order, uint8_t *memory, size_t words, size_t *place, size_t end, int64_t number)
+    BITVEC_NONNULL(4);
 BITVEC_CHECKED uint8_t bitvec_c_write_signed_exp_golomb_u16(
-    uint8_t order, uint16_t *memory, size_t words, size_t *place, size_t end,
-    int64_t number) BITVEC_NONNULL(4);
+    uint8_t order, uint16_t *memory, size_t words, size_t *place, size_t end, int64_t number)
+    BITVEC_NONNULL(4);
 BITVEC_CHECKED uint8_t bitvec_c_write_signed_exp_golomb_u32(
-    uint8_t order, uint32_t *memory, size_t words, size_t *place, size_t end,
-    int64_t number) BITVEC_NONNULL(4);
+    uint8_t order, uint32_t *memory, size_t words, size_t *place, size_t end, int64_t number)
+    BITVEC_NONNULL(4);
 BITVEC_CHECKED uint8_t bitvec_c_write_signed_exp_golomb_u64(
-    uint8_t order, uint64_t *memory, size_t words, size_t *place, size_t end,
-    int64_t number) BITVEC_NONNULL(4);
+    uint8_t order, uint64_t *memory, size_t words, size_t *place, size_t end, int64_t number)
+    BITVEC_NONNULL(4);
 
-/* Tests the spans of a run for a memory of so many words: BITVEC_NO_ORDER, BITVEC_TOO_MANY_SPANS,
- * BITVEC_TOO_LONG, BITVEC_OUTSIDE, BITVEC_OVERLAP. It tests each with each, so costs at most 2016
- * such tests. */
+/* ------------------------------------------- Runs ------------------------------------------- */
+
+/* A run gives commands to disjoint spans of one memory. */
+
+/* Tests the spans of a run for a memory of so many words: each lies in it, and no two have a bit in
+ * common. Refuses with BITVEC_NO_ORDER, BITVEC_TOO_MANY_SPANS, BITVEC_TOO_LONG, BITVEC_OUTSIDE or
+ * BITVEC_OVERLAP. Costs at most 2016 such tests, of each span with each. */
 BITVEC_CHECKED uint8_t bitvec_c_can_run_u8(
     uint8_t order, const struct bitvec_span *spans, size_t span_count, size_t words);
 BITVEC_CHECKED uint8_t bitvec_c_can_run_u16(
@@ -938,29 +998,32 @@ BITVEC_CHECKED uint8_t bitvec_c_can_run_u64(
 
 /* Serves the requests in their order, each through the span that it names, and writes the n-th
  * reply to the n-th request. It tests what bitvec_c_can_run_W does, and BITVEC_NO_ROOM and
- * BITVEC_NO_COMMAND, before it serves the first. Costs these tests, and what the commands cost:
- * BITVEC_COPY and BITVEC_FILL by words, each other one constant. */
+ * BITVEC_NO_COMMAND, before it serves the first. Refuses with BITVEC_NO_ORDER,
+ * BITVEC_TOO_MANY_SPANS, BITVEC_TOO_LONG, BITVEC_OUTSIDE, BITVEC_OVERLAP, BITVEC_NO_ROOM or
+ * BITVEC_NO_COMMAND. Costs these tests, and what the commands cost, BITVEC_COPY and BITVEC_FILL by
+ * words, each other one constant. */
 BITVEC_CHECKED uint8_t bitvec_c_run_u8(
-    uint8_t order, const struct bitvec_span *spans, size_t span_count, uint8_t *memory,
-    size_t words, const struct bitvec_request *requests, size_t request_count,
-    struct bitvec_reply *replies, size_t reply_count);
+    uint8_t order, const struct bitvec_span *spans, size_t span_count, uint8_t *memory, size_t
+    words, const struct bitvec_request *requests, size_t request_count, struct bitvec_reply
+    *replies, size_t reply_count);
 BITVEC_CHECKED uint8_t bitvec_c_run_u16(
-    uint8_t order, const struct bitvec_span *spans, size_t span_count, uint16_t *memory,
-    size_t words, const struct bitvec_request *requests, size_t request_count,
-    struct bitvec_reply *replies, size_t reply_count);
+    uint8_t order, const struct bitvec_span *spans, size_t span_count, uint16_t *memory, size_t
+    words, const struct bitvec_request *requests, size_t request_count, struct bitvec_reply
+    *replies, size_t reply_count);
 BITVEC_CHECKED uint8_t bitvec_c_run_u32(
-    uint8_t order, const struct bitvec_span *spans, size_t span_count, uint32_t *memory,
-    size_t words, const struct bitvec_request *requests, size_t request_count,
-    struct bitvec_reply *replies, size_t reply_count);
+    uint8_t order, const struct bitvec_span *spans, size_t span_count, uint32_t *memory, size_t
+    words, const struct bitvec_request *requests, size_t request_count, struct bitvec_reply
+    *replies, size_t reply_count);
 BITVEC_CHECKED uint8_t bitvec_c_run_u64(
-    uint8_t order, const struct bitvec_span *spans, size_t span_count, uint64_t *memory,
-    size_t words, const struct bitvec_request *requests, size_t request_count,
-    struct bitvec_reply *replies, size_t reply_count);
+    uint8_t order, const struct bitvec_span *spans, size_t span_count, uint64_t *memory, size_t
+    words, const struct bitvec_request *requests, size_t request_count, struct bitvec_reply
+    *replies, size_t reply_count);
 
-/* The same as the tests above of any number of spans, in time n log n for n of them: `room` has as
- * many numbers as there are spans. Where the status is BITVEC_OK or BITVEC_OVERLAP it holds the
- * numbers of the spans in an order in which their first bits rise; else it is as it was.
- * BITVEC_NO_ROOM: `room_count` is not `span_count`. */
+/* Tests any number of spans as bitvec_c_can_run_W does: `room` has as many numbers as there are
+ * spans, or the call refuses with BITVEC_NO_ROOM. Where the status is BITVEC_OK or BITVEC_OVERLAP
+ * it holds the numbers of the spans in an order in which their first bits rise; else it is as it
+ * was. Refuses with BITVEC_NO_ORDER, BITVEC_NO_ROOM, BITVEC_TOO_LONG, BITVEC_OUTSIDE or
+ * BITVEC_OVERLAP. Costs n log n for n spans. */
 BITVEC_CHECKED uint8_t bitvec_c_can_run_in_u8(
     uint8_t order, const struct bitvec_span *spans, size_t span_count, size_t words, size_t *room,
     size_t room_count);
@@ -974,26 +1037,27 @@ BITVEC_CHECKED uint8_t bitvec_c_can_run_in_u64(
     uint8_t order, const struct bitvec_span *spans, size_t span_count, size_t words, size_t *room,
     size_t room_count);
 
-/* The run above through any number of spans, which are tested as bitvec_c_can_run_in_W does. Where
- * that test would answer BITVEC_OK or BITVEC_OVERLAP, `room` holds the numbers of the spans
- * afterwards, also where the run is refused; else it is as it was. Costs as that run, with these
- * tests. */
+/* Serves the requests through any number of spans, which are tested as bitvec_c_can_run_in_W does.
+ * Where that test would answer BITVEC_OK or BITVEC_OVERLAP, `room` holds the numbers of the spans
+ * afterwards, also where the run is refused; else it is as it was. Refuses with BITVEC_NO_ORDER,
+ * BITVEC_NO_ROOM, BITVEC_TOO_LONG, BITVEC_OUTSIDE, BITVEC_OVERLAP or BITVEC_NO_COMMAND. Costs as
+ * bitvec_c_run_W, with these tests. */
 BITVEC_CHECKED uint8_t bitvec_c_run_in_u8(
-    uint8_t order, const struct bitvec_span *spans, size_t span_count, uint8_t *memory,
-    size_t words, const struct bitvec_request *requests, size_t request_count,
-    struct bitvec_reply *replies, size_t reply_count, size_t *room, size_t room_count);
+    uint8_t order, const struct bitvec_span *spans, size_t span_count, uint8_t *memory, size_t
+    words, const struct bitvec_request *requests, size_t request_count, struct bitvec_reply
+    *replies, size_t reply_count, size_t *room, size_t room_count);
 BITVEC_CHECKED uint8_t bitvec_c_run_in_u16(
-    uint8_t order, const struct bitvec_span *spans, size_t span_count, uint16_t *memory,
-    size_t words, const struct bitvec_request *requests, size_t request_count,
-    struct bitvec_reply *replies, size_t reply_count, size_t *room, size_t room_count);
+    uint8_t order, const struct bitvec_span *spans, size_t span_count, uint16_t *memory, size_t
+    words, const struct bitvec_request *requests, size_t request_count, struct bitvec_reply
+    *replies, size_t reply_count, size_t *room, size_t room_count);
 BITVEC_CHECKED uint8_t bitvec_c_run_in_u32(
-    uint8_t order, const struct bitvec_span *spans, size_t span_count, uint32_t *memory,
-    size_t words, const struct bitvec_request *requests, size_t request_count,
-    struct bitvec_reply *replies, size_t reply_count, size_t *room, size_t room_count);
+    uint8_t order, const struct bitvec_span *spans, size_t span_count, uint32_t *memory, size_t
+    words, const struct bitvec_request *requests, size_t request_count, struct bitvec_reply
+    *replies, size_t reply_count, size_t *room, size_t room_count);
 BITVEC_CHECKED uint8_t bitvec_c_run_in_u64(
-    uint8_t order, const struct bitvec_span *spans, size_t span_count, uint64_t *memory,
-    size_t words, const struct bitvec_request *requests, size_t request_count,
-    struct bitvec_reply *replies, size_t reply_count, size_t *room, size_t room_count);
+    uint8_t order, const struct bitvec_span *spans, size_t span_count, uint64_t *memory, size_t
+    words, const struct bitvec_request *requests, size_t request_count, struct bitvec_reply
+    *replies, size_t reply_count, size_t *room, size_t room_count);
 
 #undef BITVEC_NONNULL
 #undef BITVEC_CHECKED

@@ -7,23 +7,13 @@
 //! of its first bit and a count.
 #![tactic(auto)]
 
-mod bit;
-mod combine;
-mod convert;
-mod copy;
-mod edit;
-mod exchange;
-mod fill;
-mod find;
-mod next;
-mod number;
-mod question;
-mod read;
-mod read_code;
-mod run;
-mod run_in;
-mod seek;
-mod signed;
+mod a_range;
+mod counting;
+mod moving;
+mod numbers;
+mod one_bit;
+mod runs;
+mod searching;
+mod streams;
+mod two_ranges;
 mod version;
-mod write;
-mod write_code;

@@ -1,11 +1,11 @@
-//! The export that answers the version of the archive.
+//! The version: exports for callers in C. Written by `.ci/exports`.
 
 ghost use Rattle.std.specs.Prelude.{◌≡◌};
 ghost use Rattle.bitvec_call.specs.Version.{version};
 
 use bitvec_call::version::VERSION;
 
-/// Answers the number of the archive's version, which a caller compares with that of the header.
+/// Returns the version of the archive, to be compared with that of the header, `VERSION`.
 #[unsafe(no_mangle)]
 pub extern "C" fn bitvec_c_version() -> u32
     ensures { result ≡ version }

@@ -1,5 +1,6 @@
 -- What a call promises, and the operands that calls speak of: bits of a memory from a place on.
-use Rattle.std.specs.Prelude.{◌≡◌, ◌≢◌, ◌↔◌, IsTrue, ℕ, ℤ, Bool, true, List, length, map}
+use Rattle.std.specs.Prelude.{◌≡◌, ◌≢◌, ◌↔◌, IsTrue, ℕ, ℤ, Bool, true, ◌&&◌, ◌||◌, not, List, length, map}
+use Rattle.bitvec.specs.Digit.{exclusive_or}
 use Rattle.bitvec.specs.Memory.{bit_of, zip_with}
 use Rattle.bitvec.specs.Truths.{ones_in}
 use Rattle.bitvec_slice.specs.Signed.{signed_of}
@@ -27,6 +28,22 @@ pub record Operand : Type 0 where
 -- that of a memory of words, each of which has a number
 abbrev pub operand : {W : Type 0} → (W → ℕ) → ℕ → ℕ → ℕ → List W → Operand
 operand number bits order start words = record { bits = bits; order = order; start = start; words = length words; memory = map number words }
+
+-- the same of words of 8 bits, each its number
+abbrev pub u8_at : ℕ → ℕ → List ℕ → Operand
+u8_at order start words = operand (λ n. n) 8 order start words
+
+-- of 16 bits
+abbrev pub u16_at : ℕ → ℕ → List ℕ → Operand
+u16_at order start words = operand (λ n. n) 16 order start words
+
+-- of 32 bits
+abbrev pub u32_at : ℕ → ℕ → List ℕ → Operand
+u32_at order start words = operand (λ n. n) 32 order start words
+
+-- of 64 bits
+abbrev pub u64_at : ℕ → ℕ → List ℕ → Operand
+u64_at order start words = operand (λ n. n) 64 order start words
 
 -- the order of an operand: it takes an index in a word to its position in the number
 abbrev pub order_of : Operand → ℕ → ℕ
@@ -91,6 +108,22 @@ IsCopy source old new count result =
 -- the same where the orders and the words of the two may differ
 abbrev pub IsPut : Operand → Operand → Operand → ℕ → ℕ → Type 0
 IsPut source old new count result = IsCall (operands_status source old count) (OperandBecomes old new count (operand_bits source count)) (new.memory ≡ old.memory) result
+
+-- whether two bits are one
+abbrev pub both : Bool → Bool → Bool
+both = λ x y. x && y
+
+-- whether at least one of two bits is one
+abbrev pub either : Bool → Bool → Bool
+either = λ x y. x || y
+
+-- whether two bits differ
+abbrev pub differ : Bool → Bool → Bool
+differ = exclusive_or
+
+-- whether the first of two bits is one, but not the second
+abbrev pub but_not : Bool → Bool → Bool
+but_not = λ x y. x && not y
 
 -- a call that makes each of the first `count` bits of an operand what `f` makes of it and of the source's
 abbrev pub IsCombination : (Bool → Bool → Bool) → Operand → Operand → Operand → ℕ → ℕ → Type 0
