@@ -91,7 +91,7 @@ static uint8_t show_stream(void) {
 /* Eight bits of one memory, copied to others of another. */
 static uint8_t show_copy(void) {
     uint8_t source[2] = {0x0f, 0xf0}, target[3] = {0};
-    uint8_t status = bitvec_c_copy_u8(BITVEC_MSB0, source, 2, 4, target, 3, 10, 8);
+    uint8_t status = bitvec_c_copy_u8(BITVEC_MSB0, target, 3, 10, source, 2, 4, 8);
     if (status == BITVEC_OK)
         printf("%02x %02x %02x copied\n", target[0], target[1], target[2]);
     return status;

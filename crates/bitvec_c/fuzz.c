@@ -1,5 +1,5 @@
-/* Calls each export with random and with hostile arguments, and compares what it answers, and every
- * bit that it leaves, with a plain model that goes bit by bit.
+/* Calls each export, and each call of the header, with random and with hostile arguments, and
+ * compares what it answers, and every bit that it leaves, with a plain model that goes bit by bit.
  *
  *     fuzz SEED CALLS
  *
@@ -382,8 +382,8 @@ static void sorted_room(struct buffer room, const struct bitvec_span *spans, uin
         if (expected == BITVEC_OK)                                                                 \
             expected = range_status(width, order, target_words, to, from.count);                   \
         protect(source, PROT_READ);                                                                \
-        uint8_t status = bitvec_c_copy_##W(order, (const T *)(void *)source.at, words,             \
-                                           from.start, (T *)(void *)target.at, target_words, to,   \
+        uint8_t status = bitvec_c_copy_##W(order, (T *)(void *)target.at, target_words, to,        \
+                                           (const T *)(void *)source.at, words, from.start,        \
                                            from.count);                                            \
         protect(source, PROT_READ | PROT_WRITE);                                                   \
         same_status(status, expected);                                                             \
@@ -399,8 +399,8 @@ static void sorted_room(struct buffer room, const struct bitvec_span *spans, uin
         uint8_t expected = range_status(width, order, words, from.start, from.count);              \
         if (expected == BITVEC_OK)                                                                 \
             expected = range_status(width, order, words, to, from.count);                          \
-        uint8_t status = bitvec_c_copy_within_##W(order, (T *)(void *)memory.at, words,            \
-                                                  from.start, to, from.count);                     \
+        uint8_t status = bitvec_c_copy_within_##W(order, (T *)(void *)memory.at, words, to,        \
+                                                  from.start, from.count);                         \
         same_status(status, expected);                                                             \
         memcpy(old_model, model, ROOM);                                                            \
         if (status == BITVEC_OK)                                                                   \
@@ -562,7 +562,7 @@ static void sorted_room(struct buffer room, const struct bitvec_span *spans, uin
         size_t *numbers = (size_t *)(void *)room.at, places = room.size / sizeof(size_t);          \
         (void)numbers;                                                                             \
         protect(buffer, PROT_READ);                                                                \
-        uint8_t status = bitvec_c_can_run##IN##_##W(order, spans, count, words TAIL);              \
+        uint8_t status = bitvec_c_can_run##IN##_##W(order, words, spans, count TAIL);              \
         protect(buffer, PROT_READ | PROT_WRITE);                                                   \
         uint8_t expected = spans_status(width, order, spans, count, words, ROOMY, places);         \
         same_status(status, expected);                                                             \
@@ -601,7 +601,7 @@ static void sorted_room(struct buffer room, const struct bitvec_span *spans, uin
         protect(span_buffer, PROT_READ);                                                           \
         protect(request_buffer, PROT_READ);                                                        \
         uint8_t status =                                                                           \
-            bitvec_c_run##IN##_##W(order, spans, span_count, (T *)(void *)memory.at, words,        \
+            bitvec_c_run##IN##_##W(order, (T *)(void *)memory.at, words, spans, span_count,        \
                                    requests, asked, replies, room TAIL);                           \
         protect(request_buffer, PROT_READ | PROT_WRITE);                                           \
         protect(span_buffer, PROT_READ | PROT_WRITE);                                              \
@@ -818,6 +818,42 @@ static uint64_t with_sign(uint64_t digits, size_t count) {
         same_bytes(memory, model);                                                                 \
     }
 
+static size_t model_zeros(unsigned width, uint8_t order, struct range range) {
+    size_t zeros = 0;
+    for (size_t i = 0; i < range.count; i++)
+        zeros += !bit_at(model, width, order, range.start + i);
+    return zeros;
+}
+
+/* A call that the header adds, which answers an `A` of a range: the arguments behind its count. */
+#define NAMED(C, W, T, A, MODELLED, ...)                                                           \
+    static void C##_##W(uint8_t order, unsigned width) {                                           \
+        struct buffer memory = any_memory(MEMORY, width, model), answer = take(ANSWER, sizeof(A)); \
+        size_t words = memory.size / sizeof(T);                                                    \
+        struct range range = any_range(words * width);                                             \
+        size_t from = mostly(range.count);                                                         \
+        A before = (A)any(), expected = before, found;                                             \
+        (void)from;                                                                                \
+        memcpy(answer.at, &before, sizeof(A));                                                     \
+        protect(memory, PROT_READ);                                                                \
+        uint8_t status =                                                                           \
+            bitvec_c_##C##_##W(order, (const T *)(void *)memory.at, words, range.start,            \
+                               range.count, __VA_ARGS__(A *)(void *)answer.at);                    \
+        protect(memory, PROT_READ | PROT_WRITE);                                                   \
+        same_status(status, range_status(width, order, words, range.start, range.count));          \
+        if (status == BITVEC_OK)                                                                   \
+            expected = MODELLED;                                                                   \
+        memcpy(&found, answer.at, sizeof(A));                                                      \
+        if (found != expected)                                                                     \
+            wrong("the answer");                                                                   \
+        same_bytes(memory, model);                                                                 \
+    }
+
+#define SEEK_NAMED(C, W, T, MODEL, BIT)                                                            \
+    NAMED(C, W, T, size_t, MODEL(width, order, range, BIT), )
+#define SEEK_FROM_NAMED(C, W, T, MODEL, BIT)                                                       \
+    NAMED(C, W, T, size_t, MODEL(width, order, range, (struct seek){from, BIT, 0}), from, )
+
 /* The exports that replace a bit, or exchange two. */
 #define EXCHANGE(W, T)                                                                             \
     static void replace_##W(uint8_t order, unsigned width) {                                       \
@@ -925,8 +961,8 @@ static uint64_t with_sign(uint64_t digits, size_t count) {
                                        target_words, to, from.count);                              \
         protect(source, PROT_READ);                                                                \
         uint8_t status =                                                                           \
-            bitvec_c_##C(other_order, (const S *)(void *)source.at, words, from.start, order,      \
-                         (T *)(void *)target.at, target_words, to, from.count);                    \
+            bitvec_c_##C(order, (T *)(void *)target.at, target_words, to, other_order,             \
+                         (const S *)(void *)source.at, words, from.start, from.count);             \
         protect(source, PROT_READ | PROT_WRITE);                                                   \
         same_status(status, expected);                                                             \
         for (size_t i = 0; status == BITVEC_OK && i < from.count; i++) {                           \
@@ -937,15 +973,16 @@ static uint64_t with_sign(uint64_t digits, size_t count) {
         same_bytes(target, model);                                                                 \
     }
 
-/* An export that answers how many pairs of bits an operator makes one, or the first such. */
-#define QUESTION(C, T, S, OPERATOR, COUNTS)                                                        \
+/* A call that answers how many pairs of bits an operator makes one, or of the first such. */
+#define QUESTION(C, T, S, OPERATOR, COUNTS, A, ANSWERED)                                           \
     static void C(uint8_t order, unsigned width) {                                                 \
-        struct buffer memory = any_memory(MEMORY, width, model), answer = take(ANSWER, 8);         \
+        struct buffer memory = any_memory(MEMORY, width, model), answer = take(ANSWER, sizeof(A)); \
         unsigned other_width = 8 * sizeof(S);                                                      \
         struct buffer other = any_memory(OTHER, other_width, other_model);                         \
         uint8_t other_order = any_order();                                                         \
         size_t words = memory.size / sizeof(T), other_words = other.size / sizeof(S);              \
-        size_t before = any(), found = 0, number, seen = 0;                                        \
+        size_t found = 0, seen = 0;                                                                \
+        A before = (A)any(), answered;                                                             \
         struct range range = any_range(words * width);                                             \
         size_t there = any_start(other_words * other_width, range.count);                          \
         if (width == other_width && one_in(2)) { /* the same bits, so that they seldom differ */   \
@@ -963,13 +1000,13 @@ static uint64_t with_sign(uint64_t digits, size_t count) {
             if (other.size != 0)                                                                   \
                 memcpy(other.at, other_model, other.size);                                         \
         }                                                                                          \
-        memcpy(answer.at, &before, 8);                                                             \
+        memcpy(answer.at, &before, sizeof(A));                                                     \
         protect(memory, PROT_READ);                                                                \
         protect(other, PROT_READ);                                                                 \
         uint8_t status =                                                                           \
             bitvec_c_##C(order, (const T *)(void *)memory.at, words, range.start,                  \
                                other_order, (const S *)(void *)other.at, other_words, there,       \
-                               range.count, (size_t *)(void *)answer.at);                          \
+                               range.count, (A *)(void *)answer.at);                               \
         protect(memory, PROT_READ | PROT_WRITE);                                                   \
         protect(other, PROT_READ | PROT_WRITE);                                                    \
         same_status(status, pair_status(width, order, words, range.start, other_width,             \
@@ -981,8 +1018,8 @@ static uint64_t with_sign(uint64_t digits, size_t count) {
             if (model_operator(OPERATOR, here, is) && ++found && !(COUNTS))                        \
                 break;                                                                             \
         }                                                                                          \
-        memcpy(&number, answer.at, 8);                                                             \
-        if (number != (status != BITVEC_OK ? before : (COUNTS) ? found : seen))                    \
+        memcpy(&answered, answer.at, sizeof(A));                                                   \
+        if (answered != (status == BITVEC_OK ? (A)(ANSWERED) : before))                            \
             wrong("the answer");                                                                   \
         same_bytes(memory, model);                                                                 \
     }
@@ -990,9 +1027,19 @@ static uint64_t with_sign(uint64_t digits, size_t count) {
 #define MORE_CALLS(W, T)                                                                           \
     SEEK(first, W, T, below(2))                                                                    \
     SEEK(last, W, T, below(2))                                                                     \
+    SEEK_NAMED(first_zero, W, T, model_first, 0)                                                   \
+    SEEK_NAMED(last_one, W, T, model_last, 1)                                                      \
+    SEEK_NAMED(last_zero, W, T, model_last, 0)                                                     \
     SEEK(find_zeros, W, T, one_in(2) ? below(9) : mostly(range.count < 600 ? range.count : 9))     \
     SEEK_FROM(next, W, T, below(2), seek.from, seek.asked)                                         \
     SEEK_FROM(previous, W, T, below(2), seek.from, seek.asked)                                     \
+    SEEK_FROM_NAMED(next_one, W, T, model_next, 1)                                                 \
+    SEEK_FROM_NAMED(next_zero, W, T, model_next, 0)                                                \
+    SEEK_FROM_NAMED(previous_one, W, T, model_previous, 1)                                         \
+    SEEK_FROM_NAMED(previous_zero, W, T, model_previous, 0)                                        \
+    NAMED(count_zeros, W, T, size_t, model_zeros(width, order, range), )                           \
+    NAMED(is_empty, W, T, bool, model_first(width, order, range, 1) == range.count, )              \
+    NAMED(is_full, W, T, bool, model_first(width, order, range, 0) == range.count, )               \
     SEEK_FROM(find_zeros_from, W, T, one_in(2) ? below(9) : mostly(30), seek.from, seek.asked,     \
               seek.multiple)                                                                       \
     EXCHANGE(W, T)                                                                                 \
@@ -1010,31 +1057,33 @@ static uint64_t with_sign(uint64_t digits, size_t count) {
     COMBINE(copy_u16_to_##W, copy_u16_to_##W, uint16_t, T, SOURCE)                                 \
     COMBINE(copy_u32_to_##W, copy_u32_to_##W, uint32_t, T, SOURCE)                                 \
     COMBINE(copy_u64_to_##W, copy_u64_to_##W, uint64_t, T, SOURCE)                                 \
-    QUESTION(count_and_##W, T, T, AND, true)                                                       \
-    QUESTION(first_and_##W, T, T, AND, false)                                                      \
-    QUESTION(first_and_not_##W, T, T, AND_NOT, false)                                              \
-    QUESTION(first_difference_##W, T, T, XOR, false)
+    QUESTION(count_and_##W, T, T, AND, true, size_t, found)                                        \
+    QUESTION(first_and_##W, T, T, AND, false, size_t, seen)                                        \
+    QUESTION(first_and_not_##W, T, T, AND_NOT, false, size_t, seen)                                \
+    QUESTION(first_difference_##W, T, T, XOR, false, size_t, seen)                                 \
+    QUESTION(is_subset_##W, T, T, AND_NOT, false, bool, seen == range.count)                       \
+    QUESTION(intersects_##W, T, T, AND, false, bool, seen != range.count)
 
 MORE_CALLS(u8, uint8_t)
 MORE_CALLS(u16, uint16_t)
 MORE_CALLS(u32, uint32_t)
 MORE_CALLS(u64, uint64_t)
-QUESTION(first_difference_u8_with_u8, uint8_t, uint8_t, XOR, false)
-QUESTION(first_difference_u8_with_u16, uint8_t, uint16_t, XOR, false)
-QUESTION(first_difference_u8_with_u32, uint8_t, uint32_t, XOR, false)
-QUESTION(first_difference_u8_with_u64, uint8_t, uint64_t, XOR, false)
-QUESTION(first_difference_u16_with_u8, uint16_t, uint8_t, XOR, false)
-QUESTION(first_difference_u16_with_u16, uint16_t, uint16_t, XOR, false)
-QUESTION(first_difference_u16_with_u32, uint16_t, uint32_t, XOR, false)
-QUESTION(first_difference_u16_with_u64, uint16_t, uint64_t, XOR, false)
-QUESTION(first_difference_u32_with_u8, uint32_t, uint8_t, XOR, false)
-QUESTION(first_difference_u32_with_u16, uint32_t, uint16_t, XOR, false)
-QUESTION(first_difference_u32_with_u32, uint32_t, uint32_t, XOR, false)
-QUESTION(first_difference_u32_with_u64, uint32_t, uint64_t, XOR, false)
-QUESTION(first_difference_u64_with_u8, uint64_t, uint8_t, XOR, false)
-QUESTION(first_difference_u64_with_u16, uint64_t, uint16_t, XOR, false)
-QUESTION(first_difference_u64_with_u32, uint64_t, uint32_t, XOR, false)
-QUESTION(first_difference_u64_with_u64, uint64_t, uint64_t, XOR, false)
+QUESTION(first_difference_u8_with_u8, uint8_t, uint8_t, XOR, false, size_t, seen)
+QUESTION(first_difference_u8_with_u16, uint8_t, uint16_t, XOR, false, size_t, seen)
+QUESTION(first_difference_u8_with_u32, uint8_t, uint32_t, XOR, false, size_t, seen)
+QUESTION(first_difference_u8_with_u64, uint8_t, uint64_t, XOR, false, size_t, seen)
+QUESTION(first_difference_u16_with_u8, uint16_t, uint8_t, XOR, false, size_t, seen)
+QUESTION(first_difference_u16_with_u16, uint16_t, uint16_t, XOR, false, size_t, seen)
+QUESTION(first_difference_u16_with_u32, uint16_t, uint32_t, XOR, false, size_t, seen)
+QUESTION(first_difference_u16_with_u64, uint16_t, uint64_t, XOR, false, size_t, seen)
+QUESTION(first_difference_u32_with_u8, uint32_t, uint8_t, XOR, false, size_t, seen)
+QUESTION(first_difference_u32_with_u16, uint32_t, uint16_t, XOR, false, size_t, seen)
+QUESTION(first_difference_u32_with_u32, uint32_t, uint32_t, XOR, false, size_t, seen)
+QUESTION(first_difference_u32_with_u64, uint32_t, uint64_t, XOR, false, size_t, seen)
+QUESTION(first_difference_u64_with_u8, uint64_t, uint8_t, XOR, false, size_t, seen)
+QUESTION(first_difference_u64_with_u16, uint64_t, uint16_t, XOR, false, size_t, seen)
+QUESTION(first_difference_u64_with_u32, uint64_t, uint32_t, XOR, false, size_t, seen)
+QUESTION(first_difference_u64_with_u64, uint64_t, uint64_t, XOR, false, size_t, seen)
 
 /* A stream: its place and its end, which mostly lie in a memory, and what may be asked of it, or
  * written to it. */
@@ -1332,7 +1381,10 @@ static struct export exports[] = {
     EXPORTS_OF(run_in), EXPORTS_OF(read), EXPORTS_OF(read_signed), EXPORTS_OF(read_unary),
     EXPORTS_OF(read_exp_golomb), EXPORTS_OF(read_signed_exp_golomb), EXPORTS_OF(write),
     EXPORTS_OF(write_signed), EXPORTS_OF(write_unary), EXPORTS_OF(write_exp_golomb),
-    EXPORTS_OF(write_signed_exp_golomb),
+    EXPORTS_OF(write_signed_exp_golomb), EXPORTS_OF(first_zero), EXPORTS_OF(last_one),
+    EXPORTS_OF(last_zero), EXPORTS_OF(next_one), EXPORTS_OF(next_zero), EXPORTS_OF(previous_one),
+    EXPORTS_OF(previous_zero), EXPORTS_OF(count_zeros), EXPORTS_OF(is_empty), EXPORTS_OF(is_full),
+    EXPORTS_OF(is_subset), EXPORTS_OF(intersects),
     EXPORT(first_difference_u8_with_u8, 8),
     EXPORT(first_difference_u8_with_u16, 8),
     EXPORT(first_difference_u8_with_u32, 8),

@@ -1,5 +1,23 @@
-/* Bits in words: copies, fills, single bits, numbers, counts, searches, moves, sets, streams, and
- * runs of commands.
+/* Bits in words: any range of bits in an array of words.
+ *
+ *   Job           Calls; `get` is bitvec_c_get_u8, _u16, _u32 and _u64, and so each but `version`
+ *   The version   version
+ *   One bit       get, set, replace, swap
+ *   A range       fill, invert, reverse
+ *   Searching     first_one, first, first_zero, last, last_one, last_zero, next, next_one,
+ *                 next_zero, previous, previous_one, previous_zero, find_zeros, find_zeros_from
+ *   Counting      count_ones, count_zeros, is_empty, is_full
+ *   Moving        copy, copy_within, copy_V_to_W, shift_left, shift_right, rotate_left
+ *   Two ranges    and, or, xor, and_not, equal, count_and, first_and, intersects, first_and_not,
+ *                 is_subset, first_difference, first_difference_V_with_W
+ *   Numbers       load, store, load_signed, store_signed
+ *   Streams       read, read_signed, read_unary, read_exp_golomb, read_signed_exp_golomb, write,
+ *                 write_signed, write_unary, write_exp_golomb, write_signed_exp_golomb
+ *   Runs          can_run, run, can_run_in, run_in
+ *
+ * The order of a call's arguments is always the same: the order of the bits; what is changed or, as
+ * in memcpy, the target; the source, or another memory; what is asked; and where answers go. Each
+ * memory is a pointer, the number of its words, and where its range starts in it.
  *
  * A memory is an array of words of 8, 16, 32 or 64 bits, and each call has the width in its name:
  * u8, u16, u32 or u64. A place counts the bits of a memory from 0 on: it is the bit of the index
@@ -9,7 +27,7 @@
  *
  * Each call returns a status: BITVEC_OK, or, of the conditions below that the call names and that
  * do not hold, the one with the lowest number. Two kinds of calls test in another order: one with
- * an order for each of two memories tests the memory that comes first among its arguments whole
+ * an order for each of two memories tests the source, or the first where there is none, whole
  * before the other, and bitvec_c_can_run_in_W and bitvec_c_run_in_W test that `room_count` is
  * `span_count` right behind the order. Where the status is not BITVEC_OK, nothing is changed and no
  * answer is written, but for the room of these two calls, which say what it holds then. A call that
@@ -69,19 +87,31 @@
 #define BITVEC_NONNULL(argument)
 #endif
 
+/* An enum of bytes, as each argument of one is, so that no conversion is warned of. */
+#if (defined(__cplusplus) && __cplusplus >= 201103L) || \
+    (defined(__STDC_VERSION__) && __STDC_VERSION__ >= 202311L)
+#define BITVEC_ENUM(name) enum name : uint8_t
+#elif defined(__GNUC__)
+#define BITVEC_ENUM(name) enum __attribute__((packed)) name
+#else
+#define BITVEC_ENUM(name) enum name
+#endif
+
+/* How many words an array has; not for a pointer. */
+#define BITVEC_WORDS(array) (sizeof(array) / sizeof((array)[0]))
+
 #ifdef __cplusplus
 extern "C" {
 #endif
 
 /* Where the bit of an index lies in a word: an `order` of every call below. */
-enum bitvec_order {
+BITVEC_ENUM(bitvec_order) {
     BITVEC_LSB0 = 0, /* index i at digit i */
     BITVEC_MSB0 = 1  /* index i at digit width - 1 - i */
 };
 
-/* What a call returns. Each call can refuse for BITVEC_NO_ORDER, and each that takes a range for
- * BITVEC_TOO_LONG and BITVEC_OUTSIDE. */
-enum bitvec_status {
+/* What a call returns; each says which of these it refuses with. */
+BITVEC_ENUM(bitvec_status) {
     BITVEC_OK = 0,
     BITVEC_NO_ORDER = 1,       /* the order is neither of the two */
     BITVEC_TOO_MANY_SPANS = 2, /* a run has more than BITVEC_MAX_SPANS spans */
@@ -99,6 +129,36 @@ enum bitvec_status {
                                   a number more than the bits that it is to be written in */
 };
 
+/* Returns what a status says, in a few words. */
+static inline const char *bitvec_status_text(uint8_t status) {
+    switch (status) {
+    case BITVEC_OK:
+        return "done";
+    case BITVEC_NO_ORDER:
+        return "the order is neither of the two";
+    case BITVEC_TOO_MANY_SPANS:
+        return "more spans than a run may have";
+    case BITVEC_TOO_LONG:
+        return "more bits than a range may have";
+    case BITVEC_OUTSIDE:
+        return "past the end of the memory or of the range";
+    case BITVEC_TOO_WIDE:
+        return "a number of more than 64 bits";
+    case BITVEC_OVERLAP:
+        return "two spans have a bit in common";
+    case BITVEC_NO_ROOM:
+        return "no room for the replies or the numbers of the spans";
+    case BITVEC_NO_COMMAND:
+        return "there is no such command";
+    case BITVEC_TOO_FEW:
+        return "too few bits are left";
+    case BITVEC_TOO_LARGE:
+        return "the number is too large";
+    default:
+        return "no status";
+    }
+}
+
 /* How many spans a run has at most. */
 #define BITVEC_MAX_SPANS 64
 
@@ -113,7 +173,7 @@ struct bitvec_span {
 
 /* What a request asks of its span. A `word k` is the k-th of the words that the span meets, from 0
  * on, and a bit is named by its place in the span, from 0 on. */
-enum bitvec_command {
+BITVEC_ENUM(bitvec_command) {
     BITVEC_LOAD = 0,    /* a = k: what the word has of the span, all other digits 0 */
     BITVEC_STORE = 1,   /* a = k, number: puts its digits where the word has bits of the span */
     BITVEC_SET = 2,     /* a = k: makes the span's bits in the word one */
@@ -138,7 +198,7 @@ struct bitvec_request {
 };
 
 /* What a reply's number is. */
-enum bitvec_reply_kind {
+BITVEC_ENUM(bitvec_reply_kind) {
     BITVEC_WORD = 0,     /* to LOAD, STORE, SET, CLEAR, INVERT: what LOAD gives, as it was before */
     BITVEC_BIT = 1,      /* to READ, REPLACE: the bit as it was before, 0 or 1 */
     BITVEC_DONE = 2,     /* to SWAP, COPY, FILL: 0 */
@@ -267,8 +327,8 @@ BITVEC_CHECKED uint8_t bitvec_c_first_one_u64(
 /* Writes to `index` the index of the first bit that is the same as `bit`. Refuses with
  * BITVEC_NO_ORDER, BITVEC_TOO_LONG or BITVEC_OUTSIDE. Costs by words, up to that bit. */
 BITVEC_CHECKED uint8_t bitvec_c_first_u8(
-    uint8_t order, const uint8_t *memory, size_t words, size_t start, size_t count, bool bit, size_t
-    *index) BITVEC_NONNULL(7);
+    uint8_t order, const uint8_t *memory, size_t words, size_t start, size_t count, bool bit,
+    size_t *index) BITVEC_NONNULL(7);
 BITVEC_CHECKED uint8_t bitvec_c_first_u16(
     uint8_t order, const uint16_t *memory, size_t words, size_t start, size_t count, bool bit,
     size_t *index) BITVEC_NONNULL(7);
@@ -279,11 +339,33 @@ BITVEC_CHECKED uint8_t bitvec_c_first_u64(
     uint8_t order, const uint64_t *memory, size_t words, size_t start, size_t count, bool bit,
     size_t *index) BITVEC_NONNULL(7);
 
+/* Writes to `index` the index of the first bit that is zero. Refuses with BITVEC_NO_ORDER,
+ * BITVEC_TOO_LONG or BITVEC_OUTSIDE. Costs by words, up to that bit. */
+BITVEC_CHECKED BITVEC_NONNULL(6) static inline uint8_t bitvec_c_first_zero_u8(
+    uint8_t order, const uint8_t *memory, size_t words, size_t start, size_t count, size_t *index) {
+    return bitvec_c_first_u8(order, memory, words, start, count, false, index);
+}
+BITVEC_CHECKED BITVEC_NONNULL(6) static inline uint8_t bitvec_c_first_zero_u16(
+    uint8_t order, const uint16_t *memory, size_t words, size_t start, size_t count, size_t *index)
+    {
+    return bitvec_c_first_u16(order, memory, words, start, count, false, index);
+}
+BITVEC_CHECKED BITVEC_NONNULL(6) static inline uint8_t bitvec_c_first_zero_u32(
+    uint8_t order, const uint32_t *memory, size_t words, size_t start, size_t count, size_t *index)
+    {
+    return bitvec_c_first_u32(order, memory, words, start, count, false, index);
+}
+BITVEC_CHECKED BITVEC_NONNULL(6) static inline uint8_t bitvec_c_first_zero_u64(
+    uint8_t order, const uint64_t *memory, size_t words, size_t start, size_t count, size_t *index)
+    {
+    return bitvec_c_first_u64(order, memory, words, start, count, false, index);
+}
+
 /* Writes to `index` the index of the last bit that is the same as `bit`. Refuses with
  * BITVEC_NO_ORDER, BITVEC_TOO_LONG or BITVEC_OUTSIDE. Costs by words, down to that bit. */
 BITVEC_CHECKED uint8_t bitvec_c_last_u8(
-    uint8_t order, const uint8_t *memory, size_t words, size_t start, size_t count, bool bit, size_t
-    *index) BITVEC_NONNULL(7);
+    uint8_t order, const uint8_t *memory, size_t words, size_t start, size_t count, bool bit,
+    size_t *index) BITVEC_NONNULL(7);
 BITVEC_CHECKED uint8_t bitvec_c_last_u16(
     uint8_t order, const uint16_t *memory, size_t words, size_t start, size_t count, bool bit,
     size_t *index) BITVEC_NONNULL(7);
@@ -293,6 +375,50 @@ BITVEC_CHECKED uint8_t bitvec_c_last_u32(
 BITVEC_CHECKED uint8_t bitvec_c_last_u64(
     uint8_t order, const uint64_t *memory, size_t words, size_t start, size_t count, bool bit,
     size_t *index) BITVEC_NONNULL(7);
+
+/* Writes to `index` the index of the last bit that is one. Refuses with BITVEC_NO_ORDER,
+ * BITVEC_TOO_LONG or BITVEC_OUTSIDE. Costs by words, down to that bit. */
+BITVEC_CHECKED BITVEC_NONNULL(6) static inline uint8_t bitvec_c_last_one_u8(
+    uint8_t order, const uint8_t *memory, size_t words, size_t start, size_t count, size_t *index) {
+    return bitvec_c_last_u8(order, memory, words, start, count, true, index);
+}
+BITVEC_CHECKED BITVEC_NONNULL(6) static inline uint8_t bitvec_c_last_one_u16(
+    uint8_t order, const uint16_t *memory, size_t words, size_t start, size_t count, size_t *index)
+    {
+    return bitvec_c_last_u16(order, memory, words, start, count, true, index);
+}
+BITVEC_CHECKED BITVEC_NONNULL(6) static inline uint8_t bitvec_c_last_one_u32(
+    uint8_t order, const uint32_t *memory, size_t words, size_t start, size_t count, size_t *index)
+    {
+    return bitvec_c_last_u32(order, memory, words, start, count, true, index);
+}
+BITVEC_CHECKED BITVEC_NONNULL(6) static inline uint8_t bitvec_c_last_one_u64(
+    uint8_t order, const uint64_t *memory, size_t words, size_t start, size_t count, size_t *index)
+    {
+    return bitvec_c_last_u64(order, memory, words, start, count, true, index);
+}
+
+/* Writes to `index` the index of the last bit that is zero. Refuses with BITVEC_NO_ORDER,
+ * BITVEC_TOO_LONG or BITVEC_OUTSIDE. Costs by words, down to that bit. */
+BITVEC_CHECKED BITVEC_NONNULL(6) static inline uint8_t bitvec_c_last_zero_u8(
+    uint8_t order, const uint8_t *memory, size_t words, size_t start, size_t count, size_t *index) {
+    return bitvec_c_last_u8(order, memory, words, start, count, false, index);
+}
+BITVEC_CHECKED BITVEC_NONNULL(6) static inline uint8_t bitvec_c_last_zero_u16(
+    uint8_t order, const uint16_t *memory, size_t words, size_t start, size_t count, size_t *index)
+    {
+    return bitvec_c_last_u16(order, memory, words, start, count, false, index);
+}
+BITVEC_CHECKED BITVEC_NONNULL(6) static inline uint8_t bitvec_c_last_zero_u32(
+    uint8_t order, const uint32_t *memory, size_t words, size_t start, size_t count, size_t *index)
+    {
+    return bitvec_c_last_u32(order, memory, words, start, count, false, index);
+}
+BITVEC_CHECKED BITVEC_NONNULL(6) static inline uint8_t bitvec_c_last_zero_u64(
+    uint8_t order, const uint64_t *memory, size_t words, size_t start, size_t count, size_t *index)
+    {
+    return bitvec_c_last_u64(order, memory, words, start, count, false, index);
+}
 
 /* Writes to `index` the index of the first bit, of those from index `from` on, that is the same as
  * `bit`. Refuses with BITVEC_NO_ORDER, BITVEC_TOO_LONG or BITVEC_OUTSIDE. Costs by words, up to
@@ -310,6 +436,53 @@ BITVEC_CHECKED uint8_t bitvec_c_next_u64(
     uint8_t order, const uint64_t *memory, size_t words, size_t start, size_t count, size_t from,
     bool bit, size_t *index) BITVEC_NONNULL(8);
 
+/* Writes to `index` the index of the first bit, of those from index `from` on, that is one. Refuses
+ * with BITVEC_NO_ORDER, BITVEC_TOO_LONG or BITVEC_OUTSIDE. Costs by words, up to that bit. */
+BITVEC_CHECKED BITVEC_NONNULL(7) static inline uint8_t bitvec_c_next_one_u8(
+    uint8_t order, const uint8_t *memory, size_t words, size_t start, size_t count, size_t from,
+    size_t *index) {
+    return bitvec_c_next_u8(order, memory, words, start, count, from, true, index);
+}
+BITVEC_CHECKED BITVEC_NONNULL(7) static inline uint8_t bitvec_c_next_one_u16(
+    uint8_t order, const uint16_t *memory, size_t words, size_t start, size_t count, size_t from,
+    size_t *index) {
+    return bitvec_c_next_u16(order, memory, words, start, count, from, true, index);
+}
+BITVEC_CHECKED BITVEC_NONNULL(7) static inline uint8_t bitvec_c_next_one_u32(
+    uint8_t order, const uint32_t *memory, size_t words, size_t start, size_t count, size_t from,
+    size_t *index) {
+    return bitvec_c_next_u32(order, memory, words, start, count, from, true, index);
+}
+BITVEC_CHECKED BITVEC_NONNULL(7) static inline uint8_t bitvec_c_next_one_u64(
+    uint8_t order, const uint64_t *memory, size_t words, size_t start, size_t count, size_t from,
+    size_t *index) {
+    return bitvec_c_next_u64(order, memory, words, start, count, from, true, index);
+}
+
+/* Writes to `index` the index of the first bit, of those from index `from` on, that is zero.
+ * Refuses with BITVEC_NO_ORDER, BITVEC_TOO_LONG or BITVEC_OUTSIDE. Costs by words, up to that bit.
+ * */
+BITVEC_CHECKED BITVEC_NONNULL(7) static inline uint8_t bitvec_c_next_zero_u8(
+    uint8_t order, const uint8_t *memory, size_t words, size_t start, size_t count, size_t from,
+    size_t *index) {
+    return bitvec_c_next_u8(order, memory, words, start, count, from, false, index);
+}
+BITVEC_CHECKED BITVEC_NONNULL(7) static inline uint8_t bitvec_c_next_zero_u16(
+    uint8_t order, const uint16_t *memory, size_t words, size_t start, size_t count, size_t from,
+    size_t *index) {
+    return bitvec_c_next_u16(order, memory, words, start, count, from, false, index);
+}
+BITVEC_CHECKED BITVEC_NONNULL(7) static inline uint8_t bitvec_c_next_zero_u32(
+    uint8_t order, const uint32_t *memory, size_t words, size_t start, size_t count, size_t from,
+    size_t *index) {
+    return bitvec_c_next_u32(order, memory, words, start, count, from, false, index);
+}
+BITVEC_CHECKED BITVEC_NONNULL(7) static inline uint8_t bitvec_c_next_zero_u64(
+    uint8_t order, const uint64_t *memory, size_t words, size_t start, size_t count, size_t from,
+    size_t *index) {
+    return bitvec_c_next_u64(order, memory, words, start, count, from, false, index);
+}
+
 /* Writes to `index` the index of the last bit, of those before index `before`, that is the same as
  * `bit`. Refuses with BITVEC_NO_ORDER, BITVEC_TOO_LONG or BITVEC_OUTSIDE. Costs by words, down to
  * that bit. */
@@ -325,6 +498,53 @@ BITVEC_CHECKED uint8_t bitvec_c_previous_u32(
 BITVEC_CHECKED uint8_t bitvec_c_previous_u64(
     uint8_t order, const uint64_t *memory, size_t words, size_t start, size_t count, size_t before,
     bool bit, size_t *index) BITVEC_NONNULL(8);
+
+/* Writes to `index` the index of the last bit, of those before index `before`, that is one. Refuses
+ * with BITVEC_NO_ORDER, BITVEC_TOO_LONG or BITVEC_OUTSIDE. Costs by words, down to that bit. */
+BITVEC_CHECKED BITVEC_NONNULL(7) static inline uint8_t bitvec_c_previous_one_u8(
+    uint8_t order, const uint8_t *memory, size_t words, size_t start, size_t count, size_t before,
+    size_t *index) {
+    return bitvec_c_previous_u8(order, memory, words, start, count, before, true, index);
+}
+BITVEC_CHECKED BITVEC_NONNULL(7) static inline uint8_t bitvec_c_previous_one_u16(
+    uint8_t order, const uint16_t *memory, size_t words, size_t start, size_t count, size_t before,
+    size_t *index) {
+    return bitvec_c_previous_u16(order, memory, words, start, count, before, true, index);
+}
+BITVEC_CHECKED BITVEC_NONNULL(7) static inline uint8_t bitvec_c_previous_one_u32(
+    uint8_t order, const uint32_t *memory, size_t words, size_t start, size_t count, size_t before,
+    size_t *index) {
+    return bitvec_c_previous_u32(order, memory, words, start, count, before, true, index);
+}
+BITVEC_CHECKED BITVEC_NONNULL(7) static inline uint8_t bitvec_c_previous_one_u64(
+    uint8_t order, const uint64_t *memory, size_t words, size_t start, size_t count, size_t before,
+    size_t *index) {
+    return bitvec_c_previous_u64(order, memory, words, start, count, before, true, index);
+}
+
+/* Writes to `index` the index of the last bit, of those before index `before`, that is zero.
+ * Refuses with BITVEC_NO_ORDER, BITVEC_TOO_LONG or BITVEC_OUTSIDE. Costs by words, down to that
+ * bit. */
+BITVEC_CHECKED BITVEC_NONNULL(7) static inline uint8_t bitvec_c_previous_zero_u8(
+    uint8_t order, const uint8_t *memory, size_t words, size_t start, size_t count, size_t before,
+    size_t *index) {
+    return bitvec_c_previous_u8(order, memory, words, start, count, before, false, index);
+}
+BITVEC_CHECKED BITVEC_NONNULL(7) static inline uint8_t bitvec_c_previous_zero_u16(
+    uint8_t order, const uint16_t *memory, size_t words, size_t start, size_t count, size_t before,
+    size_t *index) {
+    return bitvec_c_previous_u16(order, memory, words, start, count, before, false, index);
+}
+BITVEC_CHECKED BITVEC_NONNULL(7) static inline uint8_t bitvec_c_previous_zero_u32(
+    uint8_t order, const uint32_t *memory, size_t words, size_t start, size_t count, size_t before,
+    size_t *index) {
+    return bitvec_c_previous_u32(order, memory, words, start, count, before, false, index);
+}
+BITVEC_CHECKED BITVEC_NONNULL(7) static inline uint8_t bitvec_c_previous_zero_u64(
+    uint8_t order, const uint64_t *memory, size_t words, size_t start, size_t count, size_t before,
+    size_t *index) {
+    return bitvec_c_previous_u64(order, memory, words, start, count, before, false, index);
+}
 
 /* Writes to `index` the first index from which on `zeros` bits are in the range and zero. For 0
  * zeros it is 0. Refuses with BITVEC_NO_ORDER, BITVEC_TOO_LONG or BITVEC_OUTSIDE. Costs by words,
@@ -378,93 +598,201 @@ BITVEC_CHECKED uint8_t bitvec_c_count_ones_u64(
     uint8_t order, const uint64_t *memory, size_t words, size_t start, size_t count, size_t *ones)
     BITVEC_NONNULL(6);
 
+/* Writes to `zeros` how many bits of a range are zero. Refuses with BITVEC_NO_ORDER,
+ * BITVEC_TOO_LONG or BITVEC_OUTSIDE. Costs by words. */
+BITVEC_CHECKED BITVEC_NONNULL(6) static inline uint8_t bitvec_c_count_zeros_u8(
+    uint8_t order, const uint8_t *memory, size_t words, size_t start, size_t count, size_t *zeros) {
+    size_t ones = 0;
+    uint8_t status = bitvec_c_count_ones_u8(order, memory, words, start, count, &ones);
+    if (status == BITVEC_OK)
+        *zeros = count - ones;
+    return status;
+}
+BITVEC_CHECKED BITVEC_NONNULL(6) static inline uint8_t bitvec_c_count_zeros_u16(
+    uint8_t order, const uint16_t *memory, size_t words, size_t start, size_t count, size_t *zeros)
+    {
+    size_t ones = 0;
+    uint8_t status = bitvec_c_count_ones_u16(order, memory, words, start, count, &ones);
+    if (status == BITVEC_OK)
+        *zeros = count - ones;
+    return status;
+}
+BITVEC_CHECKED BITVEC_NONNULL(6) static inline uint8_t bitvec_c_count_zeros_u32(
+    uint8_t order, const uint32_t *memory, size_t words, size_t start, size_t count, size_t *zeros)
+    {
+    size_t ones = 0;
+    uint8_t status = bitvec_c_count_ones_u32(order, memory, words, start, count, &ones);
+    if (status == BITVEC_OK)
+        *zeros = count - ones;
+    return status;
+}
+BITVEC_CHECKED BITVEC_NONNULL(6) static inline uint8_t bitvec_c_count_zeros_u64(
+    uint8_t order, const uint64_t *memory, size_t words, size_t start, size_t count, size_t *zeros)
+    {
+    size_t ones = 0;
+    uint8_t status = bitvec_c_count_ones_u64(order, memory, words, start, count, &ones);
+    if (status == BITVEC_OK)
+        *zeros = count - ones;
+    return status;
+}
+
+/* Writes to `empty` whether no bit of a range is one. Refuses with BITVEC_NO_ORDER, BITVEC_TOO_LONG
+ * or BITVEC_OUTSIDE. Costs by words, up to the first that is. */
+BITVEC_CHECKED BITVEC_NONNULL(6) static inline uint8_t bitvec_c_is_empty_u8(
+    uint8_t order, const uint8_t *memory, size_t words, size_t start, size_t count, bool *empty) {
+    size_t index = 0;
+    uint8_t status = bitvec_c_first_one_u8(order, memory, words, start, count, &index);
+    if (status == BITVEC_OK)
+        *empty = index == count;
+    return status;
+}
+BITVEC_CHECKED BITVEC_NONNULL(6) static inline uint8_t bitvec_c_is_empty_u16(
+    uint8_t order, const uint16_t *memory, size_t words, size_t start, size_t count, bool *empty) {
+    size_t index = 0;
+    uint8_t status = bitvec_c_first_one_u16(order, memory, words, start, count, &index);
+    if (status == BITVEC_OK)
+        *empty = index == count;
+    return status;
+}
+BITVEC_CHECKED BITVEC_NONNULL(6) static inline uint8_t bitvec_c_is_empty_u32(
+    uint8_t order, const uint32_t *memory, size_t words, size_t start, size_t count, bool *empty) {
+    size_t index = 0;
+    uint8_t status = bitvec_c_first_one_u32(order, memory, words, start, count, &index);
+    if (status == BITVEC_OK)
+        *empty = index == count;
+    return status;
+}
+BITVEC_CHECKED BITVEC_NONNULL(6) static inline uint8_t bitvec_c_is_empty_u64(
+    uint8_t order, const uint64_t *memory, size_t words, size_t start, size_t count, bool *empty) {
+    size_t index = 0;
+    uint8_t status = bitvec_c_first_one_u64(order, memory, words, start, count, &index);
+    if (status == BITVEC_OK)
+        *empty = index == count;
+    return status;
+}
+
+/* Writes to `full` whether each bit of a range is one. Refuses with BITVEC_NO_ORDER,
+ * BITVEC_TOO_LONG or BITVEC_OUTSIDE. Costs by words, up to the first that is not. */
+BITVEC_CHECKED BITVEC_NONNULL(6) static inline uint8_t bitvec_c_is_full_u8(
+    uint8_t order, const uint8_t *memory, size_t words, size_t start, size_t count, bool *full) {
+    size_t index = 0;
+    uint8_t status = bitvec_c_first_u8(order, memory, words, start, count, false, &index);
+    if (status == BITVEC_OK)
+        *full = index == count;
+    return status;
+}
+BITVEC_CHECKED BITVEC_NONNULL(6) static inline uint8_t bitvec_c_is_full_u16(
+    uint8_t order, const uint16_t *memory, size_t words, size_t start, size_t count, bool *full) {
+    size_t index = 0;
+    uint8_t status = bitvec_c_first_u16(order, memory, words, start, count, false, &index);
+    if (status == BITVEC_OK)
+        *full = index == count;
+    return status;
+}
+BITVEC_CHECKED BITVEC_NONNULL(6) static inline uint8_t bitvec_c_is_full_u32(
+    uint8_t order, const uint32_t *memory, size_t words, size_t start, size_t count, bool *full) {
+    size_t index = 0;
+    uint8_t status = bitvec_c_first_u32(order, memory, words, start, count, false, &index);
+    if (status == BITVEC_OK)
+        *full = index == count;
+    return status;
+}
+BITVEC_CHECKED BITVEC_NONNULL(6) static inline uint8_t bitvec_c_is_full_u64(
+    uint8_t order, const uint64_t *memory, size_t words, size_t start, size_t count, bool *full) {
+    size_t index = 0;
+    uint8_t status = bitvec_c_first_u64(order, memory, words, start, count, false, &index);
+    if (status == BITVEC_OK)
+        *full = index == count;
+    return status;
+}
+
 /* ------------------------------------------ Moving ------------------------------------------ */
 
-/* A copy goes from `source_start` on to `target_start` on. Both ranges have `count` bits, and both
+/* A copy goes to `target_start` on, from `source_start` on. Both ranges have `count` bits, and both
  * are tested. */
 
 /* Copies bits of one memory to another, under one order. The two arrays share no word. Refuses with
  * BITVEC_NO_ORDER, BITVEC_TOO_LONG or BITVEC_OUTSIDE. Costs by words. */
 BITVEC_CHECKED uint8_t bitvec_c_copy_u8(
-    uint8_t order, const uint8_t *source, size_t source_words, size_t source_start, uint8_t *target,
-    size_t target_words, size_t target_start, size_t count);
+    uint8_t order, uint8_t *target, size_t target_words, size_t target_start, const uint8_t *source,
+    size_t source_words, size_t source_start, size_t count);
 BITVEC_CHECKED uint8_t bitvec_c_copy_u16(
-    uint8_t order, const uint16_t *source, size_t source_words, size_t source_start, uint16_t
-    *target, size_t target_words, size_t target_start, size_t count);
+    uint8_t order, uint16_t *target, size_t target_words, size_t target_start,
+    const uint16_t *source, size_t source_words, size_t source_start, size_t count);
 BITVEC_CHECKED uint8_t bitvec_c_copy_u32(
-    uint8_t order, const uint32_t *source, size_t source_words, size_t source_start, uint32_t
-    *target, size_t target_words, size_t target_start, size_t count);
+    uint8_t order, uint32_t *target, size_t target_words, size_t target_start,
+    const uint32_t *source, size_t source_words, size_t source_start, size_t count);
 BITVEC_CHECKED uint8_t bitvec_c_copy_u64(
-    uint8_t order, const uint64_t *source, size_t source_words, size_t source_start, uint64_t
-    *target, size_t target_words, size_t target_start, size_t count);
+    uint8_t order, uint64_t *target, size_t target_words, size_t target_start,
+    const uint64_t *source, size_t source_words, size_t source_start, size_t count);
 
 /* Copies bits of a memory to another place of it. The two ranges may overlap: the target gets the
  * bits as they were before. Refuses with BITVEC_NO_ORDER, BITVEC_TOO_LONG or BITVEC_OUTSIDE. Costs
  * by words. */
 BITVEC_CHECKED uint8_t bitvec_c_copy_within_u8(
-    uint8_t order, uint8_t *memory, size_t words, size_t source_start, size_t target_start, size_t
-    count);
+    uint8_t order, uint8_t *memory, size_t words, size_t target_start, size_t source_start,
+    size_t count);
 BITVEC_CHECKED uint8_t bitvec_c_copy_within_u16(
-    uint8_t order, uint16_t *memory, size_t words, size_t source_start, size_t target_start, size_t
-    count);
+    uint8_t order, uint16_t *memory, size_t words, size_t target_start, size_t source_start,
+    size_t count);
 BITVEC_CHECKED uint8_t bitvec_c_copy_within_u32(
-    uint8_t order, uint32_t *memory, size_t words, size_t source_start, size_t target_start, size_t
-    count);
+    uint8_t order, uint32_t *memory, size_t words, size_t target_start, size_t source_start,
+    size_t count);
 BITVEC_CHECKED uint8_t bitvec_c_copy_within_u64(
-    uint8_t order, uint64_t *memory, size_t words, size_t source_start, size_t target_start, size_t
-    count);
+    uint8_t order, uint64_t *memory, size_t words, size_t target_start, size_t source_start,
+    size_t count);
 
 /* Copies bits of a memory of words of one width to one of words of another, each under an order of
  * its own. The two memories share no word. Refuses with BITVEC_NO_ORDER, BITVEC_TOO_LONG or
  * BITVEC_OUTSIDE. Costs by words where the orders are the same, else by bits. */
 BITVEC_CHECKED uint8_t bitvec_c_copy_u8_to_u8(
-    uint8_t source_order, const uint8_t *source, size_t source_words, size_t source_start, uint8_t
-    order, uint8_t *target, size_t target_words, size_t target_start, size_t count);
+    uint8_t order, uint8_t *target, size_t target_words, size_t target_start, uint8_t source_order,
+    const uint8_t *source, size_t source_words, size_t source_start, size_t count);
 BITVEC_CHECKED uint8_t bitvec_c_copy_u8_to_u16(
-    uint8_t source_order, const uint8_t *source, size_t source_words, size_t source_start, uint8_t
-    order, uint16_t *target, size_t target_words, size_t target_start, size_t count);
+    uint8_t order, uint16_t *target, size_t target_words, size_t target_start, uint8_t source_order,
+    const uint8_t *source, size_t source_words, size_t source_start, size_t count);
 BITVEC_CHECKED uint8_t bitvec_c_copy_u8_to_u32(
-    uint8_t source_order, const uint8_t *source, size_t source_words, size_t source_start, uint8_t
-    order, uint32_t *target, size_t target_words, size_t target_start, size_t count);
+    uint8_t order, uint32_t *target, size_t target_words, size_t target_start, uint8_t source_order,
+    const uint8_t *source, size_t source_words, size_t source_start, size_t count);
 BITVEC_CHECKED uint8_t bitvec_c_copy_u8_to_u64(
-    uint8_t source_order, const uint8_t *source, size_t source_words, size_t source_start, uint8_t
-    order, uint64_t *target, size_t target_words, size_t target_start, size_t count);
+    uint8_t order, uint64_t *target, size_t target_words, size_t target_start, uint8_t source_order,
+    const uint8_t *source, size_t source_words, size_t source_start, size_t count);
 BITVEC_CHECKED uint8_t bitvec_c_copy_u16_to_u8(
-    uint8_t source_order, const uint16_t *source, size_t source_words, size_t source_start, uint8_t
-    order, uint8_t *target, size_t target_words, size_t target_start, size_t count);
+    uint8_t order, uint8_t *target, size_t target_words, size_t target_start, uint8_t source_order,
+    const uint16_t *source, size_t source_words, size_t source_start, size_t count);
 BITVEC_CHECKED uint8_t bitvec_c_copy_u16_to_u16(
-    uint8_t source_order, const uint16_t *source, size_t source_words, size_t source_start, uint8_t
-    order, uint16_t *target, size_t target_words, size_t target_start, size_t count);
+    uint8_t order, uint16_t *target, size_t target_words, size_t target_start, uint8_t source_order,
+    const uint16_t *source, size_t source_words, size_t source_start, size_t count);
 BITVEC_CHECKED uint8_t bitvec_c_copy_u16_to_u32(
-    uint8_t source_order, const uint16_t *source, size_t source_words, size_t source_start, uint8_t
-    order, uint32_t *target, size_t target_words, size_t target_start, size_t count);
+    uint8_t order, uint32_t *target, size_t target_words, size_t target_start, uint8_t source_order,
+    const uint16_t *source, size_t source_words, size_t source_start, size_t count);
 BITVEC_CHECKED uint8_t bitvec_c_copy_u16_to_u64(
-    uint8_t source_order, const uint16_t *source, size_t source_words, size_t source_start, uint8_t
-    order, uint64_t *target, size_t target_words, size_t target_start, size_t count);
+    uint8_t order, uint64_t *target, size_t target_words, size_t target_start, uint8_t source_order,
+    const uint16_t *source, size_t source_words, size_t source_start, size_t count);
 BITVEC_CHECKED uint8_t bitvec_c_copy_u32_to_u8(
-    uint8_t source_order, const uint32_t *source, size_t source_words, size_t source_start, uint8_t
-    order, uint8_t *target, size_t target_words, size_t target_start, size_t count);
+    uint8_t order, uint8_t *target, size_t target_words, size_t target_start, uint8_t source_order,
+    const uint32_t *source, size_t source_words, size_t source_start, size_t count);
 BITVEC_CHECKED uint8_t bitvec_c_copy_u32_to_u16(
-    uint8_t source_order, const uint32_t *source, size_t source_words, size_t source_start, uint8_t
-    order, uint16_t *target, size_t target_words, size_t target_start, size_t count);
+    uint8_t order, uint16_t *target, size_t target_words, size_t target_start, uint8_t source_order,
+    const uint32_t *source, size_t source_words, size_t source_start, size_t count);
 BITVEC_CHECKED uint8_t bitvec_c_copy_u32_to_u32(
-    uint8_t source_order, const uint32_t *source, size_t source_words, size_t source_start, uint8_t
-    order, uint32_t *target, size_t target_words, size_t target_start, size_t count);
+    uint8_t order, uint32_t *target, size_t target_words, size_t target_start, uint8_t source_order,
+    const uint32_t *source, size_t source_words, size_t source_start, size_t count);
 BITVEC_CHECKED uint8_t bitvec_c_copy_u32_to_u64(
-    uint8_t source_order, const uint32_t *source, size_t source_words, size_t source_start, uint8_t
-    order, uint64_t *target, size_t target_words, size_t target_start, size_t count);
+    uint8_t order, uint64_t *target, size_t target_words, size_t target_start, uint8_t source_order,
+    const uint32_t *source, size_t source_words, size_t source_start, size_t count);
 BITVEC_CHECKED uint8_t bitvec_c_copy_u64_to_u8(
-    uint8_t source_order, const uint64_t *source, size_t source_words, size_t source_start, uint8_t
-    order, uint8_t *target, size_t target_words, size_t target_start, size_t count);
+    uint8_t order, uint8_t *target, size_t target_words, size_t target_start, uint8_t source_order,
+    const uint64_t *source, size_t source_words, size_t source_start, size_t count);
 BITVEC_CHECKED uint8_t bitvec_c_copy_u64_to_u16(
-    uint8_t source_order, const uint64_t *source, size_t source_words, size_t source_start, uint8_t
-    order, uint16_t *target, size_t target_words, size_t target_start, size_t count);
+    uint8_t order, uint16_t *target, size_t target_words, size_t target_start, uint8_t source_order,
+    const uint64_t *source, size_t source_words, size_t source_start, size_t count);
 BITVEC_CHECKED uint8_t bitvec_c_copy_u64_to_u32(
-    uint8_t source_order, const uint64_t *source, size_t source_words, size_t source_start, uint8_t
-    order, uint32_t *target, size_t target_words, size_t target_start, size_t count);
+    uint8_t order, uint32_t *target, size_t target_words, size_t target_start, uint8_t source_order,
+    const uint64_t *source, size_t source_words, size_t source_start, size_t count);
 BITVEC_CHECKED uint8_t bitvec_c_copy_u64_to_u64(
-    uint8_t source_order, const uint64_t *source, size_t source_words, size_t source_start, uint8_t
-    order, uint64_t *target, size_t target_words, size_t target_start, size_t count);
+    uint8_t order, uint64_t *target, size_t target_words, size_t target_start, uint8_t source_order,
+    const uint64_t *source, size_t source_words, size_t source_start, size_t count);
 
 /* Moves each of the `count` bits from `start` on `by` places towards the first, so that the first
  * `by` are lost, and makes the last `by` zero. BITVEC_OUTSIDE: also where `by` is past `count`.
@@ -505,234 +833,323 @@ BITVEC_CHECKED uint8_t bitvec_c_rotate_left_u64(
 /* ---------------------------------------- Two ranges ---------------------------------------- */
 
 /* Both ranges have `count` bits, and both are tested. But for bitvec_c_equal_W each memory has an
- * order of its own. What is written shares no word with the other memory; what is only read may. */
+ * order of its own, `order` that of the target, or of the first. A target shares no word with the
+ * source; what is only read may share words. */
 
 /* Leaves one those bits of the target whose bit in the source is one: an intersection. Refuses with
  * BITVEC_NO_ORDER, BITVEC_TOO_LONG or BITVEC_OUTSIDE. Costs by words where the orders are the same,
  * else by bits. */
 BITVEC_CHECKED uint8_t bitvec_c_and_u8(
-    uint8_t source_order, const uint8_t *source, size_t source_words, size_t source_start, uint8_t
-    order, uint8_t *target, size_t target_words, size_t target_start, size_t count);
+    uint8_t order, uint8_t *target, size_t target_words, size_t target_start, uint8_t source_order,
+    const uint8_t *source, size_t source_words, size_t source_start, size_t count);
 BITVEC_CHECKED uint8_t bitvec_c_and_u16(
-    uint8_t source_order, const uint16_t *source, size_t source_words, size_t source_start, uint8_t
-    order, uint16_t *target, size_t target_words, size_t target_start, size_t count);
+    uint8_t order, uint16_t *target, size_t target_words, size_t target_start, uint8_t source_order,
+    const uint16_t *source, size_t source_words, size_t source_start, size_t count);
 BITVEC_CHECKED uint8_t bitvec_c_and_u32(
-    uint8_t source_order, const uint32_t *source, size_t source_words, size_t source_start, uint8_t
-    order, uint32_t *target, size_t target_words, size_t target_start, size_t count);
+    uint8_t order, uint32_t *target, size_t target_words, size_t target_start, uint8_t source_order,
+    const uint32_t *source, size_t source_words, size_t source_start, size_t count);
 BITVEC_CHECKED uint8_t bitvec_c_and_u64(
-    uint8_t source_order, const uint64_t *source, size_t source_words, size_t source_start, uint8_t
-    order, uint64_t *target, size_t target_words, size_t target_start, size_t count);
+    uint8_t order, uint64_t *target, size_t target_words, size_t target_start, uint8_t source_order,
+    const uint64_t *source, size_t source_words, size_t source_start, size_t count);
 
 /* Makes one those bits of the target whose bit in the source is one: a union. Refuses with
  * BITVEC_NO_ORDER, BITVEC_TOO_LONG or BITVEC_OUTSIDE. Costs by words where the orders are the same,
  * else by bits. */
 BITVEC_CHECKED uint8_t bitvec_c_or_u8(
-    uint8_t source_order, const uint8_t *source, size_t source_words, size_t source_start, uint8_t
-    order, uint8_t *target, size_t target_words, size_t target_start, size_t count);
+    uint8_t order, uint8_t *target, size_t target_words, size_t target_start, uint8_t source_order,
+    const uint8_t *source, size_t source_words, size_t source_start, size_t count);
 BITVEC_CHECKED uint8_t bitvec_c_or_u16(
-    uint8_t source_order, const uint16_t *source, size_t source_words, size_t source_start, uint8_t
-    order, uint16_t *target, size_t target_words, size_t target_start, size_t count);
+    uint8_t order, uint16_t *target, size_t target_words, size_t target_start, uint8_t source_order,
+    const uint16_t *source, size_t source_words, size_t source_start, size_t count);
 BITVEC_CHECKED uint8_t bitvec_c_or_u32(
-    uint8_t source_order, const uint32_t *source, size_t source_words, size_t source_start, uint8_t
-    order, uint32_t *target, size_t target_words, size_t target_start, size_t count);
+    uint8_t order, uint32_t *target, size_t target_words, size_t target_start, uint8_t source_order,
+    const uint32_t *source, size_t source_words, size_t source_start, size_t count);
 BITVEC_CHECKED uint8_t bitvec_c_or_u64(
-    uint8_t source_order, const uint64_t *source, size_t source_words, size_t source_start, uint8_t
-    order, uint64_t *target, size_t target_words, size_t target_start, size_t count);
+    uint8_t order, uint64_t *target, size_t target_words, size_t target_start, uint8_t source_order,
+    const uint64_t *source, size_t source_words, size_t source_start, size_t count);
 
 /* Turns over those bits of the target whose bit in the source is one: a symmetric difference.
  * Refuses with BITVEC_NO_ORDER, BITVEC_TOO_LONG or BITVEC_OUTSIDE. Costs by words where the orders
  * are the same, else by bits. */
 BITVEC_CHECKED uint8_t bitvec_c_xor_u8(
-    uint8_t source_order, const uint8_t *source, size_t source_words, size_t source_start, uint8_t
-    order, uint8_t *target, size_t target_words, size_t target_start, size_t count);
+    uint8_t order, uint8_t *target, size_t target_words, size_t target_start, uint8_t source_order,
+    const uint8_t *source, size_t source_words, size_t source_start, size_t count);
 BITVEC_CHECKED uint8_t bitvec_c_xor_u16(
-    uint8_t source_order, const uint16_t *source, size_t source_words, size_t source_start, uint8_t
-    order, uint16_t *target, size_t target_words, size_t target_start, size_t count);
+    uint8_t order, uint16_t *target, size_t target_words, size_t target_start, uint8_t source_order,
+    const uint16_t *source, size_t source_words, size_t source_start, size_t count);
 BITVEC_CHECKED uint8_t bitvec_c_xor_u32(
-    uint8_t source_order, const uint32_t *source, size_t source_words, size_t source_start, uint8_t
-    order, uint32_t *target, size_t target_words, size_t target_start, size_t count);
+    uint8_t order, uint32_t *target, size_t target_words, size_t target_start, uint8_t source_order,
+    const uint32_t *source, size_t source_words, size_t source_start, size_t count);
 BITVEC_CHECKED uint8_t bitvec_c_xor_u64(
-    uint8_t source_order, const uint64_t *source, size_t source_words, size_t source_start, uint8_t
-    order, uint64_t *target, size_t target_words, size_t target_start, size_t count);
+    uint8_t order, uint64_t *target, size_t target_words, size_t target_start, uint8_t source_order,
+    const uint64_t *source, size_t source_words, size_t source_start, size_t count);
 
 /* Makes zero those bits of the target whose bit in the source is one: a difference. Refuses with
  * BITVEC_NO_ORDER, BITVEC_TOO_LONG or BITVEC_OUTSIDE. Costs by words where the orders are the same,
  * else by bits. */
 BITVEC_CHECKED uint8_t bitvec_c_and_not_u8(
-    uint8_t source_order, const uint8_t *source, size_t source_words, size_t source_start, uint8_t
-    order, uint8_t *target, size_t target_words, size_t target_start, size_t count);
+    uint8_t order, uint8_t *target, size_t target_words, size_t target_start, uint8_t source_order,
+    const uint8_t *source, size_t source_words, size_t source_start, size_t count);
 BITVEC_CHECKED uint8_t bitvec_c_and_not_u16(
-    uint8_t source_order, const uint16_t *source, size_t source_words, size_t source_start, uint8_t
-    order, uint16_t *target, size_t target_words, size_t target_start, size_t count);
+    uint8_t order, uint16_t *target, size_t target_words, size_t target_start, uint8_t source_order,
+    const uint16_t *source, size_t source_words, size_t source_start, size_t count);
 BITVEC_CHECKED uint8_t bitvec_c_and_not_u32(
-    uint8_t source_order, const uint32_t *source, size_t source_words, size_t source_start, uint8_t
-    order, uint32_t *target, size_t target_words, size_t target_start, size_t count);
+    uint8_t order, uint32_t *target, size_t target_words, size_t target_start, uint8_t source_order,
+    const uint32_t *source, size_t source_words, size_t source_start, size_t count);
 BITVEC_CHECKED uint8_t bitvec_c_and_not_u64(
-    uint8_t source_order, const uint64_t *source, size_t source_words, size_t source_start, uint8_t
-    order, uint64_t *target, size_t target_words, size_t target_start, size_t count);
+    uint8_t order, uint64_t *target, size_t target_words, size_t target_start, uint8_t source_order,
+    const uint64_t *source, size_t source_words, size_t source_start, size_t count);
 
 /* Writes to `same` whether two ranges have the same bits, in order. Refuses with BITVEC_NO_ORDER,
  * BITVEC_TOO_LONG or BITVEC_OUTSIDE. Costs by words, up to the first difference. */
 BITVEC_CHECKED uint8_t bitvec_c_equal_u8(
-    uint8_t order, const uint8_t *memory, size_t words, size_t start, const uint8_t *other, size_t
-    other_words, size_t other_start, size_t count, bool *same) BITVEC_NONNULL(9);
+    uint8_t order, const uint8_t *memory, size_t words, size_t start, const uint8_t *other,
+    size_t other_words, size_t other_start, size_t count, bool *same) BITVEC_NONNULL(9);
 BITVEC_CHECKED uint8_t bitvec_c_equal_u16(
-    uint8_t order, const uint16_t *memory, size_t words, size_t start, const uint16_t *other, size_t
-    other_words, size_t other_start, size_t count, bool *same) BITVEC_NONNULL(9);
+    uint8_t order, const uint16_t *memory, size_t words, size_t start, const uint16_t *other,
+    size_t other_words, size_t other_start, size_t count, bool *same) BITVEC_NONNULL(9);
 BITVEC_CHECKED uint8_t bitvec_c_equal_u32(
-    uint8_t order, const uint32_t *memory, size_t words, size_t start, const uint32_t *other, size_t
-    other_words, size_t other_start, size_t count, bool *same) BITVEC_NONNULL(9);
+    uint8_t order, const uint32_t *memory, size_t words, size_t start, const uint32_t *other,
+    size_t other_words, size_t other_start, size_t count, bool *same) BITVEC_NONNULL(9);
 BITVEC_CHECKED uint8_t bitvec_c_equal_u64(
-    uint8_t order, const uint64_t *memory, size_t words, size_t start, const uint64_t *other, size_t
-    other_words, size_t other_start, size_t count, bool *same) BITVEC_NONNULL(9);
+    uint8_t order, const uint64_t *memory, size_t words, size_t start, const uint64_t *other,
+    size_t other_words, size_t other_start, size_t count, bool *same) BITVEC_NONNULL(9);
 
 /* Writes to `ones` how many bits of a range are one whose bit in the other range is one too.
  * Refuses with BITVEC_NO_ORDER, BITVEC_TOO_LONG or BITVEC_OUTSIDE. Costs by words where the orders
  * are the same, else by bits. */
 BITVEC_CHECKED uint8_t bitvec_c_count_and_u8(
-    uint8_t order, const uint8_t *memory, size_t words, size_t start, uint8_t other_order, const
-    uint8_t *other, size_t other_words, size_t other_start, size_t count, size_t *ones)
+    uint8_t order, const uint8_t *memory, size_t words, size_t start, uint8_t other_order,
+    const uint8_t *other, size_t other_words, size_t other_start, size_t count, size_t *ones)
     BITVEC_NONNULL(10);
 BITVEC_CHECKED uint8_t bitvec_c_count_and_u16(
-    uint8_t order, const uint16_t *memory, size_t words, size_t start, uint8_t other_order, const
-    uint16_t *other, size_t other_words, size_t other_start, size_t count, size_t *ones)
+    uint8_t order, const uint16_t *memory, size_t words, size_t start, uint8_t other_order,
+    const uint16_t *other, size_t other_words, size_t other_start, size_t count, size_t *ones)
     BITVEC_NONNULL(10);
 BITVEC_CHECKED uint8_t bitvec_c_count_and_u32(
-    uint8_t order, const uint32_t *memory, size_t words, size_t start, uint8_t other_order, const
-    uint32_t *other, size_t other_words, size_t other_start, size_t count, size_t *ones)
+    uint8_t order, const uint32_t *memory, size_t words, size_t start, uint8_t other_order,
+    const uint32_t *other, size_t other_words, size_t other_start, size_t count, size_t *ones)
     BITVEC_NONNULL(10);
 BITVEC_CHECKED uint8_t bitvec_c_count_and_u64(
-    uint8_t order, const uint64_t *memory, size_t words, size_t start, uint8_t other_order, const
-    uint64_t *other, size_t other_words, size_t other_start, size_t count, size_t *ones)
+    uint8_t order, const uint64_t *memory, size_t words, size_t start, uint8_t other_order,
+    const uint64_t *other, size_t other_words, size_t other_start, size_t count, size_t *ones)
     BITVEC_NONNULL(10);
 
 /* Writes to `index` the index of the first bit of a range that is one and whose bit in the other
  * range is one too, or `count` where there is none. Refuses with BITVEC_NO_ORDER, BITVEC_TOO_LONG
  * or BITVEC_OUTSIDE. Costs by words where the orders are the same, else by bits, up to that bit. */
 BITVEC_CHECKED uint8_t bitvec_c_first_and_u8(
-    uint8_t order, const uint8_t *memory, size_t words, size_t start, uint8_t other_order, const
-    uint8_t *other, size_t other_words, size_t other_start, size_t count, size_t *index)
+    uint8_t order, const uint8_t *memory, size_t words, size_t start, uint8_t other_order,
+    const uint8_t *other, size_t other_words, size_t other_start, size_t count, size_t *index)
     BITVEC_NONNULL(10);
 BITVEC_CHECKED uint8_t bitvec_c_first_and_u16(
-    uint8_t order, const uint16_t *memory, size_t words, size_t start, uint8_t other_order, const
-    uint16_t *other, size_t other_words, size_t other_start, size_t count, size_t *index)
+    uint8_t order, const uint16_t *memory, size_t words, size_t start, uint8_t other_order,
+    const uint16_t *other, size_t other_words, size_t other_start, size_t count, size_t *index)
     BITVEC_NONNULL(10);
 BITVEC_CHECKED uint8_t bitvec_c_first_and_u32(
-    uint8_t order, const uint32_t *memory, size_t words, size_t start, uint8_t other_order, const
-    uint32_t *other, size_t other_words, size_t other_start, size_t count, size_t *index)
+    uint8_t order, const uint32_t *memory, size_t words, size_t start, uint8_t other_order,
+    const uint32_t *other, size_t other_words, size_t other_start, size_t count, size_t *index)
     BITVEC_NONNULL(10);
 BITVEC_CHECKED uint8_t bitvec_c_first_and_u64(
-    uint8_t order, const uint64_t *memory, size_t words, size_t start, uint8_t other_order, const
-    uint64_t *other, size_t other_words, size_t other_start, size_t count, size_t *index)
+    uint8_t order, const uint64_t *memory, size_t words, size_t start, uint8_t other_order,
+    const uint64_t *other, size_t other_words, size_t other_start, size_t count, size_t *index)
     BITVEC_NONNULL(10);
+
+/* Writes to `common` whether a bit of a range is one whose bit in the other range is one too.
+ * Refuses with BITVEC_NO_ORDER, BITVEC_TOO_LONG or BITVEC_OUTSIDE. Costs by words where the orders
+ * are the same, else by bits, up to the first such bit. */
+BITVEC_CHECKED BITVEC_NONNULL(10) static inline uint8_t bitvec_c_intersects_u8(
+    uint8_t order, const uint8_t *memory, size_t words, size_t start, uint8_t other_order,
+    const uint8_t *other, size_t other_words, size_t other_start, size_t count, bool *common) {
+    size_t index = 0;
+    uint8_t status = bitvec_c_first_and_u8(order, memory, words, start, other_order, other,
+        other_words, other_start, count, &index);
+    if (status == BITVEC_OK)
+        *common = index != count;
+    return status;
+}
+BITVEC_CHECKED BITVEC_NONNULL(10) static inline uint8_t bitvec_c_intersects_u16(
+    uint8_t order, const uint16_t *memory, size_t words, size_t start, uint8_t other_order,
+    const uint16_t *other, size_t other_words, size_t other_start, size_t count, bool *common) {
+    size_t index = 0;
+    uint8_t status = bitvec_c_first_and_u16(order, memory, words, start, other_order, other,
+        other_words, other_start, count, &index);
+    if (status == BITVEC_OK)
+        *common = index != count;
+    return status;
+}
+BITVEC_CHECKED BITVEC_NONNULL(10) static inline uint8_t bitvec_c_intersects_u32(
+    uint8_t order, const uint32_t *memory, size_t words, size_t start, uint8_t other_order,
+    const uint32_t *other, size_t other_words, size_t other_start, size_t count, bool *common) {
+    size_t index = 0;
+    uint8_t status = bitvec_c_first_and_u32(order, memory, words, start, other_order, other,
+        other_words, other_start, count, &index);
+    if (status == BITVEC_OK)
+        *common = index != count;
+    return status;
+}
+BITVEC_CHECKED BITVEC_NONNULL(10) static inline uint8_t bitvec_c_intersects_u64(
+    uint8_t order, const uint64_t *memory, size_t words, size_t start, uint8_t other_order,
+    const uint64_t *other, size_t other_words, size_t other_start, size_t count, bool *common) {
+    size_t index = 0;
+    uint8_t status = bitvec_c_first_and_u64(order, memory, words, start, other_order, other,
+        other_words, other_start, count, &index);
+    if (status == BITVEC_OK)
+        *common = index != count;
+    return status;
+}
 
 /* The same of the first bit that is one and whose bit in the other range is zero. Refuses with
  * BITVEC_NO_ORDER, BITVEC_TOO_LONG or BITVEC_OUTSIDE. Costs by words where the orders are the same,
  * else by bits, up to that bit. */
 BITVEC_CHECKED uint8_t bitvec_c_first_and_not_u8(
-    uint8_t order, const uint8_t *memory, size_t words, size_t start, uint8_t other_order, const
-    uint8_t *other, size_t other_words, size_t other_start, size_t count, size_t *index)
+    uint8_t order, const uint8_t *memory, size_t words, size_t start, uint8_t other_order,
+    const uint8_t *other, size_t other_words, size_t other_start, size_t count, size_t *index)
     BITVEC_NONNULL(10);
 BITVEC_CHECKED uint8_t bitvec_c_first_and_not_u16(
-    uint8_t order, const uint16_t *memory, size_t words, size_t start, uint8_t other_order, const
-    uint16_t *other, size_t other_words, size_t other_start, size_t count, size_t *index)
+    uint8_t order, const uint16_t *memory, size_t words, size_t start, uint8_t other_order,
+    const uint16_t *other, size_t other_words, size_t other_start, size_t count, size_t *index)
     BITVEC_NONNULL(10);
 BITVEC_CHECKED uint8_t bitvec_c_first_and_not_u32(
-    uint8_t order, const uint32_t *memory, size_t words, size_t start, uint8_t other_order, const
-    uint32_t *other, size_t other_words, size_t other_start, size_t count, size_t *index)
+    uint8_t order, const uint32_t *memory, size_t words, size_t start, uint8_t other_order,
+    const uint32_t *other, size_t other_words, size_t other_start, size_t count, size_t *index)
     BITVEC_NONNULL(10);
 BITVEC_CHECKED uint8_t bitvec_c_first_and_not_u64(
-    uint8_t order, const uint64_t *memory, size_t words, size_t start, uint8_t other_order, const
-    uint64_t *other, size_t other_words, size_t other_start, size_t count, size_t *index)
+    uint8_t order, const uint64_t *memory, size_t words, size_t start, uint8_t other_order,
+    const uint64_t *other, size_t other_words, size_t other_start, size_t count, size_t *index)
     BITVEC_NONNULL(10);
+
+/* Writes to `subset` whether no bit of a range is one whose bit in the other range is zero. Refuses
+ * with BITVEC_NO_ORDER, BITVEC_TOO_LONG or BITVEC_OUTSIDE. Costs by words where the orders are the
+ * same, else by bits, up to the first such bit. */
+BITVEC_CHECKED BITVEC_NONNULL(10) static inline uint8_t bitvec_c_is_subset_u8(
+    uint8_t order, const uint8_t *memory, size_t words, size_t start, uint8_t other_order,
+    const uint8_t *other, size_t other_words, size_t other_start, size_t count, bool *subset) {
+    size_t index = 0;
+    uint8_t status = bitvec_c_first_and_not_u8(order, memory, words, start, other_order, other,
+        other_words, other_start, count, &index);
+    if (status == BITVEC_OK)
+        *subset = index == count;
+    return status;
+}
+BITVEC_CHECKED BITVEC_NONNULL(10) static inline uint8_t bitvec_c_is_subset_u16(
+    uint8_t order, const uint16_t *memory, size_t words, size_t start, uint8_t other_order,
+    const uint16_t *other, size_t other_words, size_t other_start, size_t count, bool *subset) {
+    size_t index = 0;
+    uint8_t status = bitvec_c_first_and_not_u16(order, memory, words, start, other_order, other,
+        other_words, other_start, count, &index);
+    if (status == BITVEC_OK)
+        *subset = index == count;
+    return status;
+}
+BITVEC_CHECKED BITVEC_NONNULL(10) static inline uint8_t bitvec_c_is_subset_u32(
+    uint8_t order, const uint32_t *memory, size_t words, size_t start, uint8_t other_order,
+    const uint32_t *other, size_t other_words, size_t other_start, size_t count, bool *subset) {
+    size_t index = 0;
+    uint8_t status = bitvec_c_first_and_not_u32(order, memory, words, start, other_order, other,
+        other_words, other_start, count, &index);
+    if (status == BITVEC_OK)
+        *subset = index == count;
+    return status;
+}
+BITVEC_CHECKED BITVEC_NONNULL(10) static inline uint8_t bitvec_c_is_subset_u64(
+    uint8_t order, const uint64_t *memory, size_t words, size_t start, uint8_t other_order,
+    const uint64_t *other, size_t other_words, size_t other_start, size_t count, bool *subset) {
+    size_t index = 0;
+    uint8_t status = bitvec_c_first_and_not_u64(order, memory, words, start, other_order, other,
+        other_words, other_start, count, &index);
+    if (status == BITVEC_OK)
+        *subset = index == count;
+    return status;
+}
 
 /* The same of the first bit that is not the same in the other range. The two ranges are equal where
  * it is `count`, and else the bit at that index tells which one is less. Refuses with
  * BITVEC_NO_ORDER, BITVEC_TOO_LONG or BITVEC_OUTSIDE. Costs by words where the orders are the same,
  * else by bits, up to that bit. */
 BITVEC_CHECKED uint8_t bitvec_c_first_difference_u8(
-    uint8_t order, const uint8_t *memory, size_t words, size_t start, uint8_t other_order, const
-    uint8_t *other, size_t other_words, size_t other_start, size_t count, size_t *index)
+    uint8_t order, const uint8_t *memory, size_t words, size_t start, uint8_t other_order,
+    const uint8_t *other, size_t other_words, size_t other_start, size_t count, size_t *index)
     BITVEC_NONNULL(10);
 BITVEC_CHECKED uint8_t bitvec_c_first_difference_u16(
-    uint8_t order, const uint16_t *memory, size_t words, size_t start, uint8_t other_order, const
-    uint16_t *other, size_t other_words, size_t other_start, size_t count, size_t *index)
+    uint8_t order, const uint16_t *memory, size_t words, size_t start, uint8_t other_order,
+    const uint16_t *other, size_t other_words, size_t other_start, size_t count, size_t *index)
     BITVEC_NONNULL(10);
 BITVEC_CHECKED uint8_t bitvec_c_first_difference_u32(
-    uint8_t order, const uint32_t *memory, size_t words, size_t start, uint8_t other_order, const
-    uint32_t *other, size_t other_words, size_t other_start, size_t count, size_t *index)
+    uint8_t order, const uint32_t *memory, size_t words, size_t start, uint8_t other_order,
+    const uint32_t *other, size_t other_words, size_t other_start, size_t count, size_t *index)
     BITVEC_NONNULL(10);
 BITVEC_CHECKED uint8_t bitvec_c_first_difference_u64(
-    uint8_t order, const uint64_t *memory, size_t words, size_t start, uint8_t other_order, const
-    uint64_t *other, size_t other_words, size_t other_start, size_t count, size_t *index)
+    uint8_t order, const uint64_t *memory, size_t words, size_t start, uint8_t other_order,
+    const uint64_t *other, size_t other_words, size_t other_start, size_t count, size_t *index)
     BITVEC_NONNULL(10);
 
 /* The same where the words of the two memories may have other widths. Refuses with BITVEC_NO_ORDER,
  * BITVEC_TOO_LONG or BITVEC_OUTSIDE. Costs by words where the orders are the same, else by bits, up
  * to that bit. */
 BITVEC_CHECKED uint8_t bitvec_c_first_difference_u8_with_u8(
-    uint8_t order, const uint8_t *memory, size_t words, size_t start, uint8_t other_order, const
-    uint8_t *other, size_t other_words, size_t other_start, size_t count, size_t *index)
+    uint8_t order, const uint8_t *memory, size_t words, size_t start, uint8_t other_order,
+    const uint8_t *other, size_t other_words, size_t other_start, size_t count, size_t *index)
     BITVEC_NONNULL(10);
 BITVEC_CHECKED uint8_t bitvec_c_first_difference_u8_with_u16(
-    uint8_t order, const uint8_t *memory, size_t words, size_t start, uint8_t other_order, const
-    uint16_t *other, size_t other_words, size_t other_start, size_t count, size_t *index)
+    uint8_t order, const uint8_t *memory, size_t words, size_t start, uint8_t other_order,
+    const uint16_t *other, size_t other_words, size_t other_start, size_t count, size_t *index)
     BITVEC_NONNULL(10);
 BITVEC_CHECKED uint8_t bitvec_c_first_difference_u8_with_u32(
-    uint8_t order, const uint8_t *memory, size_t words, size_t start, uint8_t other_order, const
-    uint32_t *other, size_t other_words, size_t other_start, size_t count, size_t *index)
+    uint8_t order, const uint8_t *memory, size_t words, size_t start, uint8_t other_order,
+    const uint32_t *other, size_t other_words, size_t other_start, size_t count, size_t *index)
     BITVEC_NONNULL(10);
 BITVEC_CHECKED uint8_t bitvec_c_first_difference_u8_with_u64(
-    uint8_t order, const uint8_t *memory, size_t words, size_t start, uint8_t other_order, const
-    uint64_t *other, size_t other_words, size_t other_start, size_t count, size_t *index)
+    uint8_t order, const uint8_t *memory, size_t words, size_t start, uint8_t other_order,
+    const uint64_t *other, size_t other_words, size_t other_start, size_t count, size_t *index)
     BITVEC_NONNULL(10);
 BITVEC_CHECKED uint8_t bitvec_c_first_difference_u16_with_u8(
-    uint8_t order, const uint16_t *memory, size_t words, size_t start, uint8_t other_order, const
-    uint8_t *other, size_t other_words, size_t other_start, size_t count, size_t *index)
+    uint8_t order, const uint16_t *memory, size_t words, size_t start, uint8_t other_order,
+    const uint8_t *other, size_t other_words, size_t other_start, size_t count, size_t *index)
     BITVEC_NONNULL(10);
 BITVEC_CHECKED uint8_t bitvec_c_first_difference_u16_with_u16(
-    uint8_t order, const uint16_t *memory, size_t words, size_t start, uint8_t other_order, const
-    uint16_t *other, size_t other_words, size_t other_start, size_t count, size_t *index)
+    uint8_t order, const uint16_t *memory, size_t words, size_t start, uint8_t other_order,
+    const uint16_t *other, size_t other_words, size_t other_start, size_t count, size_t *index)
     BITVEC_NONNULL(10);
 BITVEC_CHECKED uint8_t bitvec_c_first_difference_u16_with_u32(
-    uint8_t order, const uint16_t *memory, size_t words, size_t start, uint8_t other_order, const
-    uint32_t *other, size_t other_words, size_t other_start, size_t count, size_t *index)
+    uint8_t order, const uint16_t *memory, size_t words, size_t start, uint8_t other_order,
+    const uint32_t *other, size_t other_words, size_t other_start, size_t count, size_t *index)
     BITVEC_NONNULL(10);
 BITVEC_CHECKED uint8_t bitvec_c_first_difference_u16_with_u64(
-    uint8_t order, const uint16_t *memory, size_t words, size_t start, uint8_t other_order, const
-    uint64_t *other, size_t other_words, size_t other_start, size_t count, size_t *index)
+    uint8_t order, const uint16_t *memory, size_t words, size_t start, uint8_t other_order,
+    const uint64_t *other, size_t other_words, size_t other_start, size_t count, size_t *index)
     BITVEC_NONNULL(10);
 BITVEC_CHECKED uint8_t bitvec_c_first_difference_u32_with_u8(
-    uint8_t order, const uint32_t *memory, size_t words, size_t start, uint8_t other_order, const
-    uint8_t *other, size_t other_words, size_t other_start, size_t count, size_t *index)
+    uint8_t order, const uint32_t *memory, size_t words, size_t start, uint8_t other_order,
+    const uint8_t *other, size_t other_words, size_t other_start, size_t count, size_t *index)
     BITVEC_NONNULL(10);
 BITVEC_CHECKED uint8_t bitvec_c_first_difference_u32_with_u16(
-    uint8_t order, const uint32_t *memory, size_t words, size_t start, uint8_t other_order, const
-    uint16_t *other, size_t other_words, size_t other_start, size_t count, size_t *index)
+    uint8_t order, const uint32_t *memory, size_t words, size_t start, uint8_t other_order,
+    const uint16_t *other, size_t other_words, size_t other_start, size_t count, size_t *index)
     BITVEC_NONNULL(10);
 BITVEC_CHECKED uint8_t bitvec_c_first_difference_u32_with_u32(
-    uint8_t order, const uint32_t *memory, size_t words, size_t start, uint8_t other_order, const
-    uint32_t *other, size_t other_words, size_t other_start, size_t count, size_t *index)
+    uint8_t order, const uint32_t *memory, size_t words, size_t start, uint8_t other_order,
+    const uint32_t *other, size_t other_words, size_t other_start, size_t count, size_t *index)
     BITVEC_NONNULL(10);
 BITVEC_CHECKED uint8_t bitvec_c_first_difference_u32_with_u64(
-    uint8_t order, const uint32_t *memory, size_t words, size_t start, uint8_t other_order, const
-    uint64_t *other, size_t other_words, size_t other_start, size_t count, size_t *index)
+    uint8_t order, const uint32_t *memory, size_t words, size_t start, uint8_t other_order,
+    const uint64_t *other, size_t other_words, size_t other_start, size_t count, size_t *index)
     BITVEC_NONNULL(10);
 BITVEC_CHECKED uint8_t bitvec_c_first_difference_u64_with_u8(
-    uint8_t order, const uint64_t *memory, size_t words, size_t start, uint8_t other_order, const
-    uint8_t *other, size_t other_words, size_t other_start, size_t count, size_t *index)
+    uint8_t order, const uint64_t *memory, size_t words, size_t start, uint8_t other_order,
+    const uint8_t *other, size_t other_words, size_t other_start, size_t count, size_t *index)
     BITVEC_NONNULL(10);
 BITVEC_CHECKED uint8_t bitvec_c_first_difference_u64_with_u16(
-    uint8_t order, const uint64_t *memory, size_t words, size_t start, uint8_t other_order, const
-    uint16_t *other, size_t other_words, size_t other_start, size_t count, size_t *index)
+    uint8_t order, const uint64_t *memory, size_t words, size_t start, uint8_t other_order,
+    const uint16_t *other, size_t other_words, size_t other_start, size_t count, size_t *index)
     BITVEC_NONNULL(10);
 BITVEC_CHECKED uint8_t bitvec_c_first_difference_u64_with_u32(
-    uint8_t order, const uint64_t *memory, size_t words, size_t start, uint8_t other_order, const
-    uint32_t *other, size_t other_words, size_t other_start, size_t count, size_t *index)
+    uint8_t order, const uint64_t *memory, size_t words, size_t start, uint8_t other_order,
+    const uint32_t *other, size_t other_words, size_t other_start, size_t count, size_t *index)
     BITVEC_NONNULL(10);
 BITVEC_CHECKED uint8_t bitvec_c_first_difference_u64_with_u64(
-    uint8_t order, const uint64_t *memory, size_t words, size_t start, uint8_t other_order, const
-    uint64_t *other, size_t other_words, size_t other_start, size_t count, size_t *index)
+    uint8_t order, const uint64_t *memory, size_t words, size_t start, uint8_t other_order,
+    const uint64_t *other, size_t other_words, size_t other_start, size_t count, size_t *index)
     BITVEC_NONNULL(10);
 
 /* ----------------------------------------- Numbers ------------------------------------------ */
@@ -748,14 +1165,14 @@ BITVEC_CHECKED uint8_t bitvec_c_load_u8(
     uint8_t order, bool big_endian, const uint8_t *memory, size_t words, size_t start, size_t count,
     uint64_t *number) BITVEC_NONNULL(7);
 BITVEC_CHECKED uint8_t bitvec_c_load_u16(
-    uint8_t order, bool big_endian, const uint16_t *memory, size_t words, size_t start, size_t
-    count, uint64_t *number) BITVEC_NONNULL(7);
+    uint8_t order, bool big_endian, const uint16_t *memory, size_t words, size_t start,
+    size_t count, uint64_t *number) BITVEC_NONNULL(7);
 BITVEC_CHECKED uint8_t bitvec_c_load_u32(
-    uint8_t order, bool big_endian, const uint32_t *memory, size_t words, size_t start, size_t
-    count, uint64_t *number) BITVEC_NONNULL(7);
+    uint8_t order, bool big_endian, const uint32_t *memory, size_t words, size_t start,
+    size_t count, uint64_t *number) BITVEC_NONNULL(7);
 BITVEC_CHECKED uint8_t bitvec_c_load_u64(
-    uint8_t order, bool big_endian, const uint64_t *memory, size_t words, size_t start, size_t
-    count, uint64_t *number) BITVEC_NONNULL(7);
+    uint8_t order, bool big_endian, const uint64_t *memory, size_t words, size_t start,
+    size_t count, uint64_t *number) BITVEC_NONNULL(7);
 
 /* Makes the bits of a range the lowest digits of a number, so that bitvec_c_load_W gives them back.
  * Its other digits are dropped. Refuses with BITVEC_NO_ORDER, BITVEC_TOO_LONG, BITVEC_OUTSIDE or
@@ -780,14 +1197,14 @@ BITVEC_CHECKED uint8_t bitvec_c_load_signed_u8(
     uint8_t order, bool big_endian, const uint8_t *memory, size_t words, size_t start, size_t count,
     int64_t *number) BITVEC_NONNULL(7);
 BITVEC_CHECKED uint8_t bitvec_c_load_signed_u16(
-    uint8_t order, bool big_endian, const uint16_t *memory, size_t words, size_t start, size_t
-    count, int64_t *number) BITVEC_NONNULL(7);
+    uint8_t order, bool big_endian, const uint16_t *memory, size_t words, size_t start,
+    size_t count, int64_t *number) BITVEC_NONNULL(7);
 BITVEC_CHECKED uint8_t bitvec_c_load_signed_u32(
-    uint8_t order, bool big_endian, const uint32_t *memory, size_t words, size_t start, size_t
-    count, int64_t *number) BITVEC_NONNULL(7);
+    uint8_t order, bool big_endian, const uint32_t *memory, size_t words, size_t start,
+    size_t count, int64_t *number) BITVEC_NONNULL(7);
 BITVEC_CHECKED uint8_t bitvec_c_load_signed_u64(
-    uint8_t order, bool big_endian, const uint64_t *memory, size_t words, size_t start, size_t
-    count, int64_t *number) BITVEC_NONNULL(7);
+    uint8_t order, bool big_endian, const uint64_t *memory, size_t words, size_t start,
+    size_t count, int64_t *number) BITVEC_NONNULL(7);
 
 /* Makes the bits of a range the lowest digits of a signed number's two's complement, so that
  * bitvec_c_load_signed_W gives back a number that has no more digits. Refuses with BITVEC_NO_ORDER,
@@ -851,17 +1268,17 @@ BITVEC_CHECKED uint8_t bitvec_c_read_signed_u64(
  * Refuses with BITVEC_NO_ORDER, BITVEC_TOO_LONG, BITVEC_OUTSIDE or BITVEC_TOO_FEW. Costs by words.
  * */
 BITVEC_CHECKED uint8_t bitvec_c_read_unary_u8(
-    uint8_t order, const uint8_t *memory, size_t words, size_t *place, size_t end, bool bit, size_t
-    *count) BITVEC_NONNULL(4) BITVEC_NONNULL(7);
+    uint8_t order, const uint8_t *memory, size_t words, size_t *place, size_t end, bool bit,
+    size_t *count) BITVEC_NONNULL(4) BITVEC_NONNULL(7);
 BITVEC_CHECKED uint8_t bitvec_c_read_unary_u16(
-    uint8_t order, const uint16_t *memory, size_t words, size_t *place, size_t end, bool bit, size_t
-    *count) BITVEC_NONNULL(4) BITVEC_NONNULL(7);
+    uint8_t order, const uint16_t *memory, size_t words, size_t *place, size_t end, bool bit,
+    size_t *count) BITVEC_NONNULL(4) BITVEC_NONNULL(7);
 BITVEC_CHECKED uint8_t bitvec_c_read_unary_u32(
-    uint8_t order, const uint32_t *memory, size_t words, size_t *place, size_t end, bool bit, size_t
-    *count) BITVEC_NONNULL(4) BITVEC_NONNULL(7);
+    uint8_t order, const uint32_t *memory, size_t words, size_t *place, size_t end, bool bit,
+    size_t *count) BITVEC_NONNULL(4) BITVEC_NONNULL(7);
 BITVEC_CHECKED uint8_t bitvec_c_read_unary_u64(
-    uint8_t order, const uint64_t *memory, size_t words, size_t *place, size_t end, bool bit, size_t
-    *count) BITVEC_NONNULL(4) BITVEC_NONNULL(7);
+    uint8_t order, const uint64_t *memory, size_t words, size_t *place, size_t end, bool bit,
+    size_t *count) BITVEC_NONNULL(4) BITVEC_NONNULL(7);
 
 /* Writes to `number` the number of an Exp-Golomb code, ue(v) of ITU-T H.264 and H.265: as many
  * zeros as the number and one have binary digits, less one, and then these digits, the highest
@@ -872,14 +1289,14 @@ BITVEC_CHECKED uint8_t bitvec_c_read_exp_golomb_u8(
     uint8_t order, const uint8_t *memory, size_t words, size_t *place, size_t end, uint64_t *number)
     BITVEC_NONNULL(4) BITVEC_NONNULL(6);
 BITVEC_CHECKED uint8_t bitvec_c_read_exp_golomb_u16(
-    uint8_t order, const uint16_t *memory, size_t words, size_t *place, size_t end, uint64_t
-    *number) BITVEC_NONNULL(4) BITVEC_NONNULL(6);
+    uint8_t order, const uint16_t *memory, size_t words, size_t *place, size_t end,
+    uint64_t *number) BITVEC_NONNULL(4) BITVEC_NONNULL(6);
 BITVEC_CHECKED uint8_t bitvec_c_read_exp_golomb_u32(
-    uint8_t order, const uint32_t *memory, size_t words, size_t *place, size_t end, uint64_t
-    *number) BITVEC_NONNULL(4) BITVEC_NONNULL(6);
+    uint8_t order, const uint32_t *memory, size_t words, size_t *place, size_t end,
+    uint64_t *number) BITVEC_NONNULL(4) BITVEC_NONNULL(6);
 BITVEC_CHECKED uint8_t bitvec_c_read_exp_golomb_u64(
-    uint8_t order, const uint64_t *memory, size_t words, size_t *place, size_t end, uint64_t
-    *number) BITVEC_NONNULL(4) BITVEC_NONNULL(6);
+    uint8_t order, const uint64_t *memory, size_t words, size_t *place, size_t end,
+    uint64_t *number) BITVEC_NONNULL(4) BITVEC_NONNULL(6);
 
 /* Writes to `number` the signed number of one, se(v) there: the codes of 0, 1, 2, 3, 4 and so on
  * are those of 0, 1, -1, 2, -2 and so on. BITVEC_TOO_FEW and BITVEC_TOO_LARGE: as above, where an
@@ -904,8 +1321,8 @@ BITVEC_CHECKED uint8_t bitvec_c_read_signed_exp_golomb_u64(
  * digits. Refuses with BITVEC_NO_ORDER, BITVEC_TOO_LONG, BITVEC_OUTSIDE, BITVEC_TOO_WIDE,
  * BITVEC_TOO_FEW or BITVEC_TOO_LARGE. Costs by words. */
 BITVEC_CHECKED uint8_t bitvec_c_write_u8(
-    uint8_t order, bool big_endian, uint8_t *memory, size_t words, size_t *place, size_t end, size_t
-    count, uint64_t number) BITVEC_NONNULL(5);
+    uint8_t order, bool big_endian, uint8_t *memory, size_t words, size_t *place, size_t end,
+    size_t count, uint64_t number) BITVEC_NONNULL(5);
 BITVEC_CHECKED uint8_t bitvec_c_write_u16(
     uint8_t order, bool big_endian, uint16_t *memory, size_t words, size_t *place, size_t end,
     size_t count, uint64_t number) BITVEC_NONNULL(5);
@@ -921,8 +1338,8 @@ BITVEC_CHECKED uint8_t bitvec_c_write_u64(
  * not 0. Refuses with BITVEC_NO_ORDER, BITVEC_TOO_LONG, BITVEC_OUTSIDE, BITVEC_TOO_WIDE,
  * BITVEC_TOO_FEW or BITVEC_TOO_LARGE. Costs by words. */
 BITVEC_CHECKED uint8_t bitvec_c_write_signed_u8(
-    uint8_t order, bool big_endian, uint8_t *memory, size_t words, size_t *place, size_t end, size_t
-    count, int64_t number) BITVEC_NONNULL(5);
+    uint8_t order, bool big_endian, uint8_t *memory, size_t words, size_t *place, size_t end,
+    size_t count, int64_t number) BITVEC_NONNULL(5);
 BITVEC_CHECKED uint8_t bitvec_c_write_signed_u16(
     uint8_t order, bool big_endian, uint16_t *memory, size_t words, size_t *place, size_t end,
     size_t count, int64_t number) BITVEC_NONNULL(5);
@@ -940,14 +1357,14 @@ BITVEC_CHECKED uint8_t bitvec_c_write_unary_u8(
     uint8_t order, uint8_t *memory, size_t words, size_t *place, size_t end, bool bit, size_t count)
     BITVEC_NONNULL(4);
 BITVEC_CHECKED uint8_t bitvec_c_write_unary_u16(
-    uint8_t order, uint16_t *memory, size_t words, size_t *place, size_t end, bool bit, size_t
-    count) BITVEC_NONNULL(4);
+    uint8_t order, uint16_t *memory, size_t words, size_t *place, size_t end, bool bit,
+    size_t count) BITVEC_NONNULL(4);
 BITVEC_CHECKED uint8_t bitvec_c_write_unary_u32(
-    uint8_t order, uint32_t *memory, size_t words, size_t *place, size_t end, bool bit, size_t
-    count) BITVEC_NONNULL(4);
+    uint8_t order, uint32_t *memory, size_t words, size_t *place, size_t end, bool bit,
+    size_t count) BITVEC_NONNULL(4);
 BITVEC_CHECKED uint8_t bitvec_c_write_unary_u64(
-    uint8_t order, uint64_t *memory, size_t words, size_t *place, size_t end, bool bit, size_t
-    count) BITVEC_NONNULL(4);
+    uint8_t order, uint64_t *memory, size_t words, size_t *place, size_t end, bool bit,
+    size_t count) BITVEC_NONNULL(4);
 
 /* Writes the Exp-Golomb code of a number, as above: each number has one, of at most 129 bits.
  * Refuses with BITVEC_NO_ORDER, BITVEC_TOO_LONG, BITVEC_OUTSIDE or BITVEC_TOO_FEW. Costs by words.
@@ -988,13 +1405,13 @@ BITVEC_CHECKED uint8_t bitvec_c_write_signed_exp_golomb_u64(
  * common. Refuses with BITVEC_NO_ORDER, BITVEC_TOO_MANY_SPANS, BITVEC_TOO_LONG, BITVEC_OUTSIDE or
  * BITVEC_OVERLAP. Costs at most 2016 such tests, of each span with each. */
 BITVEC_CHECKED uint8_t bitvec_c_can_run_u8(
-    uint8_t order, const struct bitvec_span *spans, size_t span_count, size_t words);
+    uint8_t order, size_t words, const struct bitvec_span *spans, size_t span_count);
 BITVEC_CHECKED uint8_t bitvec_c_can_run_u16(
-    uint8_t order, const struct bitvec_span *spans, size_t span_count, size_t words);
+    uint8_t order, size_t words, const struct bitvec_span *spans, size_t span_count);
 BITVEC_CHECKED uint8_t bitvec_c_can_run_u32(
-    uint8_t order, const struct bitvec_span *spans, size_t span_count, size_t words);
+    uint8_t order, size_t words, const struct bitvec_span *spans, size_t span_count);
 BITVEC_CHECKED uint8_t bitvec_c_can_run_u64(
-    uint8_t order, const struct bitvec_span *spans, size_t span_count, size_t words);
+    uint8_t order, size_t words, const struct bitvec_span *spans, size_t span_count);
 
 /* Serves the requests in their order, each through the span that it names, and writes the n-th
  * reply to the n-th request. It tests what bitvec_c_can_run_W does, and BITVEC_NO_ROOM and
@@ -1003,21 +1420,21 @@ BITVEC_CHECKED uint8_t bitvec_c_can_run_u64(
  * BITVEC_NO_COMMAND. Costs these tests, and what the commands cost, BITVEC_COPY and BITVEC_FILL by
  * words, each other one constant. */
 BITVEC_CHECKED uint8_t bitvec_c_run_u8(
-    uint8_t order, const struct bitvec_span *spans, size_t span_count, uint8_t *memory, size_t
-    words, const struct bitvec_request *requests, size_t request_count, struct bitvec_reply
-    *replies, size_t reply_count);
+    uint8_t order, uint8_t *memory, size_t words, const struct bitvec_span *spans,
+    size_t span_count, const struct bitvec_request *requests, size_t request_count,
+    struct bitvec_reply *replies, size_t reply_count);
 BITVEC_CHECKED uint8_t bitvec_c_run_u16(
-    uint8_t order, const struct bitvec_span *spans, size_t span_count, uint16_t *memory, size_t
-    words, const struct bitvec_request *requests, size_t request_count, struct bitvec_reply
-    *replies, size_t reply_count);
+    uint8_t order, uint16_t *memory, size_t words, const struct bitvec_span *spans,
+    size_t span_count, const struct bitvec_request *requests, size_t request_count,
+    struct bitvec_reply *replies, size_t reply_count);
 BITVEC_CHECKED uint8_t bitvec_c_run_u32(
-    uint8_t order, const struct bitvec_span *spans, size_t span_count, uint32_t *memory, size_t
-    words, const struct bitvec_request *requests, size_t request_count, struct bitvec_reply
-    *replies, size_t reply_count);
+    uint8_t order, uint32_t *memory, size_t words, const struct bitvec_span *spans,
+    size_t span_count, const struct bitvec_request *requests, size_t request_count,
+    struct bitvec_reply *replies, size_t reply_count);
 BITVEC_CHECKED uint8_t bitvec_c_run_u64(
-    uint8_t order, const struct bitvec_span *spans, size_t span_count, uint64_t *memory, size_t
-    words, const struct bitvec_request *requests, size_t request_count, struct bitvec_reply
-    *replies, size_t reply_count);
+    uint8_t order, uint64_t *memory, size_t words, const struct bitvec_span *spans,
+    size_t span_count, const struct bitvec_request *requests, size_t request_count,
+    struct bitvec_reply *replies, size_t reply_count);
 
 /* Tests any number of spans as bitvec_c_can_run_W does: `room` has as many numbers as there are
  * spans, or the call refuses with BITVEC_NO_ROOM. Where the status is BITVEC_OK or BITVEC_OVERLAP
@@ -1025,16 +1442,16 @@ BITVEC_CHECKED uint8_t bitvec_c_run_u64(
  * was. Refuses with BITVEC_NO_ORDER, BITVEC_NO_ROOM, BITVEC_TOO_LONG, BITVEC_OUTSIDE or
  * BITVEC_OVERLAP. Costs n log n for n spans. */
 BITVEC_CHECKED uint8_t bitvec_c_can_run_in_u8(
-    uint8_t order, const struct bitvec_span *spans, size_t span_count, size_t words, size_t *room,
+    uint8_t order, size_t words, const struct bitvec_span *spans, size_t span_count, size_t *room,
     size_t room_count);
 BITVEC_CHECKED uint8_t bitvec_c_can_run_in_u16(
-    uint8_t order, const struct bitvec_span *spans, size_t span_count, size_t words, size_t *room,
+    uint8_t order, size_t words, const struct bitvec_span *spans, size_t span_count, size_t *room,
     size_t room_count);
 BITVEC_CHECKED uint8_t bitvec_c_can_run_in_u32(
-    uint8_t order, const struct bitvec_span *spans, size_t span_count, size_t words, size_t *room,
+    uint8_t order, size_t words, const struct bitvec_span *spans, size_t span_count, size_t *room,
     size_t room_count);
 BITVEC_CHECKED uint8_t bitvec_c_can_run_in_u64(
-    uint8_t order, const struct bitvec_span *spans, size_t span_count, size_t words, size_t *room,
+    uint8_t order, size_t words, const struct bitvec_span *spans, size_t span_count, size_t *room,
     size_t room_count);
 
 /* Serves the requests through any number of spans, which are tested as bitvec_c_can_run_in_W does.
@@ -1043,22 +1460,23 @@ BITVEC_CHECKED uint8_t bitvec_c_can_run_in_u64(
  * BITVEC_NO_ROOM, BITVEC_TOO_LONG, BITVEC_OUTSIDE, BITVEC_OVERLAP or BITVEC_NO_COMMAND. Costs as
  * bitvec_c_run_W, with these tests. */
 BITVEC_CHECKED uint8_t bitvec_c_run_in_u8(
-    uint8_t order, const struct bitvec_span *spans, size_t span_count, uint8_t *memory, size_t
-    words, const struct bitvec_request *requests, size_t request_count, struct bitvec_reply
-    *replies, size_t reply_count, size_t *room, size_t room_count);
+    uint8_t order, uint8_t *memory, size_t words, const struct bitvec_span *spans,
+    size_t span_count, const struct bitvec_request *requests, size_t request_count,
+    struct bitvec_reply *replies, size_t reply_count, size_t *room, size_t room_count);
 BITVEC_CHECKED uint8_t bitvec_c_run_in_u16(
-    uint8_t order, const struct bitvec_span *spans, size_t span_count, uint16_t *memory, size_t
-    words, const struct bitvec_request *requests, size_t request_count, struct bitvec_reply
-    *replies, size_t reply_count, size_t *room, size_t room_count);
+    uint8_t order, uint16_t *memory, size_t words, const struct bitvec_span *spans,
+    size_t span_count, const struct bitvec_request *requests, size_t request_count,
+    struct bitvec_reply *replies, size_t reply_count, size_t *room, size_t room_count);
 BITVEC_CHECKED uint8_t bitvec_c_run_in_u32(
-    uint8_t order, const struct bitvec_span *spans, size_t span_count, uint32_t *memory, size_t
-    words, const struct bitvec_request *requests, size_t request_count, struct bitvec_reply
-    *replies, size_t reply_count, size_t *room, size_t room_count);
+    uint8_t order, uint32_t *memory, size_t words, const struct bitvec_span *spans,
+    size_t span_count, const struct bitvec_request *requests, size_t request_count,
+    struct bitvec_reply *replies, size_t reply_count, size_t *room, size_t room_count);
 BITVEC_CHECKED uint8_t bitvec_c_run_in_u64(
-    uint8_t order, const struct bitvec_span *spans, size_t span_count, uint64_t *memory, size_t
-    words, const struct bitvec_request *requests, size_t request_count, struct bitvec_reply
-    *replies, size_t reply_count, size_t *room, size_t room_count);
+    uint8_t order, uint64_t *memory, size_t words, const struct bitvec_span *spans,
+    size_t span_count, const struct bitvec_request *requests, size_t request_count,
+    struct bitvec_reply *replies, size_t reply_count, size_t *room, size_t room_count);
 
+#undef BITVEC_ENUM
 #undef BITVEC_NONNULL
 #undef BITVEC_CHECKED
 

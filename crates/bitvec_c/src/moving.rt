@@ -13,10 +13,10 @@ use bitvec_call::edit::{Edit, try_edit};
 #[unsafe(no_mangle)]
 pub extern "C" fn bitvec_c_copy_u8(
     order: u8,
-    source: &[u8],
-    source_start: usize,
     target: &mut [u8],
     target_start: usize,
+    source: &[u8],
+    source_start: usize,
     count: usize,
 ) -> u8
     ensures { let at = u8_at order in IsCopy (at source_start source.now) (at target_start
@@ -29,10 +29,10 @@ pub extern "C" fn bitvec_c_copy_u8(
 #[unsafe(no_mangle)]
 pub extern "C" fn bitvec_c_copy_u16(
     order: u8,
-    source: &[u16],
-    source_start: usize,
     target: &mut [u16],
     target_start: usize,
+    source: &[u16],
+    source_start: usize,
     count: usize,
 ) -> u8
     ensures { let at = u16_at order in IsCopy (at source_start source.now) (at target_start
@@ -45,10 +45,10 @@ pub extern "C" fn bitvec_c_copy_u16(
 #[unsafe(no_mangle)]
 pub extern "C" fn bitvec_c_copy_u32(
     order: u8,
-    source: &[u32],
-    source_start: usize,
     target: &mut [u32],
     target_start: usize,
+    source: &[u32],
+    source_start: usize,
     count: usize,
 ) -> u8
     ensures { let at = u32_at order in IsCopy (at source_start source.now) (at target_start
@@ -61,10 +61,10 @@ pub extern "C" fn bitvec_c_copy_u32(
 #[unsafe(no_mangle)]
 pub extern "C" fn bitvec_c_copy_u64(
     order: u8,
-    source: &[u64],
-    source_start: usize,
     target: &mut [u64],
     target_start: usize,
+    source: &[u64],
+    source_start: usize,
     count: usize,
 ) -> u8
     ensures { let at = u64_at order in IsCopy (at source_start source.now) (at target_start
@@ -81,8 +81,8 @@ pub extern "C" fn bitvec_c_copy_u64(
 pub extern "C" fn bitvec_c_copy_within_u8(
     order: u8,
     memory: &mut [u8],
-    source_start: usize,
     target_start: usize,
+    source_start: usize,
     count: usize,
 ) -> u8
     ensures { let at = u8_at order in IsCopy (at source_start memory.old) (at target_start
@@ -96,8 +96,8 @@ pub extern "C" fn bitvec_c_copy_within_u8(
 pub extern "C" fn bitvec_c_copy_within_u16(
     order: u8,
     memory: &mut [u16],
-    source_start: usize,
     target_start: usize,
+    source_start: usize,
     count: usize,
 ) -> u8
     ensures { let at = u16_at order in IsCopy (at source_start memory.old) (at target_start
@@ -111,8 +111,8 @@ pub extern "C" fn bitvec_c_copy_within_u16(
 pub extern "C" fn bitvec_c_copy_within_u32(
     order: u8,
     memory: &mut [u32],
-    source_start: usize,
     target_start: usize,
+    source_start: usize,
     count: usize,
 ) -> u8
     ensures { let at = u32_at order in IsCopy (at source_start memory.old) (at target_start
@@ -126,8 +126,8 @@ pub extern "C" fn bitvec_c_copy_within_u32(
 pub extern "C" fn bitvec_c_copy_within_u64(
     order: u8,
     memory: &mut [u64],
-    source_start: usize,
     target_start: usize,
+    source_start: usize,
     count: usize,
 ) -> u8
     ensures { let at = u64_at order in IsCopy (at source_start memory.old) (at target_start
@@ -143,12 +143,12 @@ pub extern "C" fn bitvec_c_copy_within_u64(
 /// where the orders are the same, else by bits.
 #[unsafe(no_mangle)]
 pub extern "C" fn bitvec_c_copy_u8_to_u8(
-    source_order: u8,
-    source: &[u8],
-    source_start: usize,
     order: u8,
     target: &mut [u8],
     target_start: usize,
+    source_order: u8,
+    source: &[u8],
+    source_start: usize,
     count: usize,
 ) -> u8
     ensures { let at = u8_at order target_start in IsPut (u8_at source_order source_start
@@ -168,12 +168,12 @@ pub extern "C" fn bitvec_c_copy_u8_to_u8(
 /// As `bitvec_c_copy_u8_to_u8`, of words of 8 and 16 bits.
 #[unsafe(no_mangle)]
 pub extern "C" fn bitvec_c_copy_u8_to_u16(
-    source_order: u8,
-    source: &[u8],
-    source_start: usize,
     order: u8,
     target: &mut [u16],
     target_start: usize,
+    source_order: u8,
+    source: &[u8],
+    source_start: usize,
     count: usize,
 ) -> u8
     ensures { let at = u16_at order target_start in IsPut (u8_at source_order source_start
@@ -193,12 +193,12 @@ pub extern "C" fn bitvec_c_copy_u8_to_u16(
 /// As `bitvec_c_copy_u8_to_u8`, of words of 8 and 32 bits.
 #[unsafe(no_mangle)]
 pub extern "C" fn bitvec_c_copy_u8_to_u32(
-    source_order: u8,
-    source: &[u8],
-    source_start: usize,
     order: u8,
     target: &mut [u32],
     target_start: usize,
+    source_order: u8,
+    source: &[u8],
+    source_start: usize,
     count: usize,
 ) -> u8
     ensures { let at = u32_at order target_start in IsPut (u8_at source_order source_start
@@ -218,12 +218,12 @@ pub extern "C" fn bitvec_c_copy_u8_to_u32(
 /// As `bitvec_c_copy_u8_to_u8`, of words of 8 and 64 bits.
 #[unsafe(no_mangle)]
 pub extern "C" fn bitvec_c_copy_u8_to_u64(
-    source_order: u8,
-    source: &[u8],
-    source_start: usize,
     order: u8,
     target: &mut [u64],
     target_start: usize,
+    source_order: u8,
+    source: &[u8],
+    source_start: usize,
     count: usize,
 ) -> u8
     ensures { let at = u64_at order target_start in IsPut (u8_at source_order source_start
@@ -243,12 +243,12 @@ pub extern "C" fn bitvec_c_copy_u8_to_u64(
 /// As `bitvec_c_copy_u8_to_u8`, of words of 16 and 8 bits.
 #[unsafe(no_mangle)]
 pub extern "C" fn bitvec_c_copy_u16_to_u8(
-    source_order: u8,
-    source: &[u16],
-    source_start: usize,
     order: u8,
     target: &mut [u8],
     target_start: usize,
+    source_order: u8,
+    source: &[u16],
+    source_start: usize,
     count: usize,
 ) -> u8
     ensures { let at = u8_at order target_start in IsPut (u16_at source_order source_start
@@ -268,12 +268,12 @@ pub extern "C" fn bitvec_c_copy_u16_to_u8(
 /// As `bitvec_c_copy_u8_to_u8`, of words of 16 and 16 bits.
 #[unsafe(no_mangle)]
 pub extern "C" fn bitvec_c_copy_u16_to_u16(
-    source_order: u8,
-    source: &[u16],
-    source_start: usize,
     order: u8,
     target: &mut [u16],
     target_start: usize,
+    source_order: u8,
+    source: &[u16],
+    source_start: usize,
     count: usize,
 ) -> u8
     ensures { let at = u16_at order target_start in IsPut (u16_at source_order source_start
@@ -293,12 +293,12 @@ pub extern "C" fn bitvec_c_copy_u16_to_u16(
 /// As `bitvec_c_copy_u8_to_u8`, of words of 16 and 32 bits.
 #[unsafe(no_mangle)]
 pub extern "C" fn bitvec_c_copy_u16_to_u32(
-    source_order: u8,
-    source: &[u16],
-    source_start: usize,
     order: u8,
     target: &mut [u32],
     target_start: usize,
+    source_order: u8,
+    source: &[u16],
+    source_start: usize,
     count: usize,
 ) -> u8
     ensures { let at = u32_at order target_start in IsPut (u16_at source_order source_start
@@ -318,12 +318,12 @@ pub extern "C" fn bitvec_c_copy_u16_to_u32(
 /// As `bitvec_c_copy_u8_to_u8`, of words of 16 and 64 bits.
 #[unsafe(no_mangle)]
 pub extern "C" fn bitvec_c_copy_u16_to_u64(
-    source_order: u8,
-    source: &[u16],
-    source_start: usize,
     order: u8,
     target: &mut [u64],
     target_start: usize,
+    source_order: u8,
+    source: &[u16],
+    source_start: usize,
     count: usize,
 ) -> u8
     ensures { let at = u64_at order target_start in IsPut (u16_at source_order source_start
@@ -343,12 +343,12 @@ pub extern "C" fn bitvec_c_copy_u16_to_u64(
 /// As `bitvec_c_copy_u8_to_u8`, of words of 32 and 8 bits.
 #[unsafe(no_mangle)]
 pub extern "C" fn bitvec_c_copy_u32_to_u8(
-    source_order: u8,
-    source: &[u32],
-    source_start: usize,
     order: u8,
     target: &mut [u8],
     target_start: usize,
+    source_order: u8,
+    source: &[u32],
+    source_start: usize,
     count: usize,
 ) -> u8
     ensures { let at = u8_at order target_start in IsPut (u32_at source_order source_start
@@ -368,12 +368,12 @@ pub extern "C" fn bitvec_c_copy_u32_to_u8(
 /// As `bitvec_c_copy_u8_to_u8`, of words of 32 and 16 bits.
 #[unsafe(no_mangle)]
 pub extern "C" fn bitvec_c_copy_u32_to_u16(
-    source_order: u8,
-    source: &[u32],
-    source_start: usize,
     order: u8,
     target: &mut [u16],
     target_start: usize,
+    source_order: u8,
+    source: &[u32],
+    source_start: usize,
     count: usize,
 ) -> u8
     ensures { let at = u16_at order target_start in IsPut (u32_at source_order source_start
@@ -393,12 +393,12 @@ pub extern "C" fn bitvec_c_copy_u32_to_u16(
 /// As `bitvec_c_copy_u8_to_u8`, of words of 32 and 32 bits.
 #[unsafe(no_mangle)]
 pub extern "C" fn bitvec_c_copy_u32_to_u32(
-    source_order: u8,
-    source: &[u32],
-    source_start: usize,
     order: u8,
     target: &mut [u32],
     target_start: usize,
+    source_order: u8,
+    source: &[u32],
+    source_start: usize,
     count: usize,
 ) -> u8
     ensures { let at = u32_at order target_start in IsPut (u32_at source_order source_start
@@ -418,12 +418,12 @@ pub extern "C" fn bitvec_c_copy_u32_to_u32(
 /// As `bitvec_c_copy_u8_to_u8`, of words of 32 and 64 bits.
 #[unsafe(no_mangle)]
 pub extern "C" fn bitvec_c_copy_u32_to_u64(
-    source_order: u8,
-    source: &[u32],
-    source_start: usize,
     order: u8,
     target: &mut [u64],
     target_start: usize,
+    source_order: u8,
+    source: &[u32],
+    source_start: usize,
     count: usize,
 ) -> u8
     ensures { let at = u64_at order target_start in IsPut (u32_at source_order source_start
@@ -443,12 +443,12 @@ pub extern "C" fn bitvec_c_copy_u32_to_u64(
 /// As `bitvec_c_copy_u8_to_u8`, of words of 64 and 8 bits.
 #[unsafe(no_mangle)]
 pub extern "C" fn bitvec_c_copy_u64_to_u8(
-    source_order: u8,
-    source: &[u64],
-    source_start: usize,
     order: u8,
     target: &mut [u8],
     target_start: usize,
+    source_order: u8,
+    source: &[u64],
+    source_start: usize,
     count: usize,
 ) -> u8
     ensures { let at = u8_at order target_start in IsPut (u64_at source_order source_start
@@ -468,12 +468,12 @@ pub extern "C" fn bitvec_c_copy_u64_to_u8(
 /// As `bitvec_c_copy_u8_to_u8`, of words of 64 and 16 bits.
 #[unsafe(no_mangle)]
 pub extern "C" fn bitvec_c_copy_u64_to_u16(
-    source_order: u8,
-    source: &[u64],
-    source_start: usize,
     order: u8,
     target: &mut [u16],
     target_start: usize,
+    source_order: u8,
+    source: &[u64],
+    source_start: usize,
     count: usize,
 ) -> u8
     ensures { let at = u16_at order target_start in IsPut (u64_at source_order source_start
@@ -493,12 +493,12 @@ pub extern "C" fn bitvec_c_copy_u64_to_u16(
 /// As `bitvec_c_copy_u8_to_u8`, of words of 64 and 32 bits.
 #[unsafe(no_mangle)]
 pub extern "C" fn bitvec_c_copy_u64_to_u32(
-    source_order: u8,
-    source: &[u64],
-    source_start: usize,
     order: u8,
     target: &mut [u32],
     target_start: usize,
+    source_order: u8,
+    source: &[u64],
+    source_start: usize,
     count: usize,
 ) -> u8
     ensures { let at = u32_at order target_start in IsPut (u64_at source_order source_start
@@ -518,12 +518,12 @@ pub extern "C" fn bitvec_c_copy_u64_to_u32(
 /// As `bitvec_c_copy_u8_to_u8`, of words of 64 and 64 bits.
 #[unsafe(no_mangle)]
 pub extern "C" fn bitvec_c_copy_u64_to_u64(
-    source_order: u8,
-    source: &[u64],
-    source_start: usize,
     order: u8,
     target: &mut [u64],
     target_start: usize,
+    source_order: u8,
+    source: &[u64],
+    source_start: usize,
     count: usize,
 ) -> u8
     ensures { let at = u64_at order target_start in IsPut (u64_at source_order source_start

@@ -16,7 +16,7 @@ use bitvec_call::sorted::test_spans_in;
 /// In words of 8 bits. It refuses with `NO_ORDER`, `TOO_MANY_SPANS`, `TOO_LONG`, `OUTSIDE` or
 /// `OVERLAP`. It costs at most 2016 such tests, of each span with each.
 #[unsafe(no_mangle)]
-pub extern "C" fn bitvec_c_can_run_u8(order: u8, spans: &[PlainSpan], words: usize) -> u8
+pub extern "C" fn bitvec_c_can_run_u8(order: u8, words: usize, spans: &[PlainSpan]) -> u8
     ensures { IsSpansTest 8 (spans_conditions 8 order spans.now words) spans.now words result }
 {
     test_spans::<u8>(order, spans, words)
@@ -24,7 +24,7 @@ pub extern "C" fn bitvec_c_can_run_u8(order: u8, spans: &[PlainSpan], words: usi
 
 /// As `bitvec_c_can_run_u8`, of words of 16 bits.
 #[unsafe(no_mangle)]
-pub extern "C" fn bitvec_c_can_run_u16(order: u8, spans: &[PlainSpan], words: usize) -> u8
+pub extern "C" fn bitvec_c_can_run_u16(order: u8, words: usize, spans: &[PlainSpan]) -> u8
     ensures { IsSpansTest 16 (spans_conditions 16 order spans.now words) spans.now words result }
 {
     test_spans::<u16>(order, spans, words)
@@ -32,7 +32,7 @@ pub extern "C" fn bitvec_c_can_run_u16(order: u8, spans: &[PlainSpan], words: us
 
 /// As `bitvec_c_can_run_u8`, of words of 32 bits.
 #[unsafe(no_mangle)]
-pub extern "C" fn bitvec_c_can_run_u32(order: u8, spans: &[PlainSpan], words: usize) -> u8
+pub extern "C" fn bitvec_c_can_run_u32(order: u8, words: usize, spans: &[PlainSpan]) -> u8
     ensures { IsSpansTest 32 (spans_conditions 32 order spans.now words) spans.now words result }
 {
     test_spans::<u32>(order, spans, words)
@@ -40,7 +40,7 @@ pub extern "C" fn bitvec_c_can_run_u32(order: u8, spans: &[PlainSpan], words: us
 
 /// As `bitvec_c_can_run_u8`, of words of 64 bits.
 #[unsafe(no_mangle)]
-pub extern "C" fn bitvec_c_can_run_u64(order: u8, spans: &[PlainSpan], words: usize) -> u8
+pub extern "C" fn bitvec_c_can_run_u64(order: u8, words: usize, spans: &[PlainSpan]) -> u8
     ensures { IsSpansTest 64 (spans_conditions 64 order spans.now words) spans.now words result }
 {
     test_spans::<u64>(order, spans, words)
@@ -56,8 +56,8 @@ pub extern "C" fn bitvec_c_can_run_u64(order: u8, spans: &[PlainSpan], words: us
 #[unsafe(no_mangle)]
 pub extern "C" fn bitvec_c_run_u8(
     order: u8,
-    spans: &[PlainSpan],
     memory: &mut [u8],
+    spans: &[PlainSpan],
     requests: &[PlainRequest],
     replies: &mut [PlainReply],
 ) -> u8
@@ -71,8 +71,8 @@ pub extern "C" fn bitvec_c_run_u8(
 #[unsafe(no_mangle)]
 pub extern "C" fn bitvec_c_run_u16(
     order: u8,
-    spans: &[PlainSpan],
     memory: &mut [u16],
+    spans: &[PlainSpan],
     requests: &[PlainRequest],
     replies: &mut [PlainReply],
 ) -> u8
@@ -86,8 +86,8 @@ pub extern "C" fn bitvec_c_run_u16(
 #[unsafe(no_mangle)]
 pub extern "C" fn bitvec_c_run_u32(
     order: u8,
-    spans: &[PlainSpan],
     memory: &mut [u32],
+    spans: &[PlainSpan],
     requests: &[PlainRequest],
     replies: &mut [PlainReply],
 ) -> u8
@@ -101,8 +101,8 @@ pub extern "C" fn bitvec_c_run_u32(
 #[unsafe(no_mangle)]
 pub extern "C" fn bitvec_c_run_u64(
     order: u8,
-    spans: &[PlainSpan],
     memory: &mut [u64],
+    spans: &[PlainSpan],
     requests: &[PlainRequest],
     replies: &mut [PlainReply],
 ) -> u8
@@ -121,8 +121,8 @@ pub extern "C" fn bitvec_c_run_u64(
 #[unsafe(no_mangle)]
 pub extern "C" fn bitvec_c_can_run_in_u8(
     order: u8,
-    spans: &[PlainSpan],
     words: usize,
+    spans: &[PlainSpan],
     room: &mut [usize],
 ) -> u8
     ensures tested { IsSpansTest 8 (roomy_conditions 8 order spans.now words (length room.old))
@@ -136,8 +136,8 @@ pub extern "C" fn bitvec_c_can_run_in_u8(
 #[unsafe(no_mangle)]
 pub extern "C" fn bitvec_c_can_run_in_u16(
     order: u8,
-    spans: &[PlainSpan],
     words: usize,
+    spans: &[PlainSpan],
     room: &mut [usize],
 ) -> u8
     ensures tested { IsSpansTest 16 (roomy_conditions 16 order spans.now words (length room.old))
@@ -151,8 +151,8 @@ pub extern "C" fn bitvec_c_can_run_in_u16(
 #[unsafe(no_mangle)]
 pub extern "C" fn bitvec_c_can_run_in_u32(
     order: u8,
-    spans: &[PlainSpan],
     words: usize,
+    spans: &[PlainSpan],
     room: &mut [usize],
 ) -> u8
     ensures tested { IsSpansTest 32 (roomy_conditions 32 order spans.now words (length room.old))
@@ -166,8 +166,8 @@ pub extern "C" fn bitvec_c_can_run_in_u32(
 #[unsafe(no_mangle)]
 pub extern "C" fn bitvec_c_can_run_in_u64(
     order: u8,
-    spans: &[PlainSpan],
     words: usize,
+    spans: &[PlainSpan],
     room: &mut [usize],
 ) -> u8
     ensures tested { IsSpansTest 64 (roomy_conditions 64 order spans.now words (length room.old))
@@ -186,8 +186,8 @@ pub extern "C" fn bitvec_c_can_run_in_u64(
 #[unsafe(no_mangle)]
 pub extern "C" fn bitvec_c_run_in_u8(
     order: u8,
-    spans: &[PlainSpan],
     memory: &mut [u8],
+    spans: &[PlainSpan],
     requests: &[PlainRequest],
     replies: &mut [PlainReply],
     room: &mut [usize],
@@ -203,8 +203,8 @@ pub extern "C" fn bitvec_c_run_in_u8(
 #[unsafe(no_mangle)]
 pub extern "C" fn bitvec_c_run_in_u16(
     order: u8,
-    spans: &[PlainSpan],
     memory: &mut [u16],
+    spans: &[PlainSpan],
     requests: &[PlainRequest],
     replies: &mut [PlainReply],
     room: &mut [usize],
@@ -220,8 +220,8 @@ pub extern "C" fn bitvec_c_run_in_u16(
 #[unsafe(no_mangle)]
 pub extern "C" fn bitvec_c_run_in_u32(
     order: u8,
-    spans: &[PlainSpan],
     memory: &mut [u32],
+    spans: &[PlainSpan],
     requests: &[PlainRequest],
     replies: &mut [PlainReply],
     room: &mut [usize],
@@ -237,8 +237,8 @@ pub extern "C" fn bitvec_c_run_in_u32(
 #[unsafe(no_mangle)]
 pub extern "C" fn bitvec_c_run_in_u64(
     order: u8,
-    spans: &[PlainSpan],
     memory: &mut [u64],
+    spans: &[PlainSpan],
     requests: &[PlainRequest],
     replies: &mut [PlainReply],
     room: &mut [usize],

@@ -15,12 +15,12 @@ use bitvec_call::question::{count_with, first_with};
 /// the orders are the same, else by bits.
 #[unsafe(no_mangle)]
 pub extern "C" fn bitvec_c_and_u8(
-    source_order: u8,
-    source: &[u8],
-    source_start: usize,
     order: u8,
     target: &mut [u8],
     target_start: usize,
+    source_order: u8,
+    source: &[u8],
+    source_start: usize,
     count: usize,
 ) -> u8
     ensures { let at = u8_at order target_start in IsCombination both (u8_at source_order
@@ -40,12 +40,12 @@ pub extern "C" fn bitvec_c_and_u8(
 /// As `bitvec_c_and_u8`, of words of 16 bits.
 #[unsafe(no_mangle)]
 pub extern "C" fn bitvec_c_and_u16(
-    source_order: u8,
-    source: &[u16],
-    source_start: usize,
     order: u8,
     target: &mut [u16],
     target_start: usize,
+    source_order: u8,
+    source: &[u16],
+    source_start: usize,
     count: usize,
 ) -> u8
     ensures { let at = u16_at order target_start in IsCombination both (u16_at source_order
@@ -65,12 +65,12 @@ pub extern "C" fn bitvec_c_and_u16(
 /// As `bitvec_c_and_u8`, of words of 32 bits.
 #[unsafe(no_mangle)]
 pub extern "C" fn bitvec_c_and_u32(
-    source_order: u8,
-    source: &[u32],
-    source_start: usize,
     order: u8,
     target: &mut [u32],
     target_start: usize,
+    source_order: u8,
+    source: &[u32],
+    source_start: usize,
     count: usize,
 ) -> u8
     ensures { let at = u32_at order target_start in IsCombination both (u32_at source_order
@@ -90,12 +90,12 @@ pub extern "C" fn bitvec_c_and_u32(
 /// As `bitvec_c_and_u8`, of words of 64 bits.
 #[unsafe(no_mangle)]
 pub extern "C" fn bitvec_c_and_u64(
-    source_order: u8,
-    source: &[u64],
-    source_start: usize,
     order: u8,
     target: &mut [u64],
     target_start: usize,
+    source_order: u8,
+    source: &[u64],
+    source_start: usize,
     count: usize,
 ) -> u8
     ensures { let at = u64_at order target_start in IsCombination both (u64_at source_order
@@ -118,12 +118,12 @@ pub extern "C" fn bitvec_c_and_u64(
 /// the orders are the same, else by bits.
 #[unsafe(no_mangle)]
 pub extern "C" fn bitvec_c_or_u8(
-    source_order: u8,
-    source: &[u8],
-    source_start: usize,
     order: u8,
     target: &mut [u8],
     target_start: usize,
+    source_order: u8,
+    source: &[u8],
+    source_start: usize,
     count: usize,
 ) -> u8
     ensures { let at = u8_at order target_start in IsCombination either (u8_at source_order
@@ -143,12 +143,12 @@ pub extern "C" fn bitvec_c_or_u8(
 /// As `bitvec_c_or_u8`, of words of 16 bits.
 #[unsafe(no_mangle)]
 pub extern "C" fn bitvec_c_or_u16(
-    source_order: u8,
-    source: &[u16],
-    source_start: usize,
     order: u8,
     target: &mut [u16],
     target_start: usize,
+    source_order: u8,
+    source: &[u16],
+    source_start: usize,
     count: usize,
 ) -> u8
     ensures { let at = u16_at order target_start in IsCombination either (u16_at source_order
@@ -168,12 +168,12 @@ pub extern "C" fn bitvec_c_or_u16(
 /// As `bitvec_c_or_u8`, of words of 32 bits.
 #[unsafe(no_mangle)]
 pub extern "C" fn bitvec_c_or_u32(
-    source_order: u8,
-    source: &[u32],
-    source_start: usize,
     order: u8,
     target: &mut [u32],
     target_start: usize,
+    source_order: u8,
+    source: &[u32],
+    source_start: usize,
     count: usize,
 ) -> u8
     ensures { let at = u32_at order target_start in IsCombination either (u32_at source_order
@@ -193,12 +193,12 @@ pub extern "C" fn bitvec_c_or_u32(
 /// As `bitvec_c_or_u8`, of words of 64 bits.
 #[unsafe(no_mangle)]
 pub extern "C" fn bitvec_c_or_u64(
-    source_order: u8,
-    source: &[u64],
-    source_start: usize,
     order: u8,
     target: &mut [u64],
     target_start: usize,
+    source_order: u8,
+    source: &[u64],
+    source_start: usize,
     count: usize,
 ) -> u8
     ensures { let at = u64_at order target_start in IsCombination either (u64_at source_order
@@ -221,12 +221,12 @@ pub extern "C" fn bitvec_c_or_u64(
 /// the orders are the same, else by bits.
 #[unsafe(no_mangle)]
 pub extern "C" fn bitvec_c_xor_u8(
-    source_order: u8,
-    source: &[u8],
-    source_start: usize,
     order: u8,
     target: &mut [u8],
     target_start: usize,
+    source_order: u8,
+    source: &[u8],
+    source_start: usize,
     count: usize,
 ) -> u8
     ensures { let at = u8_at order target_start in IsCombination differ (u8_at source_order
@@ -246,12 +246,12 @@ pub extern "C" fn bitvec_c_xor_u8(
 /// As `bitvec_c_xor_u8`, of words of 16 bits.
 #[unsafe(no_mangle)]
 pub extern "C" fn bitvec_c_xor_u16(
-    source_order: u8,
-    source: &[u16],
-    source_start: usize,
     order: u8,
     target: &mut [u16],
     target_start: usize,
+    source_order: u8,
+    source: &[u16],
+    source_start: usize,
     count: usize,
 ) -> u8
     ensures { let at = u16_at order target_start in IsCombination differ (u16_at source_order
@@ -271,12 +271,12 @@ pub extern "C" fn bitvec_c_xor_u16(
 /// As `bitvec_c_xor_u8`, of words of 32 bits.
 #[unsafe(no_mangle)]
 pub extern "C" fn bitvec_c_xor_u32(
-    source_order: u8,
-    source: &[u32],
-    source_start: usize,
     order: u8,
     target: &mut [u32],
     target_start: usize,
+    source_order: u8,
+    source: &[u32],
+    source_start: usize,
     count: usize,
 ) -> u8
     ensures { let at = u32_at order target_start in IsCombination differ (u32_at source_order
@@ -296,12 +296,12 @@ pub extern "C" fn bitvec_c_xor_u32(
 /// As `bitvec_c_xor_u8`, of words of 64 bits.
 #[unsafe(no_mangle)]
 pub extern "C" fn bitvec_c_xor_u64(
-    source_order: u8,
-    source: &[u64],
-    source_start: usize,
     order: u8,
     target: &mut [u64],
     target_start: usize,
+    source_order: u8,
+    source: &[u64],
+    source_start: usize,
     count: usize,
 ) -> u8
     ensures { let at = u64_at order target_start in IsCombination differ (u64_at source_order
@@ -324,12 +324,12 @@ pub extern "C" fn bitvec_c_xor_u64(
 /// the orders are the same, else by bits.
 #[unsafe(no_mangle)]
 pub extern "C" fn bitvec_c_and_not_u8(
-    source_order: u8,
-    source: &[u8],
-    source_start: usize,
     order: u8,
     target: &mut [u8],
     target_start: usize,
+    source_order: u8,
+    source: &[u8],
+    source_start: usize,
     count: usize,
 ) -> u8
     ensures { let at = u8_at order target_start in IsCombination but_not (u8_at source_order
@@ -349,12 +349,12 @@ pub extern "C" fn bitvec_c_and_not_u8(
 /// As `bitvec_c_and_not_u8`, of words of 16 bits.
 #[unsafe(no_mangle)]
 pub extern "C" fn bitvec_c_and_not_u16(
-    source_order: u8,
-    source: &[u16],
-    source_start: usize,
     order: u8,
     target: &mut [u16],
     target_start: usize,
+    source_order: u8,
+    source: &[u16],
+    source_start: usize,
     count: usize,
 ) -> u8
     ensures { let at = u16_at order target_start in IsCombination but_not (u16_at source_order
@@ -374,12 +374,12 @@ pub extern "C" fn bitvec_c_and_not_u16(
 /// As `bitvec_c_and_not_u8`, of words of 32 bits.
 #[unsafe(no_mangle)]
 pub extern "C" fn bitvec_c_and_not_u32(
-    source_order: u8,
-    source: &[u32],
-    source_start: usize,
     order: u8,
     target: &mut [u32],
     target_start: usize,
+    source_order: u8,
+    source: &[u32],
+    source_start: usize,
     count: usize,
 ) -> u8
     ensures { let at = u32_at order target_start in IsCombination but_not (u32_at source_order
@@ -399,12 +399,12 @@ pub extern "C" fn bitvec_c_and_not_u32(
 /// As `bitvec_c_and_not_u8`, of words of 64 bits.
 #[unsafe(no_mangle)]
 pub extern "C" fn bitvec_c_and_not_u64(
-    source_order: u8,
-    source: &[u64],
-    source_start: usize,
     order: u8,
     target: &mut [u64],
     target_start: usize,
+    source_order: u8,
+    source: &[u64],
+    source_start: usize,
     count: usize,
 ) -> u8
     ensures { let at = u64_at order target_start in IsCombination but_not (u64_at source_order
