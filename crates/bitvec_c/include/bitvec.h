@@ -1476,6 +1476,185 @@ BITVEC_CHECKED uint8_t bitvec_c_run_in_u64(
     size_t span_count, const struct bitvec_request *requests, size_t request_count,
     struct bitvec_reply *replies, size_t reply_count, size_t *room, size_t room_count);
 
+/* In C11, each of these calls with an array is there without a width, which is that of the array's
+ * words: bitvec_get(order, memory, words, place, bit). Those of two widths are bitvec_copy_to and
+ * bitvec_first_difference_with. With BITVEC_NO_FRONT none is. */
+#if !defined(__cplusplus) && defined(__STDC_VERSION__) && __STDC_VERSION__ >= 201112L &&           \
+    !defined(BITVEC_NO_FRONT)
+#define BITVEC_OF(memory, call)                                                                    \
+    _Generic(&(memory)[0],                                                                         \
+        uint8_t *: call##_u8, const uint8_t *: call##_u8,                                          \
+        uint16_t *: call##_u16, const uint16_t *: call##_u16,                                      \
+        uint32_t *: call##_u32, const uint32_t *: call##_u32,                                      \
+        uint64_t *: call##_u64, const uint64_t *: call##_u64)
+#define BITVEC_OF_TWO(first, second, before, between)                                              \
+    _Generic(&(first)[0],                                                                          \
+        uint8_t *: BITVEC_OF(second, before##_u8_##between),                                       \
+        const uint8_t *: BITVEC_OF(second, before##_u8_##between),                                 \
+        uint16_t *: BITVEC_OF(second, before##_u16_##between),                                     \
+        const uint16_t *: BITVEC_OF(second, before##_u16_##between),                               \
+        uint32_t *: BITVEC_OF(second, before##_u32_##between),                                     \
+        const uint32_t *: BITVEC_OF(second, before##_u32_##between),                               \
+        uint64_t *: BITVEC_OF(second, before##_u64_##between),                                     \
+        const uint64_t *: BITVEC_OF(second, before##_u64_##between))
+#define bitvec_get(order, memory, words, place, bit) \
+    BITVEC_OF(memory, bitvec_c_get)(order, memory, words, place, bit)
+#define bitvec_set(order, memory, words, place, bit) \
+    BITVEC_OF(memory, bitvec_c_set)(order, memory, words, place, bit)
+#define bitvec_replace(order, memory, words, place, bit, before) \
+    BITVEC_OF(memory, bitvec_c_replace)(order, memory, words, place, bit, before)
+#define bitvec_swap(order, memory, words, place, other_place) \
+    BITVEC_OF(memory, bitvec_c_swap)(order, memory, words, place, other_place)
+#define bitvec_fill(order, memory, words, start, count, bit) \
+    BITVEC_OF(memory, bitvec_c_fill)(order, memory, words, start, count, bit)
+#define bitvec_invert(order, memory, words, start, count) \
+    BITVEC_OF(memory, bitvec_c_invert)(order, memory, words, start, count)
+#define bitvec_reverse(order, memory, words, start, count) \
+    BITVEC_OF(memory, bitvec_c_reverse)(order, memory, words, start, count)
+#define bitvec_first_one(order, memory, words, start, count, index) \
+    BITVEC_OF(memory, bitvec_c_first_one)(order, memory, words, start, count, index)
+#define bitvec_first(order, memory, words, start, count, bit, index) \
+    BITVEC_OF(memory, bitvec_c_first)(order, memory, words, start, count, bit, index)
+#define bitvec_first_zero(order, memory, words, start, count, index) \
+    BITVEC_OF(memory, bitvec_c_first_zero)(order, memory, words, start, count, index)
+#define bitvec_last(order, memory, words, start, count, bit, index) \
+    BITVEC_OF(memory, bitvec_c_last)(order, memory, words, start, count, bit, index)
+#define bitvec_last_one(order, memory, words, start, count, index) \
+    BITVEC_OF(memory, bitvec_c_last_one)(order, memory, words, start, count, index)
+#define bitvec_last_zero(order, memory, words, start, count, index) \
+    BITVEC_OF(memory, bitvec_c_last_zero)(order, memory, words, start, count, index)
+#define bitvec_next(order, memory, words, start, count, from, bit, index) \
+    BITVEC_OF(memory, bitvec_c_next)(order, memory, words, start, count, from, bit, index)
+#define bitvec_next_one(order, memory, words, start, count, from, index) \
+    BITVEC_OF(memory, bitvec_c_next_one)(order, memory, words, start, count, from, index)
+#define bitvec_next_zero(order, memory, words, start, count, from, index) \
+    BITVEC_OF(memory, bitvec_c_next_zero)(order, memory, words, start, count, from, index)
+#define bitvec_previous(order, memory, words, start, count, before, bit, index) \
+    BITVEC_OF(memory, bitvec_c_previous)(order, memory, words, start, count, before, bit, index)
+#define bitvec_previous_one(order, memory, words, start, count, before, index) \
+    BITVEC_OF(memory, bitvec_c_previous_one)(order, memory, words, start, count, before, index)
+#define bitvec_previous_zero(order, memory, words, start, count, before, index) \
+    BITVEC_OF(memory, bitvec_c_previous_zero)(order, memory, words, start, count, before, index)
+#define bitvec_find_zeros(order, memory, words, start, count, zeros, index) \
+    BITVEC_OF(memory, bitvec_c_find_zeros)(order, memory, words, start, count, zeros, index)
+#define bitvec_find_zeros_from(order, memory, words, start, count, from, zeros, multiple_of, \
+    index) \
+    BITVEC_OF(memory, bitvec_c_find_zeros_from)(order, memory, words, start, count, from, zeros, \
+        multiple_of, index)
+#define bitvec_count_ones(order, memory, words, start, count, ones) \
+    BITVEC_OF(memory, bitvec_c_count_ones)(order, memory, words, start, count, ones)
+#define bitvec_count_zeros(order, memory, words, start, count, zeros) \
+    BITVEC_OF(memory, bitvec_c_count_zeros)(order, memory, words, start, count, zeros)
+#define bitvec_is_empty(order, memory, words, start, count, empty) \
+    BITVEC_OF(memory, bitvec_c_is_empty)(order, memory, words, start, count, empty)
+#define bitvec_is_full(order, memory, words, start, count, full) \
+    BITVEC_OF(memory, bitvec_c_is_full)(order, memory, words, start, count, full)
+#define bitvec_copy(order, target, target_words, target_start, source, source_words, source_start, \
+    count) \
+    BITVEC_OF(target, bitvec_c_copy)(order, target, target_words, target_start, source, \
+        source_words, source_start, count)
+#define bitvec_copy_within(order, memory, words, target_start, source_start, count) \
+    BITVEC_OF(memory, bitvec_c_copy_within)(order, memory, words, target_start, source_start, \
+        count)
+#define bitvec_copy_to(order, target, target_words, target_start, source_order, source, \
+    source_words, source_start, count) \
+    BITVEC_OF_TWO(source, target, bitvec_c_copy, to)(order, target, target_words, target_start, \
+        source_order, source, source_words, source_start, count)
+#define bitvec_shift_left(order, memory, words, start, count, by) \
+    BITVEC_OF(memory, bitvec_c_shift_left)(order, memory, words, start, count, by)
+#define bitvec_shift_right(order, memory, words, start, count, by) \
+    BITVEC_OF(memory, bitvec_c_shift_right)(order, memory, words, start, count, by)
+#define bitvec_rotate_left(order, memory, words, start, count, by) \
+    BITVEC_OF(memory, bitvec_c_rotate_left)(order, memory, words, start, count, by)
+#define bitvec_and(order, target, target_words, target_start, source_order, source, source_words, \
+    source_start, count) \
+    BITVEC_OF(target, bitvec_c_and)(order, target, target_words, target_start, source_order, \
+        source, source_words, source_start, count)
+#define bitvec_or(order, target, target_words, target_start, source_order, source, source_words, \
+    source_start, count) \
+    BITVEC_OF(target, bitvec_c_or)(order, target, target_words, target_start, source_order, \
+        source, source_words, source_start, count)
+#define bitvec_xor(order, target, target_words, target_start, source_order, source, source_words, \
+    source_start, count) \
+    BITVEC_OF(target, bitvec_c_xor)(order, target, target_words, target_start, source_order, \
+        source, source_words, source_start, count)
+#define bitvec_and_not(order, target, target_words, target_start, source_order, source, \
+    source_words, source_start, count) \
+    BITVEC_OF(target, bitvec_c_and_not)(order, target, target_words, target_start, source_order, \
+        source, source_words, source_start, count)
+#define bitvec_equal(order, memory, words, start, other, other_words, other_start, count, same) \
+    BITVEC_OF(memory, bitvec_c_equal)(order, memory, words, start, other, other_words, \
+        other_start, count, same)
+#define bitvec_count_and(order, memory, words, start, other_order, other, other_words, \
+    other_start, count, ones) \
+    BITVEC_OF(memory, bitvec_c_count_and)(order, memory, words, start, other_order, other, \
+        other_words, other_start, count, ones)
+#define bitvec_first_and(order, memory, words, start, other_order, other, other_words, \
+    other_start, count, index) \
+    BITVEC_OF(memory, bitvec_c_first_and)(order, memory, words, start, other_order, other, \
+        other_words, other_start, count, index)
+#define bitvec_intersects(order, memory, words, start, other_order, other, other_words, \
+    other_start, count, common) \
+    BITVEC_OF(memory, bitvec_c_intersects)(order, memory, words, start, other_order, other, \
+        other_words, other_start, count, common)
+#define bitvec_first_and_not(order, memory, words, start, other_order, other, other_words, \
+    other_start, count, index) \
+    BITVEC_OF(memory, bitvec_c_first_and_not)(order, memory, words, start, other_order, other, \
+        other_words, other_start, count, index)
+#define bitvec_is_subset(order, memory, words, start, other_order, other, other_words, \
+    other_start, count, subset) \
+    BITVEC_OF(memory, bitvec_c_is_subset)(order, memory, words, start, other_order, other, \
+        other_words, other_start, count, subset)
+#define bitvec_first_difference(order, memory, words, start, other_order, other, other_words, \
+    other_start, count, index) \
+    BITVEC_OF(memory, bitvec_c_first_difference)(order, memory, words, start, other_order, other, \
+        other_words, other_start, count, index)
+#define bitvec_first_difference_with(order, memory, words, start, other_order, other, other_words, \
+    other_start, count, index) \
+    BITVEC_OF_TWO(memory, other, bitvec_c_first_difference, with)(order, memory, words, start, \
+        other_order, other, other_words, other_start, count, index)
+#define bitvec_load(order, big_endian, memory, words, start, count, number) \
+    BITVEC_OF(memory, bitvec_c_load)(order, big_endian, memory, words, start, count, number)
+#define bitvec_store(order, big_endian, memory, words, start, count, number) \
+    BITVEC_OF(memory, bitvec_c_store)(order, big_endian, memory, words, start, count, number)
+#define bitvec_load_signed(order, big_endian, memory, words, start, count, number) \
+    BITVEC_OF(memory, bitvec_c_load_signed)(order, big_endian, memory, words, start, count, \
+        number)
+#define bitvec_store_signed(order, big_endian, memory, words, start, count, number) \
+    BITVEC_OF(memory, bitvec_c_store_signed)(order, big_endian, memory, words, start, count, \
+        number)
+#define bitvec_read(order, big_endian, memory, words, place, end, count, number) \
+    BITVEC_OF(memory, bitvec_c_read)(order, big_endian, memory, words, place, end, count, number)
+#define bitvec_read_signed(order, big_endian, memory, words, place, end, count, number) \
+    BITVEC_OF(memory, bitvec_c_read_signed)(order, big_endian, memory, words, place, end, count, \
+        number)
+#define bitvec_read_unary(order, memory, words, place, end, bit, count) \
+    BITVEC_OF(memory, bitvec_c_read_unary)(order, memory, words, place, end, bit, count)
+#define bitvec_read_exp_golomb(order, memory, words, place, end, number) \
+    BITVEC_OF(memory, bitvec_c_read_exp_golomb)(order, memory, words, place, end, number)
+#define bitvec_read_signed_exp_golomb(order, memory, words, place, end, number) \
+    BITVEC_OF(memory, bitvec_c_read_signed_exp_golomb)(order, memory, words, place, end, number)
+#define bitvec_write(order, big_endian, memory, words, place, end, count, number) \
+    BITVEC_OF(memory, bitvec_c_write)(order, big_endian, memory, words, place, end, count, number)
+#define bitvec_write_signed(order, big_endian, memory, words, place, end, count, number) \
+    BITVEC_OF(memory, bitvec_c_write_signed)(order, big_endian, memory, words, place, end, count, \
+        number)
+#define bitvec_write_unary(order, memory, words, place, end, bit, count) \
+    BITVEC_OF(memory, bitvec_c_write_unary)(order, memory, words, place, end, bit, count)
+#define bitvec_write_exp_golomb(order, memory, words, place, end, number) \
+    BITVEC_OF(memory, bitvec_c_write_exp_golomb)(order, memory, words, place, end, number)
+#define bitvec_write_signed_exp_golomb(order, memory, words, place, end, number) \
+    BITVEC_OF(memory, bitvec_c_write_signed_exp_golomb)(order, memory, words, place, end, number)
+#define bitvec_run(order, memory, words, spans, span_count, requests, request_count, replies, \
+    reply_count) \
+    BITVEC_OF(memory, bitvec_c_run)(order, memory, words, spans, span_count, requests, \
+        request_count, replies, reply_count)
+#define bitvec_run_in(order, memory, words, spans, span_count, requests, request_count, replies, \
+    reply_count, room, room_count) \
+    BITVEC_OF(memory, bitvec_c_run_in)(order, memory, words, spans, span_count, requests, \
+        request_count, replies, reply_count, room, room_count)
+#endif
+
 #undef BITVEC_ENUM
 #undef BITVEC_NONNULL
 #undef BITVEC_CHECKED
