@@ -460,8 +460,8 @@ BITVEC_CHECKED BITVEC_NONNULL(7) static inline uint8_t bitvec_c_next_one_u64(
 }
 
 /* Writes to `index` the index of the first bit, of those from index `from` on, that is zero.
- * Refuses with BITVEC_NO_ORDER, BITVEC_TOO_LONG or BITVEC_OUTSIDE. Costs by words, up to that bit.
- * */
+ * Refuses with BITVEC_NO_ORDER, BITVEC_TOO_LONG or BITVEC_OUTSIDE. Costs by words, up to that
+ * bit. */
 BITVEC_CHECKED BITVEC_NONNULL(7) static inline uint8_t bitvec_c_next_zero_u8(
     uint8_t order, const uint8_t *memory, size_t words, size_t start, size_t count, size_t from,
     size_t *index) {
@@ -795,8 +795,8 @@ BITVEC_CHECKED uint8_t bitvec_c_copy_u64_to_u64(
     const uint64_t *source, size_t source_words, size_t source_start, size_t count);
 
 /* Moves each of the `count` bits from `start` on `by` places towards the first, so that the first
- * `by` are lost, and makes the last `by` zero. BITVEC_OUTSIDE: also where `by` is past `count`.
- * Refuses with BITVEC_NO_ORDER, BITVEC_TOO_LONG or BITVEC_OUTSIDE. Costs by words. */
+ * `by` are lost, and makes the last `by` zero. Refuses with BITVEC_NO_ORDER, BITVEC_TOO_LONG or
+ * BITVEC_OUTSIDE (also where `by` is past `count`). Costs by words. */
 BITVEC_CHECKED uint8_t bitvec_c_shift_left_u8(
     uint8_t order, uint8_t *memory, size_t words, size_t start, size_t count, size_t by);
 BITVEC_CHECKED uint8_t bitvec_c_shift_left_u16(
@@ -807,8 +807,8 @@ BITVEC_CHECKED uint8_t bitvec_c_shift_left_u64(
     uint8_t order, uint64_t *memory, size_t words, size_t start, size_t count, size_t by);
 
 /* Moves each of the `count` bits from `start` on `by` places towards the last, so that the last
- * `by` are lost, and makes the first `by` zero. BITVEC_OUTSIDE: also where `by` is past `count`.
- * Refuses with BITVEC_NO_ORDER, BITVEC_TOO_LONG or BITVEC_OUTSIDE. Costs by words. */
+ * `by` are lost, and makes the first `by` zero. Refuses with BITVEC_NO_ORDER, BITVEC_TOO_LONG or
+ * BITVEC_OUTSIDE (also where `by` is past `count`). Costs by words. */
 BITVEC_CHECKED uint8_t bitvec_c_shift_right_u8(
     uint8_t order, uint8_t *memory, size_t words, size_t start, size_t count, size_t by);
 BITVEC_CHECKED uint8_t bitvec_c_shift_right_u16(
@@ -818,9 +818,9 @@ BITVEC_CHECKED uint8_t bitvec_c_shift_right_u32(
 BITVEC_CHECKED uint8_t bitvec_c_shift_right_u64(
     uint8_t order, uint64_t *memory, size_t words, size_t start, size_t count, size_t by);
 
-/* Puts the first `by` of the `count` bits from `start` on behind the others. BITVEC_OUTSIDE: also
- * where `by` is past `count`. Refuses with BITVEC_NO_ORDER, BITVEC_TOO_LONG or BITVEC_OUTSIDE.
- * Costs by words. */
+/* Puts the first `by` of the `count` bits from `start` on behind the others. Refuses with
+ * BITVEC_NO_ORDER, BITVEC_TOO_LONG or BITVEC_OUTSIDE (also where `by` is past `count`). Costs by
+ * words. */
 BITVEC_CHECKED uint8_t bitvec_c_rotate_left_u8(
     uint8_t order, uint8_t *memory, size_t words, size_t start, size_t count, size_t by);
 BITVEC_CHECKED uint8_t bitvec_c_rotate_left_u16(
@@ -999,9 +999,9 @@ BITVEC_CHECKED BITVEC_NONNULL(10) static inline uint8_t bitvec_c_intersects_u64(
     return status;
 }
 
-/* The same of the first bit that is one and whose bit in the other range is zero. Refuses with
- * BITVEC_NO_ORDER, BITVEC_TOO_LONG or BITVEC_OUTSIDE. Costs by words where the orders are the same,
- * else by bits, up to that bit. */
+/* Writes to `index` the index of the first bit of a range that is one and whose bit in the other
+ * range is zero, or `count` where there is none. Refuses with BITVEC_NO_ORDER, BITVEC_TOO_LONG or
+ * BITVEC_OUTSIDE. Costs by words where the orders are the same, else by bits, up to that bit. */
 BITVEC_CHECKED uint8_t bitvec_c_first_and_not_u8(
     uint8_t order, const uint8_t *memory, size_t words, size_t start, uint8_t other_order,
     const uint8_t *other, size_t other_words, size_t other_start, size_t count, size_t *index)
@@ -1063,10 +1063,10 @@ BITVEC_CHECKED BITVEC_NONNULL(10) static inline uint8_t bitvec_c_is_subset_u64(
     return status;
 }
 
-/* The same of the first bit that is not the same in the other range. The two ranges are equal where
- * it is `count`, and else the bit at that index tells which one is less. Refuses with
- * BITVEC_NO_ORDER, BITVEC_TOO_LONG or BITVEC_OUTSIDE. Costs by words where the orders are the same,
- * else by bits, up to that bit. */
+/* Writes to `index` the index of the first bit of a range that is not the same in the other range,
+ * or `count` where there is none. The bit at that index tells which of the two is less. Refuses
+ * with BITVEC_NO_ORDER, BITVEC_TOO_LONG or BITVEC_OUTSIDE. Costs by words where the orders are the
+ * same, else by bits, up to that bit. */
 BITVEC_CHECKED uint8_t bitvec_c_first_difference_u8(
     uint8_t order, const uint8_t *memory, size_t words, size_t start, uint8_t other_order,
     const uint8_t *other, size_t other_words, size_t other_start, size_t count, size_t *index)
@@ -1084,9 +1084,9 @@ BITVEC_CHECKED uint8_t bitvec_c_first_difference_u64(
     const uint64_t *other, size_t other_words, size_t other_start, size_t count, size_t *index)
     BITVEC_NONNULL(10);
 
-/* The same where the words of the two memories may have other widths. Refuses with BITVEC_NO_ORDER,
- * BITVEC_TOO_LONG or BITVEC_OUTSIDE. Costs by words where the orders are the same, else by bits, up
- * to that bit. */
+/* The same as bitvec_c_first_difference_W, where the words of the two memories may have other
+ * widths. Refuses with BITVEC_NO_ORDER, BITVEC_TOO_LONG or BITVEC_OUTSIDE. Costs by words where the
+ * orders are the same, else by bits, up to that bit. */
 BITVEC_CHECKED uint8_t bitvec_c_first_difference_u8_with_u8(
     uint8_t order, const uint8_t *memory, size_t words, size_t start, uint8_t other_order,
     const uint8_t *other, size_t other_words, size_t other_start, size_t count, size_t *index)
@@ -1231,9 +1231,9 @@ BITVEC_CHECKED uint8_t bitvec_c_store_signed_u64(
  * bits, or to go back, a caller sets `*place` itself. */
 
 /* Writes to `number` the number of the next `count` bits: the first is its lowest digit or, where
- * `big_endian`, the highest, whatever the order and the width are. For no bits it is 0.
- * BITVEC_TOO_WIDE: `count` is past 64. Refuses with BITVEC_NO_ORDER, BITVEC_TOO_LONG,
- * BITVEC_OUTSIDE, BITVEC_TOO_WIDE or BITVEC_TOO_FEW. Costs by words. */
+ * `big_endian`, the highest, whatever the order and the width are. For no bits it is 0. Refuses
+ * with BITVEC_NO_ORDER, BITVEC_TOO_LONG, BITVEC_OUTSIDE, BITVEC_TOO_WIDE (`count` is past 64) or
+ * BITVEC_TOO_FEW. Costs by words. */
 BITVEC_CHECKED uint8_t bitvec_c_read_u8(
     uint8_t order, bool big_endian, const uint8_t *memory, size_t words, size_t *place, size_t end,
     size_t count, uint64_t *number) BITVEC_NONNULL(5) BITVEC_NONNULL(8);
@@ -1248,8 +1248,8 @@ BITVEC_CHECKED uint8_t bitvec_c_read_u64(
     size_t count, uint64_t *number) BITVEC_NONNULL(5) BITVEC_NONNULL(8);
 
 /* Writes to `number` the signed number whose two's complement of `count` digits that is. For no
- * bits it is 0. BITVEC_TOO_WIDE: as above. Refuses with BITVEC_NO_ORDER, BITVEC_TOO_LONG,
- * BITVEC_OUTSIDE, BITVEC_TOO_WIDE or BITVEC_TOO_FEW. Costs by words. */
+ * bits it is 0. Refuses with BITVEC_NO_ORDER, BITVEC_TOO_LONG, BITVEC_OUTSIDE, BITVEC_TOO_WIDE
+ * (`count` is past 64) or BITVEC_TOO_FEW. Costs by words. */
 BITVEC_CHECKED uint8_t bitvec_c_read_signed_u8(
     uint8_t order, bool big_endian, const uint8_t *memory, size_t words, size_t *place, size_t end,
     size_t count, int64_t *number) BITVEC_NONNULL(5) BITVEC_NONNULL(8);
@@ -1264,9 +1264,8 @@ BITVEC_CHECKED uint8_t bitvec_c_read_signed_u64(
     size_t count, int64_t *number) BITVEC_NONNULL(5) BITVEC_NONNULL(8);
 
 /* Writes to `count` how many bits are the same as `bit` before the first that is not, which is
- * taken too. BITVEC_TOO_FEW: all bits that are left are the same as `bit`, also where none is left.
- * Refuses with BITVEC_NO_ORDER, BITVEC_TOO_LONG, BITVEC_OUTSIDE or BITVEC_TOO_FEW. Costs by words.
- * */
+ * taken too. Refuses with BITVEC_NO_ORDER, BITVEC_TOO_LONG, BITVEC_OUTSIDE or BITVEC_TOO_FEW (all
+ * bits that are left are the same as `bit`, also where none is left). Costs by words. */
 BITVEC_CHECKED uint8_t bitvec_c_read_unary_u8(
     uint8_t order, const uint8_t *memory, size_t words, size_t *place, size_t end, bool bit,
     size_t *count) BITVEC_NONNULL(4) BITVEC_NONNULL(7);
@@ -1282,9 +1281,9 @@ BITVEC_CHECKED uint8_t bitvec_c_read_unary_u64(
 
 /* Writes to `number` the number of an Exp-Golomb code, ue(v) of ITU-T H.264 and H.265: as many
  * zeros as the number and one have binary digits, less one, and then these digits, the highest
- * first. So 1 is 0, 010 is 1, 011 is 2 and 00100 is 3. BITVEC_TOO_FEW: the bits end before a code
- * does. BITVEC_TOO_LARGE: the number has more than 64 digits. Refuses with BITVEC_NO_ORDER,
- * BITVEC_TOO_LONG, BITVEC_OUTSIDE, BITVEC_TOO_FEW or BITVEC_TOO_LARGE. Costs by words. */
+ * first. So 1 is 0, 010 is 1, 011 is 2 and 00100 is 3. Refuses with BITVEC_NO_ORDER,
+ * BITVEC_TOO_LONG, BITVEC_OUTSIDE, BITVEC_TOO_FEW (the bits end before a code does) or
+ * BITVEC_TOO_LARGE (the number has more than 64 digits). Costs by words. */
 BITVEC_CHECKED uint8_t bitvec_c_read_exp_golomb_u8(
     uint8_t order, const uint8_t *memory, size_t words, size_t *place, size_t end, uint64_t *number)
     BITVEC_NONNULL(4) BITVEC_NONNULL(6);
@@ -1299,9 +1298,9 @@ BITVEC_CHECKED uint8_t bitvec_c_read_exp_golomb_u64(
     uint64_t *number) BITVEC_NONNULL(4) BITVEC_NONNULL(6);
 
 /* Writes to `number` the signed number of one, se(v) there: the codes of 0, 1, 2, 3, 4 and so on
- * are those of 0, 1, -1, 2, -2 and so on. BITVEC_TOO_FEW and BITVEC_TOO_LARGE: as above, where an
- * int64_t has not the number. Refuses with BITVEC_NO_ORDER, BITVEC_TOO_LONG, BITVEC_OUTSIDE,
- * BITVEC_TOO_FEW or BITVEC_TOO_LARGE. Costs by words. */
+ * are those of 0, 1, -1, 2, -2 and so on. Refuses with BITVEC_NO_ORDER, BITVEC_TOO_LONG,
+ * BITVEC_OUTSIDE, BITVEC_TOO_FEW (the bits end before a code does) or BITVEC_TOO_LARGE (an int64_t
+ * has not the number). Costs by words. */
 BITVEC_CHECKED uint8_t bitvec_c_read_signed_exp_golomb_u8(
     uint8_t order, const uint8_t *memory, size_t words, size_t *place, size_t end, int64_t *number)
     BITVEC_NONNULL(4) BITVEC_NONNULL(6);
@@ -1316,10 +1315,10 @@ BITVEC_CHECKED uint8_t bitvec_c_read_signed_exp_golomb_u64(
     BITVEC_NONNULL(4) BITVEC_NONNULL(6);
 
 /* Makes the next `count` bits the digits of a number: the first becomes its lowest digit or, where
- * `big_endian`, the highest, whatever the order and the width are. BITVEC_TOO_WIDE: `count` is past
- * 64. BITVEC_TOO_LARGE: the number is not below 2^count, where bitvec_c_store_W drops its highest
- * digits. Refuses with BITVEC_NO_ORDER, BITVEC_TOO_LONG, BITVEC_OUTSIDE, BITVEC_TOO_WIDE,
- * BITVEC_TOO_FEW or BITVEC_TOO_LARGE. Costs by words. */
+ * `big_endian`, the highest, whatever the order and the width are. Refuses with BITVEC_NO_ORDER,
+ * BITVEC_TOO_LONG, BITVEC_OUTSIDE, BITVEC_TOO_WIDE (`count` is past 64), BITVEC_TOO_FEW or
+ * BITVEC_TOO_LARGE (the number is not below 2^count, where bitvec_c_store_W drops its highest
+ * digits). Costs by words. */
 BITVEC_CHECKED uint8_t bitvec_c_write_u8(
     uint8_t order, bool big_endian, uint8_t *memory, size_t words, size_t *place, size_t end,
     size_t count, uint64_t number) BITVEC_NONNULL(5);
@@ -1333,10 +1332,10 @@ BITVEC_CHECKED uint8_t bitvec_c_write_u64(
     uint8_t order, bool big_endian, uint64_t *memory, size_t words, size_t *place, size_t end,
     size_t count, uint64_t number) BITVEC_NONNULL(5);
 
-/* Makes them the digits of a signed number's two's complement. BITVEC_TOO_WIDE: as above.
- * BITVEC_TOO_LARGE: the number is below -2^(count - 1) or not below 2^(count - 1), or for no bits
- * not 0. Refuses with BITVEC_NO_ORDER, BITVEC_TOO_LONG, BITVEC_OUTSIDE, BITVEC_TOO_WIDE,
- * BITVEC_TOO_FEW or BITVEC_TOO_LARGE. Costs by words. */
+/* Makes them the digits of a signed number's two's complement. Refuses with BITVEC_NO_ORDER,
+ * BITVEC_TOO_LONG, BITVEC_OUTSIDE, BITVEC_TOO_WIDE (`count` is past 64), BITVEC_TOO_FEW or
+ * BITVEC_TOO_LARGE (the number is below -2^(count - 1) or not below 2^(count - 1), or for no bits
+ * not 0). Costs by words. */
 BITVEC_CHECKED uint8_t bitvec_c_write_signed_u8(
     uint8_t order, bool big_endian, uint8_t *memory, size_t words, size_t *place, size_t end,
     size_t count, int64_t number) BITVEC_NONNULL(5);
@@ -1350,9 +1349,9 @@ BITVEC_CHECKED uint8_t bitvec_c_write_signed_u64(
     uint8_t order, bool big_endian, uint64_t *memory, size_t words, size_t *place, size_t end,
     size_t count, int64_t number) BITVEC_NONNULL(5);
 
-/* Makes the next `count` bits the same as `bit`, and the one behind them the other. BITVEC_TOO_FEW:
- * no more than `count` bits are left. Refuses with BITVEC_NO_ORDER, BITVEC_TOO_LONG, BITVEC_OUTSIDE
- * or BITVEC_TOO_FEW. Costs by words. */
+/* Makes the next `count` bits the same as `bit`, and the one behind them the other. Refuses with
+ * BITVEC_NO_ORDER, BITVEC_TOO_LONG, BITVEC_OUTSIDE or BITVEC_TOO_FEW (no more than `count` bits are
+ * left). Costs by words. */
 BITVEC_CHECKED uint8_t bitvec_c_write_unary_u8(
     uint8_t order, uint8_t *memory, size_t words, size_t *place, size_t end, bool bit, size_t count)
     BITVEC_NONNULL(4);
@@ -1367,8 +1366,8 @@ BITVEC_CHECKED uint8_t bitvec_c_write_unary_u64(
     size_t count) BITVEC_NONNULL(4);
 
 /* Writes the Exp-Golomb code of a number, as above: each number has one, of at most 129 bits.
- * Refuses with BITVEC_NO_ORDER, BITVEC_TOO_LONG, BITVEC_OUTSIDE or BITVEC_TOO_FEW. Costs by words.
- * */
+ * Refuses with BITVEC_NO_ORDER, BITVEC_TOO_LONG, BITVEC_OUTSIDE or BITVEC_TOO_FEW. Costs by
+ * words. */
 BITVEC_CHECKED uint8_t bitvec_c_write_exp_golomb_u8(
     uint8_t order, uint8_t *memory, size_t words, size_t *place, size_t end, uint64_t number)
     BITVEC_NONNULL(4);

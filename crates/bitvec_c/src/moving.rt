@@ -541,9 +541,10 @@ pub extern "C" fn bitvec_c_copy_u64_to_u64(
 }
 
 /// Moves each of the `count` bits from `start` on `by` places towards the first, so that the first
-/// `by` are lost, and makes the last `by` zero. `OUTSIDE`: also where `by` is past `count`.
+/// `by` are lost, and makes the last `by` zero.
 ///
-/// In words of 8 bits. It refuses with `NO_ORDER`, `TOO_LONG` or `OUTSIDE`. It costs by words.
+/// In words of 8 bits. It refuses with `NO_ORDER`, `TOO_LONG` or `OUTSIDE` (also where `by` is past
+/// `count`). It costs by words.
 #[unsafe(no_mangle)]
 pub extern "C" fn bitvec_c_shift_left_u8(
     order: u8,
@@ -604,9 +605,10 @@ pub extern "C" fn bitvec_c_shift_left_u64(
 }
 
 /// Moves each of the `count` bits from `start` on `by` places towards the last, so that the last
-/// `by` are lost, and makes the first `by` zero. `OUTSIDE`: also where `by` is past `count`.
+/// `by` are lost, and makes the first `by` zero.
 ///
-/// In words of 8 bits. It refuses with `NO_ORDER`, `TOO_LONG` or `OUTSIDE`. It costs by words.
+/// In words of 8 bits. It refuses with `NO_ORDER`, `TOO_LONG` or `OUTSIDE` (also where `by` is past
+/// `count`). It costs by words.
 #[unsafe(no_mangle)]
 pub extern "C" fn bitvec_c_shift_right_u8(
     order: u8,
@@ -666,10 +668,10 @@ pub extern "C" fn bitvec_c_shift_right_u64(
     try_edit(order, memory, start, count, Edit::ShiftRight(by))
 }
 
-/// Puts the first `by` of the `count` bits from `start` on behind the others. `OUTSIDE`: also where
-/// `by` is past `count`.
+/// Puts the first `by` of the `count` bits from `start` on behind the others.
 ///
-/// In words of 8 bits. It refuses with `NO_ORDER`, `TOO_LONG` or `OUTSIDE`. It costs by words.
+/// In words of 8 bits. It refuses with `NO_ORDER`, `TOO_LONG` or `OUTSIDE` (also where `by` is past
+/// `count`). It costs by words.
 #[unsafe(no_mangle)]
 pub extern "C" fn bitvec_c_rotate_left_u8(
     order: u8,

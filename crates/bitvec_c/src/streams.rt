@@ -12,10 +12,9 @@ use bitvec_call::write_code::{write_exp_golomb, write_signed_exp_golomb, write_u
 
 /// Writes to `number` the number of the next `count` bits: the first is its lowest digit or, where
 /// `big_endian`, the highest, whatever the order and the width are. For no bits it is 0.
-/// `TOO_WIDE`: `count` is past 64.
 ///
-/// In words of 8 bits. It refuses with `NO_ORDER`, `TOO_LONG`, `OUTSIDE`, `TOO_WIDE` or `TOO_FEW`.
-/// It costs by words.
+/// In words of 8 bits. It refuses with `NO_ORDER`, `TOO_LONG`, `OUTSIDE`, `TOO_WIDE` (`count` is
+/// past 64) or `TOO_FEW`. It costs by words.
 #[unsafe(no_mangle)]
 pub extern "C" fn bitvec_c_read_u8(
     order: u8,
@@ -84,10 +83,10 @@ pub extern "C" fn bitvec_c_read_u64(
 }
 
 /// Writes to `number` the signed number whose two's complement of `count` digits that is. For no
-/// bits it is 0. `TOO_WIDE`: as above.
+/// bits it is 0.
 ///
-/// In words of 8 bits. It refuses with `NO_ORDER`, `TOO_LONG`, `OUTSIDE`, `TOO_WIDE` or `TOO_FEW`.
-/// It costs by words.
+/// In words of 8 bits. It refuses with `NO_ORDER`, `TOO_LONG`, `OUTSIDE`, `TOO_WIDE` (`count` is
+/// past 64) or `TOO_FEW`. It costs by words.
 #[unsafe(no_mangle)]
 pub extern "C" fn bitvec_c_read_signed_u8(
     order: u8,
@@ -156,10 +155,10 @@ pub extern "C" fn bitvec_c_read_signed_u64(
 }
 
 /// Writes to `count` how many bits are the same as `bit` before the first that is not, which is
-/// taken too. `TOO_FEW`: all bits that are left are the same as `bit`, also where none is left.
+/// taken too.
 ///
-/// In words of 8 bits. It refuses with `NO_ORDER`, `TOO_LONG`, `OUTSIDE` or `TOO_FEW`. It costs by
-/// words.
+/// In words of 8 bits. It refuses with `NO_ORDER`, `TOO_LONG`, `OUTSIDE` or `TOO_FEW` (all bits
+/// that are left are the same as `bit`, also where none is left). It costs by words.
 #[unsafe(no_mangle)]
 pub extern "C" fn bitvec_c_read_unary_u8(
     order: u8,
@@ -225,11 +224,10 @@ pub extern "C" fn bitvec_c_read_unary_u64(
 
 /// Writes to `number` the number of an Exp-Golomb code, ue(v) of ITU-T H.264 and H.265: as many
 /// zeros as the number and one have binary digits, less one, and then these digits, the highest
-/// first. So 1 is 0, 010 is 1, 011 is 2 and 00100 is 3. `TOO_FEW`: the bits end before a code does.
-/// `TOO_LARGE`: the number has more than 64 digits.
+/// first. So 1 is 0, 010 is 1, 011 is 2 and 00100 is 3.
 ///
-/// In words of 8 bits. It refuses with `NO_ORDER`, `TOO_LONG`, `OUTSIDE`, `TOO_FEW` or `TOO_LARGE`.
-/// It costs by words.
+/// In words of 8 bits. It refuses with `NO_ORDER`, `TOO_LONG`, `OUTSIDE`, `TOO_FEW` (the bits end
+/// before a code does) or `TOO_LARGE` (the number has more than 64 digits). It costs by words.
 #[unsafe(no_mangle)]
 pub extern "C" fn bitvec_c_read_exp_golomb_u8(
     order: u8,
@@ -290,11 +288,10 @@ pub extern "C" fn bitvec_c_read_exp_golomb_u64(
 }
 
 /// Writes to `number` the signed number of one, se(v) there: the codes of 0, 1, 2, 3, 4 and so on
-/// are those of 0, 1, -1, 2, -2 and so on. `TOO_FEW` and `TOO_LARGE`: as above, where an int64_t
-/// has not the number.
+/// are those of 0, 1, -1, 2, -2 and so on.
 ///
-/// In words of 8 bits. It refuses with `NO_ORDER`, `TOO_LONG`, `OUTSIDE`, `TOO_FEW` or `TOO_LARGE`.
-/// It costs by words.
+/// In words of 8 bits. It refuses with `NO_ORDER`, `TOO_LONG`, `OUTSIDE`, `TOO_FEW` (the bits end
+/// before a code does) or `TOO_LARGE` (an int64_t has not the number). It costs by words.
 #[unsafe(no_mangle)]
 pub extern "C" fn bitvec_c_read_signed_exp_golomb_u8(
     order: u8,
@@ -355,11 +352,11 @@ pub extern "C" fn bitvec_c_read_signed_exp_golomb_u64(
 }
 
 /// Makes the next `count` bits the digits of a number: the first becomes its lowest digit or, where
-/// `big_endian`, the highest, whatever the order and the width are. `TOO_WIDE`: `count` is past 64.
-/// `TOO_LARGE`: the number is not below 2^count, where bitvec_c_store_W drops its highest digits.
+/// `big_endian`, the highest, whatever the order and the width are.
 ///
-/// In words of 8 bits. It refuses with `NO_ORDER`, `TOO_LONG`, `OUTSIDE`, `TOO_WIDE`, `TOO_FEW` or
-/// `TOO_LARGE`. It costs by words.
+/// In words of 8 bits. It refuses with `NO_ORDER`, `TOO_LONG`, `OUTSIDE`, `TOO_WIDE` (`count` is
+/// past 64), `TOO_FEW` or `TOO_LARGE` (the number is not below 2^count, where bitvec_c_store_W
+/// drops its highest digits). It costs by words.
 #[unsafe(no_mangle)]
 pub extern "C" fn bitvec_c_write_u8(
     order: u8,
@@ -427,11 +424,11 @@ pub extern "C" fn bitvec_c_write_u64(
     write(order, big_endian, memory, place, end, count, number)
 }
 
-/// Makes them the digits of a signed number's two's complement. `TOO_WIDE`: as above. `TOO_LARGE`:
-/// the number is below -2^(count - 1) or not below 2^(count - 1), or for no bits not 0.
+/// Makes them the digits of a signed number's two's complement.
 ///
-/// In words of 8 bits. It refuses with `NO_ORDER`, `TOO_LONG`, `OUTSIDE`, `TOO_WIDE`, `TOO_FEW` or
-/// `TOO_LARGE`. It costs by words.
+/// In words of 8 bits. It refuses with `NO_ORDER`, `TOO_LONG`, `OUTSIDE`, `TOO_WIDE` (`count` is
+/// past 64), `TOO_FEW` or `TOO_LARGE` (the number is below -2^(count - 1) or not below 2^(count -
+/// 1), or for no bits not 0). It costs by words.
 #[unsafe(no_mangle)]
 pub extern "C" fn bitvec_c_write_signed_u8(
     order: u8,
@@ -499,11 +496,10 @@ pub extern "C" fn bitvec_c_write_signed_u64(
     write_signed(order, big_endian, memory, place, end, count, number)
 }
 
-/// Makes the next `count` bits the same as `bit`, and the one behind them the other. `TOO_FEW`: no
-/// more than `count` bits are left.
+/// Makes the next `count` bits the same as `bit`, and the one behind them the other.
 ///
-/// In words of 8 bits. It refuses with `NO_ORDER`, `TOO_LONG`, `OUTSIDE` or `TOO_FEW`. It costs by
-/// words.
+/// In words of 8 bits. It refuses with `NO_ORDER`, `TOO_LONG`, `OUTSIDE` or `TOO_FEW` (no more than
+/// `count` bits are left). It costs by words.
 #[unsafe(no_mangle)]
 pub extern "C" fn bitvec_c_write_unary_u8(
     order: u8,

@@ -715,7 +715,8 @@ pub extern "C" fn bitvec_c_first_and_u64(
     )
 }
 
-/// The same of the first bit that is one and whose bit in the other range is zero.
+/// Writes to `index` the index of the first bit of a range that is one and whose bit in the other
+/// range is zero, or `count` where there is none.
 ///
 /// In words of 8 bits. It refuses with `NO_ORDER`, `TOO_LONG` or `OUTSIDE`. It costs by words where
 /// the orders are the same, else by bits, up to that bit.
@@ -826,8 +827,8 @@ pub extern "C" fn bitvec_c_first_and_not_u64(
     )
 }
 
-/// The same of the first bit that is not the same in the other range. The two ranges are equal
-/// where it is `count`, and else the bit at that index tells which one is less.
+/// Writes to `index` the index of the first bit of a range that is not the same in the other range,
+/// or `count` where there is none. The bit at that index tells which of the two is less.
 ///
 /// In words of 8 bits. It refuses with `NO_ORDER`, `TOO_LONG` or `OUTSIDE`. It costs by words where
 /// the orders are the same, else by bits, up to that bit.
@@ -938,7 +939,8 @@ pub extern "C" fn bitvec_c_first_difference_u64(
     )
 }
 
-/// The same where the words of the two memories may have other widths.
+/// The same as bitvec_c_first_difference_W, where the words of the two memories may have other
+/// widths.
 ///
 /// In words of 8 and 8 bits. It refuses with `NO_ORDER`, `TOO_LONG` or `OUTSIDE`. It costs by words
 /// where the orders are the same, else by bits, up to that bit.
