@@ -5,7 +5,8 @@
  *
  * Each buffer lies between two pages that may not be touched, at the first or right before the
  * second of them, and what a call only reads may not be written: a stray access ends the program.
- * The last line is how many calls there were of each export; the status is 1 where one is wrong. */
+ * The last lines are how many calls there were of each export, and a sum of all answers, by which
+ * two archives are compared; the status is 1 where one is wrong. */
 #define _DEFAULT_SOURCE
 #include "bitvec.h"
 
@@ -79,13 +80,43 @@ static void map_rooms(void) {
     }
 }
 
+/* The buffers of a call. */
+static struct buffer taken[ROOMS];
+
 static struct buffer take(int room, size_t size) {
     struct buffer buffer = {rooms[room].first, size, &rooms[room]};
     if (size == 0 && one_in(2))
         buffer.at = NULL;
     else if (one_in(2))
         buffer.at += ROOM - size;
+    taken[room] = buffer;
     return buffer;
+}
+
+/* The sum of all statuses, and of all bytes that the calls leave: two archives that answer the same
+ * have the same. */
+static uint64_t sum = UINT64_C(0xcbf29ce484222325);
+
+static void add(uint64_t number) {
+    sum = (sum ^ number) * UINT64_C(0x9e3779b97f4a7c15);
+    sum ^= sum >> 29;
+}
+
+static void add_bytes(const uint8_t *bytes, size_t size) {
+    for (size_t i = 0; i < size; i++)
+        add(bytes[i]);
+}
+
+/* (what lies behind the command of a request and the kind of a reply may be anything) */
+static void add_taken(void) {
+    taken[REQUESTS].size = 0;
+    for (int i = 0; i < ROOMS; i++) {
+        size_t step = i == REPLIES ? sizeof(struct bitvec_reply) : 1;
+        size_t own = i == REPLIES ? offsetof(struct bitvec_reply, kind) + 1 : 1;
+        for (size_t at = 0; at < taken[i].size; at += step)
+            add_bytes(taken[i].at + at, own);
+        taken[i].size = 0;
+    }
 }
 
 /* Whether what is guarded may be written. */
@@ -164,6 +195,7 @@ static void wrong(const char *what) {
 }
 
 static void same_status(uint8_t status, uint8_t expected) {
+    add(status);
     if (status != expected) {
         printf("status %d in place of %d\n", status, expected);
         wrong("the status");
@@ -1419,10 +1451,11 @@ int main(int count, char **words) {
         struct export *export = &exports[below(EXPORTS)];
         name = export->name;
         export->call(any_order(), export->width);
+        add_taken();
         export->calls++;
     }
     for (size_t i = 0; i < EXPORTS; i++)
         printf("%s %" PRIu64 "\n", exports[i].name, exports[i].calls);
-    printf("bitvec_c_version 1\n");
+    printf("bitvec_c_version 1\nsum=%016" PRIx64 "\n", sum);
     return 0;
 }

@@ -409,8 +409,8 @@ impl<'a, O: Order> ManySpans<'a, O> {
         T::can_run_in(O::CODE, self.list, words.len(), self.room)
     }
 
-    /// Gives the spans the commands of the requests, as [`Spans::run`] does. Costs what the commands
-    /// cost, and a test of the spans for each 64 requests. It allocates nothing.
+    /// Gives the spans the commands of the requests, as [`Spans::run`] does. Costs one test of the
+    /// spans, and what the commands cost. It allocates nothing.
     ///
     /// # Errors
     ///
@@ -444,9 +444,57 @@ impl<'a, O: Order> ManySpans<'a, O> {
         }
         // (also where there are no requests)
         self.can_run(words)?;
+        let mut named = Named::default();
         in_turn(requests, replies, |asked, answers| {
-            T::run_in(O::CODE, self.list, words, asked, answers, self.room)
+            // (some of spans that serve do so too)
+            named.take(self.list, asked);
+            let spans = &named.spans[..named.count];
+            let room = &mut named.room[..named.count];
+            T::run_in(O::CODE, spans, words, asked, answers, room)
         })
+    }
+}
+
+/// The spans that some requests name, each once, so that a call tests no others.
+struct Named {
+    numbers: [usize; AT_ONCE],
+    spans: [Span; AT_ONCE],
+    room: [usize; AT_ONCE],
+    count: usize,
+}
+
+impl Default for Named {
+    /// No spans.
+    fn default() -> Self {
+        Self {
+            numbers: [0; AT_ONCE],
+            spans: [Span::default(); AT_ONCE],
+            room: [0; AT_ONCE],
+            count: 0,
+        }
+    }
+}
+
+impl Named {
+    /// Takes the spans of a list that at most 64 requests name, and writes to each request which of
+    /// those it names. One that names none of the list names none of those.
+    fn take(&mut self, list: &[Span], asked: &mut [sys::Request]) {
+        self.count = 0;
+        for request in asked {
+            let Some(span) = list.get(request.span) else {
+                request.span = usize::MAX;
+                continue;
+            };
+            let known = &self.numbers[..self.count];
+            let place = known.iter().position(|number| *number == request.span);
+            let place = place.unwrap_or(self.count);
+            if place == self.count {
+                self.numbers[place] = request.span;
+                self.spans[place] = *span;
+                self.count += 1;
+            }
+            request.span = place;
+        }
     }
 }
 
@@ -454,7 +502,7 @@ impl<'a, O: Order> ManySpans<'a, O> {
 fn in_turn(
     requests: &[Request],
     replies: &mut [Reply],
-    mut serve: impl FnMut(&[sys::Request], &mut [sys::Reply]) -> Result<(), Refusal>,
+    mut serve: impl FnMut(&mut [sys::Request], &mut [sys::Reply]) -> Result<(), Refusal>,
 ) -> Result<(), Refusal> {
     let mut asked = [sys::Request::default(); AT_ONCE];
     let mut answers = [sys::Reply::default(); AT_ONCE];
@@ -463,7 +511,7 @@ fn in_turn(
             *own = own_request(request);
         }
         let answers = &mut answers[..requests.len()];
-        serve(&asked[..requests.len()], answers)?;
+        serve(&mut asked[..requests.len()], answers)?;
         for (reply, answer) in replies.iter_mut().zip(answers) {
             *reply = answered(*answer)?;
         }

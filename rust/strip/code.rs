@@ -36,6 +36,7 @@ impl Strip<'_> {
         while self.text(i) != "fn" {
             match self.text(i) {
                 "unsafe" => self.cut(i, i + 1),
+                "extern" | "\"C\"" if lead.is_export => self.cut(i, i + 1),
                 "const" => {}
                 _ => return self.fault(i, "a function that is not known"),
             }
@@ -182,8 +183,12 @@ impl Strip<'_> {
             let begins = i == start || matches!(self.before(i), "{" | "}" | ";");
             i = match self.text(i) {
                 "#" => {
-                    if self.attribute(i)? == "derive_where" {
-                        return self.fault(i, "this is derived for items of modules alone");
+                    match self.attribute(i)? {
+                        "derive_where" => {
+                            return self.fault(i, "this is derived for items of modules alone");
+                        }
+                        "unsafe" => return self.fault(i, "an export within code"),
+                        _ => {}
                     }
                     self.behind(i + 1)
                 }

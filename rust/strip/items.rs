@@ -19,6 +19,8 @@ pub(super) struct Lead<'a> {
     pub(super) next: usize,
     /// Whether no visibility is among it.
     pub(super) is_private: bool,
+    /// Whether the item is what callers in C name.
+    pub(super) is_export: bool,
     /// The traits that `derive_where` names.
     derived: Vec<&'a str>,
 }
@@ -73,6 +75,7 @@ impl<'a> Strip<'a> {
                 self.implementation(start, i + 1)?
             }
             "fn" | "unsafe" => self.function(&lead, home)?,
+            "extern" if lead.is_export => self.function(&lead, home)?,
             "const" if matches!(self.text(i + 1), "fn" | "unsafe") => self.function(&lead, home)?,
             "mod" => self.module(i)?,
             "use" => self.import(i)?,
@@ -88,7 +91,7 @@ impl<'a> Strip<'a> {
 
     /// Reads the documentation, the attributes and the visibility before an item.
     pub(super) fn lead(&mut self, mut i: usize) -> Result<Lead<'a>, Fault> {
-        let mut derived = Vec::new();
+        let (mut is_export, mut derived) = (false, Vec::new());
         self.is_in_example = false;
         while self.is_doc(i) || self.text(i) == "#" {
             if self.is_doc(i) {
@@ -96,15 +99,21 @@ impl<'a> Strip<'a> {
                 i += 1;
                 continue;
             }
-            if self.attribute(i)? == "derive_where" {
-                derived.extend(self.names_within(i + 3));
+            match self.attribute(i)? {
+                "derive_where" => derived.extend(self.names_within(i + 3)),
+                "unsafe" => is_export = true,
+                _ => {}
             }
             i = self.behind(i + 1);
         }
         let next = self.lead_end(i);
+        if is_export && !self.is(next, &["extern", "\"C\"", "fn"]) {
+            return self.fault(next, "an export that is no function");
+        }
         Ok(Lead {
             next,
             is_private: next == i,
+            is_export,
             derived,
         })
     }
@@ -149,6 +158,7 @@ impl<'a> Strip<'a> {
             "tactic" => self.cut(i, end),
             "derive" if self.are_names(i + 3) => self.derive(i, end),
             "derive_where" if self.are_names(i + 3) => self.cut(i, end),
+            "unsafe" if self.is(i + 3, &["(", "no_mangle", ")", "]"]) => self.cut(i, end),
             "cfg" if self.is(i + 3, &["(", "test", ")", "]"]) => {}
             "repr"
                 if self.is(i + 3, &["(", "C", ")", "]"])

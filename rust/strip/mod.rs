@@ -20,6 +20,7 @@
 //! | `impl Model for ..` of ghosts alone | says what a contract sees of a type |
 //! | `Drop` among derives and bounds | leave to drop a value, which every type of Rust gives |
 //! | `impl Drop for ..` that only takes `self` apart, each part by `_` | ends loans that proofs follow: Rust drops each part so too |
+//! | `#[unsafe(no_mangle)]` and `extern "C"` of a function | how callers in C reach it: `rust/c` writes for each what they call, which calls it |
 //! | `unsafe` before a block, a function or an `impl` | what is called and implemented stands for safe things here, see below: rustc refuses an unsafe call |
 //!
 //! # What is written otherwise

@@ -209,7 +209,8 @@ mod cases {
             span: random.below(ranges.len() + 1),
             command: command::<T>(random, 9),
         };
-        let requests: Vec<_> = (0..random.below(12)).map(|_| request(random)).collect();
+        let most = if random.one_in(16) { 300 } else { 12 };
+        let requests: Vec<_> = (0..random.below(most)).map(|_| request(random)).collect();
         let expected = many_refusal(&ranges, len);
         let list = ranges
             .iter()
@@ -249,6 +250,43 @@ fn many_spans_want_as_much_room() {
     assert!(ManySpans::<Lsb0>::new(&list, &mut [0; 3]).is_ok());
     let refused = ManySpans::<Msb0>::new(&list, &mut [0; 4]).err();
     assert_eq!(refused, Some(Refusal::NoRoom));
+}
+
+/// Spans of which each bit is one, in no order: each is turned over as often as it is named.
+#[test]
+fn many_spans_serve_many_requests() {
+    const SPANS: usize = 1000;
+    let of = |i: usize| i * 377 % SPANS;
+    let list: Vec<_> = (0..SPANS)
+        .map(|i| Span {
+            start: of(i) * 4,
+            count: 3,
+        })
+        .collect();
+    let mut room = vec![0; SPANS];
+    let mut words = vec![!0_u8; SPANS / 2];
+    let numbers: Vec<_> = (0..10_007).map(|n| n * n / 3 % (SPANS + 1)).collect();
+    let command = Command::Replace(1, false);
+    let requests: Vec<_> = numbers
+        .iter()
+        .map(|&span| Request { span, command })
+        .collect();
+    let mut replies = vec![Reply::Done; requests.len()];
+    let mut many = ManySpans::<Lsb0>::new(&list, &mut room).unwrap();
+    many.run(&mut words, &requests, &mut replies).unwrap();
+    assert!(many.in_order().iter().map(|i| of(*i)).eq(0..SPANS));
+    let mut seen = [false; SPANS];
+    for (number, reply) in numbers.into_iter().zip(replies) {
+        let expected = match seen.get_mut(number) {
+            Some(seen) => Reply::Bit(!std::mem::replace(seen, true)),
+            None => Reply::NoSpan,
+        };
+        assert_eq!(reply, expected);
+    }
+    for (i, seen) in seen.into_iter().enumerate() {
+        let digits = words[of(i) / 2] >> (of(i) % 2 * 4) & 15;
+        assert_eq!(digits, if seen { 0b1101 } else { 0b1111 });
+    }
 }
 
 #[test]

@@ -288,11 +288,33 @@ fn copies_answer_no_result() {
 }
 
 #[test]
-fn exports_are_not_known() {
+fn exports_are_functions_like_others() {
+    becomes(
+        "/// Text.\n#[unsafe(no_mangle)]\npub extern \"C\" fn f(x: &[u8]) -> u8\n    ensures { result ≡ 1 }\n{\n    1\n}\n",
+        "/// Text. pub fn f(x: &[u8]) -> u8 { 1 }",
+    );
     refused("pub extern \"C\" fn f() {}", "1: an item that is not known");
     refused(
-        "#[unsafe(no_mangle)] fn f() {}",
+        "unsafe extern \"C\" fn f() {}",
+        "1: a function that is not known",
+    );
+    for item in [
+        "pub fn f() {}",
+        "extern \"D\" fn f() {}",
+        "static A: u8 = 1;",
+    ] {
+        refused(
+            &format!("#[unsafe(no_mangle)]\n{item}"),
+            "2: an export that is no function",
+        );
+    }
+    refused(
+        "#[unsafe(link_section = \"a\")] fn f() {}",
         "1: an attribute that is not known",
+    );
+    refused(
+        "fn f() { #[unsafe(no_mangle)] g(); }",
+        "1: an export within code",
     );
 }
 
