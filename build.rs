@@ -14,6 +14,13 @@ use std::process::ExitCode;
 /// library.
 const TOP: &str = "bitvec_call";
 
+/// What this crate calls besides, where the feature that is named is on: each call's condition is
+/// tested before it.
+const BESIDES: [(&str, Option<&str>); 2] = [
+    ("freemap", None),
+    ("bitvec_vec", Some("CARGO_FEATURE_ALLOC")),
+];
+
 /// The crates that are stripped for no test: what times, and the exports for C.
 const LEFT_OUT: [&str; 2] = ["bench", "bitvec_c"];
 
@@ -41,7 +48,12 @@ fn make() -> Result<(), String> {
         folder_of("OUT_DIR")?.join("proved"),
     );
     let crates = crates::listed(&here)?;
-    let library = with_those_below(TOP, &crates);
+    let mut library = with_those_below(TOP, &crates);
+    for (name, feature) in BESIDES {
+        if feature.is_none_or(|it| env::var_os(it).is_some()) {
+            library.extend(with_those_below(name, &crates));
+        }
+    }
     let here = here.join("crates");
     // A package has the library alone: what asks it is compiled for the tests, where it is there.
     let is_here =

@@ -1,6 +1,7 @@
 //! Sets of bits: the operators, and questions of two sets.
 
 use crate::order::Order;
+use crate::own::AsBitSlice;
 use crate::refusal::Refusal;
 use crate::register::Register;
 use crate::slice::{BitSlice, granted};
@@ -49,14 +50,12 @@ impl<T: Register, O: Order> BitSliceMut<'_, T, O> {
     /// assert_eq!(words, [0x73]);
     /// # Ok::<(), worghulen::Refusal>(())
     /// ```
-    pub fn and_not_from<T2: Register, O2: Order>(
-        &mut self,
-        source: &BitSlice<'_, T2, O2>,
-    ) -> Result<(), Refusal> {
+    pub fn and_not_from(&mut self, source: impl AsBitSlice) -> Result<(), Refusal> {
+        let source = source.as_bitslice();
         if source.len() != self.len() {
             return Err(Refusal::Lengths);
         }
-        self.combine(source, T::and_not, |here, there| here & !there);
+        self.combine(&source, T::and_not, |here, there| here & !there);
         Ok(())
     }
 }
@@ -75,10 +74,9 @@ impl<T: Register, O: Order> BitSliceMut<'_, T, O> {
 /// bits &= other.view_bits::<Lsb0>().get(..12).unwrap();
 /// assert_eq!(words, [0x0c, 0x00]);
 /// ```
-impl<'b, T: Register, O: Order, T2: Register, O2: Order> BitAndAssign<BitSlice<'b, T2, O2>>
-    for BitSliceMut<'_, T, O>
-{
-    fn bitand_assign(&mut self, other: BitSlice<'b, T2, O2>) {
+impl<T: Register, O: Order, B: AsBitSlice> BitAndAssign<B> for BitSliceMut<'_, T, O> {
+    fn bitand_assign(&mut self, other: B) {
+        let other = other.as_bitslice();
         self.combine(&other, T::and, |here, there| here & there);
         if let Some(mut behind) = self.get_mut(other.len()..) {
             behind.fill(false);
@@ -100,10 +98,9 @@ impl<'b, T: Register, O: Order, T2: Register, O2: Order> BitAndAssign<BitSlice<'
 /// bits |= other.view_bits::<Msb0>();
 /// assert_eq!(words, [0x03]);
 /// ```
-impl<'b, T: Register, O: Order, T2: Register, O2: Order> BitOrAssign<BitSlice<'b, T2, O2>>
-    for BitSliceMut<'_, T, O>
-{
-    fn bitor_assign(&mut self, other: BitSlice<'b, T2, O2>) {
+impl<T: Register, O: Order, B: AsBitSlice> BitOrAssign<B> for BitSliceMut<'_, T, O> {
+    fn bitor_assign(&mut self, other: B) {
+        let other = other.as_bitslice();
         self.combine(&other, T::or, |here, there| here | there);
     }
 }
@@ -122,10 +119,9 @@ impl<'b, T: Register, O: Order, T2: Register, O2: Order> BitOrAssign<BitSlice<'b
 /// bits ^= other.view_bits::<Lsb0>();
 /// assert_eq!(words, [0x33]);
 /// ```
-impl<'b, T: Register, O: Order, T2: Register, O2: Order> BitXorAssign<BitSlice<'b, T2, O2>>
-    for BitSliceMut<'_, T, O>
-{
-    fn bitxor_assign(&mut self, other: BitSlice<'b, T2, O2>) {
+impl<T: Register, O: Order, B: AsBitSlice> BitXorAssign<B> for BitSliceMut<'_, T, O> {
+    fn bitxor_assign(&mut self, other: B) {
+        let other = other.as_bitslice();
         self.combine(&other, T::xor, |here, there| here ^ there);
     }
 }
@@ -149,32 +145,6 @@ impl<T: Register, O: Order> Not for BitSliceMut<'_, T, O> {
         self.invert();
         self
     }
-}
-
-macro_rules! by_reference {
-    ($($operator:ident $call:ident;)*) => { $(
-        impl<'b, T: Register, O: Order, T2: Register, O2: Order> $operator<&BitSlice<'b, T2, O2>>
-            for BitSliceMut<'_, T, O>
-        {
-            fn $call(&mut self, other: &BitSlice<'b, T2, O2>) {
-                self.$call(*other);
-            }
-        }
-
-        impl<'b, T: Register, O: Order, T2: Register, O2: Order> $operator<&BitSliceMut<'b, T2, O2>>
-            for BitSliceMut<'_, T, O>
-        {
-            fn $call(&mut self, other: &BitSliceMut<'b, T2, O2>) {
-                self.$call(other.as_bitslice());
-            }
-        }
-    )* };
-}
-
-by_reference! {
-    BitAndAssign bitand_assign;
-    BitOrAssign bitor_assign;
-    BitXorAssign bitxor_assign;
 }
 
 /// A call of the library that asks of two ranges.

@@ -1,9 +1,15 @@
 //! Two slices compared, whatever their words and orders are.
 
+use crate::array::BitArray;
+#[cfg(feature = "alloc")]
+use crate::boxed::BitBox;
 use crate::order::Order;
+use crate::own::AsBitSlice;
 use crate::register::Register;
 use crate::slice::{BitSlice, granted};
 use crate::slice_mut::BitSliceMut;
+#[cfg(feature = "alloc")]
+use crate::vec::BitVec;
 use core::cmp::Ordering;
 use core::hash::{Hash, Hasher};
 
@@ -141,67 +147,15 @@ impl<T: Register, O: Order> BitSlice<'_, T, O> {
 /// assert!(low == high.get(..8).unwrap());
 /// assert!(low.get(..4).unwrap() == [true, false, true, true]);
 /// ```
-impl<'b, T: Register, O: Order, T2: Register, O2: Order> PartialEq<BitSlice<'b, T2, O2>>
-    for BitSlice<'_, T, O>
-{
-    fn eq(&self, other: &BitSlice<'b, T2, O2>) -> bool {
-        self.equals(other)
-    }
-}
-
-impl<'b, T: Register, O: Order, T2: Register, O2: Order> PartialEq<BitSliceMut<'b, T2, O2>>
-    for BitSlice<'_, T, O>
-{
-    fn eq(&self, other: &BitSliceMut<'b, T2, O2>) -> bool {
+impl<T: Register, O: Order, B: AsBitSlice> PartialEq<B> for BitSlice<'_, T, O> {
+    fn eq(&self, other: &B) -> bool {
         self.equals(&other.as_bitslice())
     }
 }
 
-impl<'b, T: Register, O: Order, T2: Register, O2: Order> PartialEq<BitSlice<'b, T2, O2>>
-    for BitSliceMut<'_, T, O>
-{
-    fn eq(&self, other: &BitSlice<'b, T2, O2>) -> bool {
-        self.as_bitslice().equals(other)
-    }
-}
-
-impl<'b, T: Register, O: Order, T2: Register, O2: Order> PartialEq<BitSliceMut<'b, T2, O2>>
-    for BitSliceMut<'_, T, O>
-{
-    fn eq(&self, other: &BitSliceMut<'b, T2, O2>) -> bool {
-        self.as_bitslice().equals(&other.as_bitslice())
-    }
-}
-
-macro_rules! lists {
-    ($($slice:ident)*) => { $(
-        /// Whether a list of truth values is that of the bits. Costs by bits.
-        impl<T: Register, O: Order> PartialEq<[bool]> for $slice<'_, T, O> {
-            fn eq(&self, other: &[bool]) -> bool {
-                self.iter().eq(other.iter().copied())
-            }
-        }
-
-        /// As with a slice of truth values.
-        impl<T: Register, O: Order, const N: usize> PartialEq<[bool; N]> for $slice<'_, T, O> {
-            fn eq(&self, other: &[bool; N]) -> bool {
-                *self == other[..]
-            }
-        }
-    )* };
-}
-
-lists!(BitSlice BitSliceMut);
-
-impl<T: Register, O: Order> Eq for BitSlice<'_, T, O> {}
-
-impl<T: Register, O: Order> Eq for BitSliceMut<'_, T, O> {}
-
-impl<'b, T: Register, O: Order, T2: Register, O2: Order> PartialOrd<BitSlice<'b, T2, O2>>
-    for BitSlice<'_, T, O>
-{
-    fn partial_cmp(&self, other: &BitSlice<'b, T2, O2>) -> Option<Ordering> {
-        Some(self.compare(other))
+impl<T: Register, O: Order, B: AsBitSlice> PartialOrd<B> for BitSlice<'_, T, O> {
+    fn partial_cmp(&self, other: &B) -> Option<Ordering> {
+        Some(self.compare(&other.as_bitslice()))
     }
 }
 
@@ -224,36 +178,6 @@ impl<'b, T: Register, O: Order, T2: Register, O2: Order> PartialOrd<BitSlice<'b,
 impl<T: Register, O: Order> Ord for BitSlice<'_, T, O> {
     fn cmp(&self, other: &Self) -> Ordering {
         self.compare(other)
-    }
-}
-
-impl<'b, T: Register, O: Order, T2: Register, O2: Order> PartialOrd<BitSliceMut<'b, T2, O2>>
-    for BitSliceMut<'_, T, O>
-{
-    fn partial_cmp(&self, other: &BitSliceMut<'b, T2, O2>) -> Option<Ordering> {
-        Some(self.as_bitslice().compare(&other.as_bitslice()))
-    }
-}
-
-impl<'b, T: Register, O: Order, T2: Register, O2: Order> PartialOrd<BitSliceMut<'b, T2, O2>>
-    for BitSlice<'_, T, O>
-{
-    fn partial_cmp(&self, other: &BitSliceMut<'b, T2, O2>) -> Option<Ordering> {
-        Some(self.compare(&other.as_bitslice()))
-    }
-}
-
-impl<'b, T: Register, O: Order, T2: Register, O2: Order> PartialOrd<BitSlice<'b, T2, O2>>
-    for BitSliceMut<'_, T, O>
-{
-    fn partial_cmp(&self, other: &BitSlice<'b, T2, O2>) -> Option<Ordering> {
-        Some(self.as_bitslice().compare(other))
-    }
-}
-
-impl<T: Register, O: Order> Ord for BitSliceMut<'_, T, O> {
-    fn cmp(&self, other: &Self) -> Ordering {
-        self.as_bitslice().compare(&other.as_bitslice())
     }
 }
 
@@ -283,8 +207,62 @@ impl<T: Register, O: Order> Hash for BitSlice<'_, T, O> {
     }
 }
 
-impl<T: Register, O: Order> Hash for BitSliceMut<'_, T, O> {
-    fn hash<H: Hasher>(&self, state: &mut H) {
-        self.as_bitslice().hash(state);
-    }
+/// What has bits is compared, ordered and hashed as they are.
+macro_rules! as_slices {
+    ([$($generics:tt)*] $type:ty) => {
+        /// Whether both have the same bits, whatever their words and orders are.
+        impl<$($generics)*, B: AsBitSlice> PartialEq<B> for $type {
+            fn eq(&self, other: &B) -> bool {
+                self.as_bitslice() == *other
+            }
+        }
+
+        impl<$($generics)*, B: AsBitSlice> PartialOrd<B> for $type {
+            fn partial_cmp(&self, other: &B) -> Option<Ordering> {
+                self.as_bitslice().partial_cmp(other)
+            }
+        }
+
+        impl<$($generics)*> Ord for $type {
+            fn cmp(&self, other: &Self) -> Ordering {
+                self.as_bitslice().cmp(&other.as_bitslice())
+            }
+        }
+
+        impl<$($generics)*> Hash for $type {
+            fn hash<H: Hasher>(&self, state: &mut H) {
+                self.as_bitslice().hash(state);
+            }
+        }
+
+        as_lists! { [$($generics)*] $type }
+    };
 }
+
+macro_rules! as_lists {
+    ([$($generics:tt)*] $type:ty) => {
+        impl<$($generics)*> Eq for $type {}
+
+        /// Whether a list of truth values is that of the bits. Costs by bits.
+        impl<$($generics)*> PartialEq<[bool]> for $type {
+            fn eq(&self, other: &[bool]) -> bool {
+                self.iter().eq(other.iter().copied())
+            }
+        }
+
+        /// As with a slice of truth values.
+        impl<$($generics)*, const M: usize> PartialEq<[bool; M]> for $type {
+            fn eq(&self, other: &[bool; M]) -> bool {
+                *self == other[..]
+            }
+        }
+    };
+}
+
+as_lists! { [T: Register, O: Order] BitSlice<'_, T, O> }
+as_slices! { [T: Register, O: Order] BitSliceMut<'_, T, O> }
+as_slices! { [T: Register, O: Order, const W: usize] BitArray<[T; W], O> }
+#[cfg(feature = "alloc")]
+as_slices! { [T: Register, O: Order] BitVec<T, O> }
+#[cfg(feature = "alloc")]
+as_slices! { [T: Register, O: Order] BitBox<T, O> }

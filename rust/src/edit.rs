@@ -2,12 +2,111 @@
 
 use crate::number::Number;
 use crate::order::Order;
+use crate::order::code::Code;
+use crate::own::AsBitSlice;
 use crate::range::{run_of, within};
-use crate::refusal::Refusal;
+use crate::refusal::{Refusal, refused};
 use crate::register::Register;
-use crate::slice::{BitSlice, granted, load_bits, to_boundary};
+use crate::slice::{granted, load_bits, to_boundary};
 use crate::slice_mut::BitSliceMut;
 use core::ops::RangeBounds;
+
+crate::refusal::or_panics! {
+    [T: Register, O: Order] BitSliceMut<'_, T, O>:
+
+    /// Makes the bit at an index the same as `bit`. Constant time.
+    ///
+    /// # Examples
+    ///
+    /// ```
+    /// use worghulen::{BitView, Msb0};
+    ///
+    /// let mut words = [0_u8];
+    /// words.view_bits_mut::<Msb0>().set(1, true);
+    /// assert_eq!(words, [0b0100_0000]);
+    /// ```
+    set by try_set(index: usize, bit: bool);
+
+    /// Makes the bit at an index the same as `bit`, and returns it as it was. Constant time.
+    ///
+    /// # Examples
+    ///
+    /// ```
+    /// use worghulen::{BitView, Lsb0};
+    ///
+    /// let mut words = [0b0000_1000_u8];
+    /// assert!(words.view_bits_mut::<Lsb0>().replace(3, false));
+    /// assert_eq!(words, [0]);
+    /// ```
+    replace by try_replace(index: usize, bit: bool) -> bool;
+
+    /// Exchanges two bits. Constant time.
+    ///
+    /// # Examples
+    ///
+    /// ```
+    /// use worghulen::{BitView, Lsb0};
+    ///
+    /// let mut words = [0b0000_1000_u8];
+    /// words.view_bits_mut::<Lsb0>().swap(3, 0);
+    /// assert_eq!(words, [1]);
+    /// ```
+    swap by try_swap(i: usize, j: usize);
+
+    /// Moves each bit `by` indices towards the first: the first `by` bits are lost, and the last
+    /// `by` become zero. Costs by words.
+    ///
+    /// # Examples
+    ///
+    /// ```
+    /// use worghulen::{BitView, Msb0};
+    ///
+    /// let mut words = [0b1011_0011_u8];
+    /// words.view_bits_mut::<Msb0>().shift_left(2);
+    /// assert_eq!(words, [0b1100_1100]);
+    /// ```
+    shift_left by try_shift_left(by: usize);
+
+    /// Moves each bit `by` indices towards the last: the last `by` bits are lost, and the first
+    /// `by` become zero. Costs by words.
+    ///
+    /// # Examples
+    ///
+    /// ```
+    /// use worghulen::{BitView, Msb0};
+    ///
+    /// let mut words = [0b1011_0011_u8];
+    /// words.view_bits_mut::<Msb0>().shift_right(2);
+    /// assert_eq!(words, [0b0010_1100]);
+    /// ```
+    shift_right by try_shift_right(by: usize);
+
+    /// Puts the first `by` bits behind the others. Costs by words.
+    ///
+    /// # Examples
+    ///
+    /// ```
+    /// use worghulen::{BitView, Msb0};
+    ///
+    /// let mut words = [0b1011_0011_u8];
+    /// words.view_bits_mut::<Msb0>().rotate_left(2);
+    /// assert_eq!(words, [0b1100_1110]);
+    /// ```
+    rotate_left by try_rotate_left(by: usize);
+
+    /// Puts the last `by` bits before the others. Costs by words.
+    ///
+    /// # Examples
+    ///
+    /// ```
+    /// use worghulen::{BitView, Msb0};
+    ///
+    /// let mut words = [0b1011_0001_u8];
+    /// words.view_bits_mut::<Msb0>().rotate_right(2);
+    /// assert_eq!(words, [0b0110_1100]);
+    /// ```
+    rotate_right by try_rotate_right(by: usize);
+}
 
 impl<T: Register, O: Order> BitSliceMut<'_, T, O> {
     /// Makes the bit at an index the same as `bit`. Constant time.
@@ -23,13 +122,13 @@ impl<T: Register, O: Order> BitSliceMut<'_, T, O> {
     ///
     /// let mut words = [0_u8];
     /// let mut bits = BitSliceMut::<_, Lsb0>::new(&mut words, 2..6)?;
-    /// bits.set(1, true)?;
-    /// assert_eq!(bits.set(4, true), Err(Refusal::Outside));
+    /// bits.try_set(1, true)?;
+    /// assert_eq!(bits.try_set(4, true), Err(Refusal::Outside));
     /// assert_eq!(words, [0b0000_1000]);
     /// # Ok::<(), Refusal>(())
     /// ```
     #[inline]
-    pub fn set(&mut self, index: usize, bit: bool) -> Result<(), Refusal> {
+    pub fn try_set(&mut self, index: usize, bit: bool) -> Result<(), Refusal> {
         if index >= self.len() {
             return Err(Refusal::Outside);
         }
@@ -50,11 +149,11 @@ impl<T: Register, O: Order> BitSliceMut<'_, T, O> {
     ///
     /// let mut words = [0b0000_1000_u8];
     /// let mut bits = words.view_bits_mut::<Lsb0>();
-    /// assert_eq!((bits.replace(3, false)?, bits.replace(0, true)?), (true, false));
+    /// assert_eq!((bits.try_replace(3, false)?, bits.try_replace(0, true)?), (true, false));
     /// assert_eq!(words, [0b0000_0001]);
     /// # Ok::<(), worghulen::Refusal>(())
     /// ```
-    pub fn replace(&mut self, index: usize, bit: bool) -> Result<bool, Refusal> {
+    pub fn try_replace(&mut self, index: usize, bit: bool) -> Result<bool, Refusal> {
         if index >= self.len() {
             return Err(Refusal::Outside);
         }
@@ -74,11 +173,11 @@ impl<T: Register, O: Order> BitSliceMut<'_, T, O> {
     /// use worghulen::{BitView, Lsb0};
     ///
     /// let mut words = [0b0000_1000_u8];
-    /// words.view_bits_mut::<Lsb0>().swap(3, 7)?;
+    /// words.view_bits_mut::<Lsb0>().try_swap(3, 7)?;
     /// assert_eq!(words, [0b1000_0000]);
     /// # Ok::<(), worghulen::Refusal>(())
     /// ```
-    pub fn swap(&mut self, i: usize, j: usize) -> Result<(), Refusal> {
+    pub fn try_swap(&mut self, i: usize, j: usize) -> Result<(), Refusal> {
         if i >= self.len() || j >= self.len() {
             return Err(Refusal::Outside);
         }
@@ -122,8 +221,104 @@ impl<T: Register, O: Order> BitSliceMut<'_, T, O> {
         granted(T::invert(O::CODE, words, start, len));
     }
 
+    /// Copies the bits of a range of indices to those from an index on, which may overlap them:
+    /// each gets what stood there before. Costs by words.
+    ///
+    /// # Panics
+    ///
+    /// Panics, with the place and the length, where [`try_copy_within`](Self::try_copy_within) is
+    /// refused. No bit is changed then.
+    ///
+    /// # Examples
+    ///
+    /// ```
+    /// use worghulen::{BitView, Msb0};
+    ///
+    /// let mut words = [0b1011_0000_u8];
+    /// words.view_bits_mut::<Msb0>().copy_within(..4, 4);
+    /// assert_eq!(words, [0b1011_1011]);
+    /// ```
+    #[track_caller]
+    pub fn copy_within(&mut self, range: impl RangeBounds<usize>, start: usize) {
+        let bounds = (range.start_bound().cloned(), range.end_bound().cloned());
+        if let Err(why) = self.try_copy_within(range, start) {
+            refused("copy_within", &(bounds, start), self.len(), why);
+        }
+    }
+
     /// Makes the bits the lowest digits of a number, as many as there are bits, so that
-    /// [`load_le`](BitSlice::load_le) gives these back. Constant time.
+    /// [`load_le`](Self::load_le) gives these back. Constant time.
+    ///
+    /// # Panics
+    ///
+    /// Panics where there are more than 64 bits; [`try_store_le`](Self::try_store_le) does not. No
+    /// bit is changed then.
+    ///
+    /// # Examples
+    ///
+    /// ```
+    /// use worghulen::{BitView, Lsb0};
+    ///
+    /// let mut words = [0_u8; 2];
+    /// words.view_bits_mut::<Lsb0>().get_mut(4..12).unwrap().store_le(0x23);
+    /// assert_eq!(words, [0x30, 0x02]);
+    /// ```
+    #[inline]
+    #[track_caller]
+    pub fn store_le<N: Number>(&mut self, number: N) {
+        if let Err(why) = self.try_store_le(number) {
+            refused("store_le", &(), self.len(), why);
+        }
+    }
+
+    /// Makes the bits the lowest digits of a number, as many as there are bits, so that
+    /// [`load_be`](Self::load_be) gives these back. Constant time.
+    ///
+    /// # Panics
+    ///
+    /// Panics where there are more than 64 bits; [`try_store_be`](Self::try_store_be) does not. No
+    /// bit is changed then.
+    ///
+    /// # Examples
+    ///
+    /// ```
+    /// use worghulen::{BitView, Msb0};
+    ///
+    /// let mut words = [0_u8; 2];
+    /// words.view_bits_mut::<Msb0>().get_mut(4..12).unwrap().store_be(0x23);
+    /// assert_eq!(words, [0x02, 0x30]);
+    /// ```
+    #[inline]
+    #[track_caller]
+    pub fn store_be<N: Number>(&mut self, number: N) {
+        if let Err(why) = self.try_store_be(number) {
+            refused("store_be", &(), self.len(), why);
+        }
+    }
+
+    /// As [`store_le`](Self::store_le), on every machine. Constant time.
+    ///
+    /// # Panics
+    ///
+    /// As that call.
+    ///
+    /// # Examples
+    ///
+    /// ```
+    /// use worghulen::{BitView, Lsb0};
+    ///
+    /// let mut words = [0_u8; 2];
+    /// words.view_bits_mut::<Lsb0>().store(0x1234_u16);
+    /// assert_eq!(words, [0x34, 0x12]);
+    /// ```
+    #[inline]
+    #[track_caller]
+    pub fn store<N: Number>(&mut self, number: N) {
+        self.store_le(number);
+    }
+
+    /// Makes the bits the lowest digits of a number, as many as there are bits, so that
+    /// [`load_le`](Self::load_le) gives these back. Constant time.
     ///
     /// # Errors
     ///
@@ -135,21 +330,21 @@ impl<T: Register, O: Order> BitSliceMut<'_, T, O> {
     /// use worghulen::{BitSliceMut, Lsb0};
     ///
     /// let mut words = [0_u8; 2];
-    /// BitSliceMut::<_, Lsb0>::new(&mut words, 4..12)?.store_le(0x123)?;
+    /// BitSliceMut::<_, Lsb0>::new(&mut words, 4..12)?.try_store_le(0x123)?;
     /// assert_eq!(words, [0x30, 0x02]);
-    /// BitSliceMut::<_, Lsb0>::new(&mut words, 0..4)?.store_le(-2_i8)?;
+    /// BitSliceMut::<_, Lsb0>::new(&mut words, 0..4)?.try_store_le(-2_i8)?;
     /// assert_eq!(words, [0x3e, 0x02]);
     /// # Ok::<(), worghulen::Refusal>(())
     /// ```
     #[inline]
-    pub fn store_le<N: Number>(&mut self, number: N) -> Result<(), Refusal> {
+    pub fn try_store_le<N: Number>(&mut self, number: N) -> Result<(), Refusal> {
         let len = self.len();
         let (words, start) = self.place_mut();
         number.store(O::CODE, false, words, start, len)
     }
 
     /// Makes the bits the lowest digits of a number, as many as there are bits, so that
-    /// [`load_be`](BitSlice::load_be) gives these back. Constant time.
+    /// [`load_be`](Self::load_be) gives these back. Constant time.
     ///
     /// # Errors
     ///
@@ -161,12 +356,12 @@ impl<T: Register, O: Order> BitSliceMut<'_, T, O> {
     /// use worghulen::{BitSliceMut, Msb0};
     ///
     /// let mut words = [0_u8; 2];
-    /// BitSliceMut::<_, Msb0>::new(&mut words, 4..12)?.store_be(0x123_u16)?;
+    /// BitSliceMut::<_, Msb0>::new(&mut words, 4..12)?.try_store_be(0x123_u16)?;
     /// assert_eq!(words, [0x02, 0x30]);
     /// # Ok::<(), worghulen::Refusal>(())
     /// ```
     #[inline]
-    pub fn store_be<N: Number>(&mut self, number: N) -> Result<(), Refusal> {
+    pub fn try_store_be<N: Number>(&mut self, number: N) -> Result<(), Refusal> {
         let len = self.len();
         let (words, start) = self.place_mut();
         number.store(O::CODE, true, words, start, len)
@@ -193,21 +388,19 @@ impl<T: Register, O: Order> BitSliceMut<'_, T, O> {
     /// assert_eq!(words, [0x1fe00]);
     /// # Ok::<(), worghulen::Refusal>(())
     /// ```
-    pub fn copy_from<T2: Register, O2: Order>(
-        &mut self,
-        source: &BitSlice<'_, T2, O2>,
-    ) -> Result<(), Refusal> {
+    pub fn copy_from<B: AsBitSlice>(&mut self, source: B) -> Result<(), Refusal> {
+        let source = source.as_bitslice();
         let len = self.len();
         if source.len() != len {
             return Err(Refusal::Lengths);
         }
         match T::same(&source.seen()) {
-            Some(words) if O::CODE == O2::CODE => {
+            Some(words) if O::CODE == B::Order::CODE => {
                 let from = (words, source.place().1);
                 T::copy(O::CODE, from, self.place_mut(), len)
             }
             _ => T::convert(
-                O2::CODE,
+                B::Order::CODE,
                 &source.seen(),
                 source.place().1,
                 O::CODE,
@@ -232,11 +425,11 @@ impl<T: Register, O: Order> BitSliceMut<'_, T, O> {
     /// use worghulen::{BitSliceMut, Msb0};
     ///
     /// let mut words = [0b1011_0000_u8];
-    /// BitSliceMut::<_, Msb0>::new(&mut words, ..)?.copy_within(..4, 2)?;
+    /// BitSliceMut::<_, Msb0>::new(&mut words, ..)?.try_copy_within(..4, 2)?;
     /// assert_eq!(words, [0b1010_1100]);
     /// # Ok::<(), worghulen::Refusal>(())
     /// ```
-    pub fn copy_within(
+    pub fn try_copy_within(
         &mut self,
         range: impl RangeBounds<usize>,
         start: usize,
@@ -277,11 +470,11 @@ impl<T: Register, O: Order> BitSliceMut<'_, T, O> {
     /// use worghulen::{BitView, Msb0};
     ///
     /// let mut words = [0b1011_0011_u8];
-    /// words.view_bits_mut::<Msb0>().shift_left(3)?;
+    /// words.view_bits_mut::<Msb0>().try_shift_left(3)?;
     /// assert_eq!(words, [0b1001_1000]);
     /// # Ok::<(), worghulen::Refusal>(())
     /// ```
-    pub fn shift_left(&mut self, by: usize) -> Result<(), Refusal> {
+    pub fn try_shift_left(&mut self, by: usize) -> Result<(), Refusal> {
         let len = self.len();
         let (words, start) = self.place_mut();
         T::shift_left(O::CODE, words, start, len, by)
@@ -300,11 +493,11 @@ impl<T: Register, O: Order> BitSliceMut<'_, T, O> {
     /// use worghulen::{BitView, Msb0};
     ///
     /// let mut words = [0b1011_0011_u8];
-    /// words.view_bits_mut::<Msb0>().shift_right(3)?;
+    /// words.view_bits_mut::<Msb0>().try_shift_right(3)?;
     /// assert_eq!(words, [0b0001_0110]);
     /// # Ok::<(), worghulen::Refusal>(())
     /// ```
-    pub fn shift_right(&mut self, by: usize) -> Result<(), Refusal> {
+    pub fn try_shift_right(&mut self, by: usize) -> Result<(), Refusal> {
         let len = self.len();
         let (words, start) = self.place_mut();
         T::shift_right(O::CODE, words, start, len, by)
@@ -322,11 +515,11 @@ impl<T: Register, O: Order> BitSliceMut<'_, T, O> {
     /// use worghulen::{BitView, Msb0};
     ///
     /// let mut words = [0b1011_0011_u8];
-    /// words.view_bits_mut::<Msb0>().rotate_left(3)?;
+    /// words.view_bits_mut::<Msb0>().try_rotate_left(3)?;
     /// assert_eq!(words, [0b1001_1101]);
     /// # Ok::<(), worghulen::Refusal>(())
     /// ```
-    pub fn rotate_left(&mut self, by: usize) -> Result<(), Refusal> {
+    pub fn try_rotate_left(&mut self, by: usize) -> Result<(), Refusal> {
         let len = self.len();
         let (words, start) = self.place_mut();
         T::rotate_left(O::CODE, words, start, len, by)
@@ -344,13 +537,13 @@ impl<T: Register, O: Order> BitSliceMut<'_, T, O> {
     /// use worghulen::{BitView, Msb0};
     ///
     /// let mut words = [0b1011_0011_u8];
-    /// words.view_bits_mut::<Msb0>().rotate_right(3)?;
+    /// words.view_bits_mut::<Msb0>().try_rotate_right(3)?;
     /// assert_eq!(words, [0b0111_0110]);
     /// # Ok::<(), worghulen::Refusal>(())
     /// ```
-    pub fn rotate_right(&mut self, by: usize) -> Result<(), Refusal> {
+    pub fn try_rotate_right(&mut self, by: usize) -> Result<(), Refusal> {
         let left = self.len().checked_sub(by).ok_or(Refusal::Outside)?;
-        self.rotate_left(left)
+        self.try_rotate_left(left)
     }
 
     /// Makes of the first bits what a function makes of at most 64 of them, as digits, the first

@@ -1,13 +1,15 @@
 //! What names a bit or a range of bits of a slice.
 
 use crate::order::Order;
+use crate::proxy::{BitRef, IterMut};
 use crate::register::Register;
 use crate::slice::BitSlice;
+use crate::slice_mut::BitSliceMut;
 use core::ops::{Bound, Index, Range, RangeFrom, RangeFull, RangeInclusive, RangeTo};
 use core::ops::{RangeBounds, RangeToInclusive};
 
 /// An index, which names a bit, or a range of indices, which names a slice of them: what
-/// [`BitSlice::get`] takes.
+/// [`BitSlice::get`] and [`BitSliceMut::get_mut`] take.
 ///
 /// # Examples
 ///
@@ -24,8 +26,14 @@ pub trait BitIndex<'a, T, O>: sealed::Sealed {
     /// A bit, or a slice of bits.
     type Output;
 
+    /// The same, lent for writing.
+    type OutputMut;
+
     /// What is named, and `None` where it is not among the bits.
     fn of(self, bits: BitSlice<'a, T, O>) -> Option<Self::Output>;
+
+    /// The same, lent for writing.
+    fn of_mut(self, bits: BitSliceMut<'a, T, O>) -> Option<Self::OutputMut>;
 }
 
 mod sealed {
@@ -37,10 +45,16 @@ impl sealed::Sealed for usize {}
 
 impl<'a, T: Register, O: Order> BitIndex<'a, T, O> for usize {
     type Output = bool;
+    type OutputMut = BitRef<'a, T, O>;
 
     #[inline]
     fn of(self, bits: BitSlice<'a, T, O>) -> Option<bool> {
         bits.bit(self)
+    }
+
+    #[inline]
+    fn of_mut(self, bits: BitSliceMut<'a, T, O>) -> Option<BitRef<'a, T, O>> {
+        IterMut::new(bits).nth(self)
     }
 }
 
@@ -50,10 +64,16 @@ macro_rules! ranges {
 
         impl<'a, T: Register, O: Order> BitIndex<'a, T, O> for $range {
             type Output = BitSlice<'a, T, O>;
+            type OutputMut = BitSliceMut<'a, T, O>;
 
             #[inline]
             fn of(self, bits: BitSlice<'a, T, O>) -> Option<BitSlice<'a, T, O>> {
                 bits.part(self).ok()
+            }
+
+            #[inline]
+            fn of_mut(self, bits: BitSliceMut<'a, T, O>) -> Option<BitSliceMut<'a, T, O>> {
+                bits.into_part(self).ok()
             }
         }
     )* };
@@ -164,9 +184,8 @@ impl<T: Register, O: Order> BitSlice<'_, T, O> {
     /// let words = [0x9b_u8];
     /// let bits = words.view_bits::<Msb0>();
     /// let (high, low) = bits.split_at_checked(4).unwrap();
-    /// assert_eq!((high.load_be::<u8>()?, low.load_be::<u8>()?), (0x9, 0xb));
+    /// assert_eq!((high.load_be::<u8>(), low.load_be::<u8>()), (0x9, 0xb));
     /// assert!(bits.split_at_checked(9).is_none());
-    /// # Ok::<(), worghulen::Refusal>(())
     /// ```
     #[inline]
     #[must_use]

@@ -63,6 +63,21 @@ pub struct Iter<'a, T: Register, O: Order> {
     back: Held,
 }
 
+impl<T: Register, O: Order> Iter<'_, T, O> {
+    /// The same: the bits are values already.
+    ///
+    /// # Examples
+    ///
+    /// ```
+    /// use worghulen::bits;
+    ///
+    /// assert_eq!(bits![0, 1].iter().by_vals().collect::<Vec<_>>(), [false, true]);
+    /// ```
+    pub fn by_vals(self) -> Self {
+        self
+    }
+}
+
 impl<'a, T: Register, O: Order> Iter<'a, T, O> {
     fn new(bits: BitSlice<'a, T, O>) -> Self {
         Self {
@@ -513,7 +528,7 @@ indices! {
 /// use worghulen::{BitView, Msb0};
 ///
 /// let bytes = [0x12_u8, 0x34];
-/// let digits = bytes.view_bits::<Msb0>().chunks(4).map(|it| it.load_be::<u8>().unwrap());
+/// let digits = bytes.view_bits::<Msb0>().chunks(4).map(|it| it.load_be::<u8>());
 /// assert_eq!(digits.collect::<Vec<_>>(), [1, 2, 3, 4]);
 /// ```
 #[derive(Clone, Debug)]

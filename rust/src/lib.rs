@@ -9,15 +9,25 @@ compile_error!("the library is proved for a usize of 64 bits");
 #[cfg(test)]
 extern crate std;
 
+mod array;
+#[cfg(feature = "alloc")]
+mod boxed;
 mod combine;
 mod compare;
+mod domain;
 mod edit;
 mod find;
+mod freemap;
 mod index;
 mod iter;
+mod macros;
 mod number;
 mod order;
+mod own;
+mod pieces;
+pub mod prelude;
 mod proved;
+mod proxy;
 mod range;
 mod readers;
 mod refusal;
@@ -28,14 +38,26 @@ mod slice_mut;
 mod stream;
 mod sys;
 mod text;
+#[cfg(feature = "alloc")]
+mod vec;
 mod view;
 mod words;
 mod writer;
 
+pub use array::BitArray;
+#[cfg(feature = "alloc")]
+pub use boxed::BitBox;
+pub use domain::Domain;
+pub use freemap::{FreeMap, FreeRuns};
 pub use index::BitIndex;
 pub use iter::{Chunks, Iter, Ones, Zeros};
+#[doc(hidden)]
+pub use macros::parts as __macros;
 pub use number::Number;
-pub use order::{Lsb0, Msb0, Order};
+pub use order::{LocalBits, Lsb0, Msb0, Order};
+pub use own::AsBitSlice;
+pub use pieces::{ChunksExact, RChunks, Windows};
+pub use proxy::{BitRef, IterMut};
 pub use refusal::Refusal;
 pub use register::Register;
 pub use run::{Command, ManySpans, Reply, Request, Spans};
@@ -43,7 +65,9 @@ pub use slice::BitSlice;
 pub use slice_mut::{BitSliceMut, copy_bits};
 pub use stream::BitReader;
 pub use sys::Span;
-pub use view::BitView;
+#[cfg(feature = "alloc")]
+pub use vec::{BitVec, IntoIter};
+pub use view::{AsBits, AsMutBits, BitView};
 pub use writer::BitWriter;
 
 /// The number of the version of the proved library: 10000 times its first part, 100 times its second,

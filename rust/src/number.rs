@@ -12,9 +12,8 @@ use crate::sys::Exports;
 ///
 /// let bytes = [0x12_u8, 0x34, 0xff];
 /// let bits = bytes.view_bits::<Msb0>();
-/// assert_eq!(bits.get(..16).unwrap().load_be::<u16>()?, 0x1234);
-/// assert_eq!(bits.get(16..).unwrap().load_be::<i64>()?, -1);
-/// # Ok::<(), worghulen::Refusal>(())
+/// assert_eq!(bits.get(..16).unwrap().load_be::<u16>(), 0x1234);
+/// assert_eq!(bits.get(16..).unwrap().load_be::<i64>(), -1);
 /// ```
 pub trait Number: digits::Digits + Copy {}
 

@@ -1,5 +1,7 @@
 //! Where the bit of an index lies in a word.
 
+use crate::proved::bitvec::mem::BitRegister;
+use crate::proved::bitvec::order;
 use core::fmt::Debug;
 use core::hash::Hash;
 
@@ -30,10 +32,15 @@ pub struct Lsb0;
 #[derive(Clone, Copy, PartialEq, Eq, Hash, Debug, Default)]
 pub struct Msb0;
 
+/// The order that the crate `bitvec` has of this name on most machines, and this crate on each.
+pub type LocalBits = Lsb0;
+
 impl Order for Lsb0 {}
 impl Order for Msb0 {}
 
 impl code::Code for Lsb0 {
+    type In<R: BitRegister> = order::Lsb0;
+
     const CODE: u8 = 0;
     const BIG: bool = false;
 
@@ -44,6 +51,8 @@ impl code::Code for Lsb0 {
 }
 
 impl code::Code for Msb0 {
+    type In<R: BitRegister> = order::Msb0;
+
     const CODE: u8 = 1;
     const BIG: bool = true;
 
@@ -57,10 +66,16 @@ impl code::Code for Msb0 {
 }
 
 pub(crate) mod code {
+    use crate::proved::bitvec::mem::BitRegister;
+    use crate::proved::bitvec::order::BitOrder;
+
     /// The number by which the library knows an order. Nothing outside this crate can name it.
     pub trait Code {
         /// The number.
         const CODE: u8;
+
+        /// The order as the library has it.
+        type In<R: BitRegister>: BitOrder<R>;
 
         /// Whether a number has the bits in this order, or in the opposite one, where the part of
         /// its first word is highest.

@@ -4,7 +4,7 @@ use crate::refusal::Refusal;
 use core::ops::{Bound, Range, RangeBounds};
 
 /// How many bits a range has at most.
-const MAX_BITS: usize = usize::MAX >> 3;
+pub(crate) const MAX_BITS: usize = usize::MAX >> 3;
 
 /// How many bits a number of words have, or the greatest number where that is none.
 #[inline]

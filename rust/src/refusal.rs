@@ -1,7 +1,7 @@
 //! Why a call is refused.
 
 use core::error::Error;
-use core::fmt::{self, Display, Formatter};
+use core::fmt::{self, Debug, Display, Formatter};
 
 /// Why a call is refused. It has then changed nothing, but for the room of a
 /// [`ManySpans`](crate::ManySpans).
@@ -47,6 +47,10 @@ pub enum Refusal {
     Lengths,
     /// A cut does not lie between two words, so that both parts would have bits of one word.
     SharedWord,
+    /// There is no memory for so many bits. What was to grow is as it was.
+    NoMemory,
+    /// The character of a text at this place, counted from 0, is neither `0` nor `1`.
+    NotADigit(usize),
     /// The library answered with a number that this crate does not know: it is of another version.
     Unknown(u8),
 }
@@ -97,9 +101,49 @@ impl Display for Refusal {
             Self::Reversed => "a range starts past its end",
             Self::Lengths => "the slices have different lengths",
             Self::SharedWord => "a cut does not lie between two words",
+            Self::NoMemory => "there is no memory for so many bits",
+            Self::NotADigit(at) => return write!(f, "character {at} is neither 0 nor 1"),
             Self::Unknown(number) => return write!(f, "the library answered {number}"),
         })
     }
 }
 
 impl Error for Refusal {}
+
+/// Panics: what was asked of how many bits, why it is refused, and what to call instead.
+#[cold]
+#[track_caller]
+pub(crate) fn refused(call: &str, asked: &dyn Debug, len: usize, why: Refusal) -> ! {
+    panic!("{call} {asked:?} of {len} bits: {why} (`try_{call}` answers that)")
+}
+
+/// Makes of each call that answers a `Result` one that panics where it is refused.
+macro_rules! or_panics {
+    ([$($generics:tt)*] $type:ty: $(
+        $(#[$attribute:meta])*
+        $name:ident by $call:ident ($($arg:ident: $t:ty),*) $(-> $result:ty)?;
+    )*) => {
+        impl<$($generics)*> $type { $(
+            $(#[$attribute])*
+            ///
+            /// # Panics
+            ///
+            #[doc = concat!(
+                "Panics, with what was asked and the length, where [`", stringify!($call), "`](Self::",
+                stringify!($call), ") is refused. No bit is changed then.",
+            )]
+            #[inline]
+            #[track_caller]
+            pub fn $name(&mut self, $($arg: $t),*) $(-> $result)? {
+                match self.$call($($arg),*) {
+                    Ok(answer) => answer,
+                    Err(why) => {
+                        crate::refusal::refused(stringify!($name), &($($arg),*), self.len(), why)
+                    }
+                }
+            }
+        )* }
+    };
+}
+
+pub(crate) use or_panics;

@@ -1,10 +1,10 @@
 //! The words of a memory.
 
-use crate::sys::Exports;
+use crate::own::Owned;
 use core::fmt::Debug;
 
 /// A word of a memory: `u8`, `u16`, `u32`, `u64` or `usize`, and no other.
-pub trait Register: Exports + Copy + Debug + Send + Sync + 'static {
+pub trait Register: Owned + Copy + Debug + Send + Sync + 'static {
     /// How many bits a word has.
     ///
     /// # Examples

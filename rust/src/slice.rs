@@ -4,8 +4,9 @@ use crate::index::BitIndex;
 use crate::number::Number;
 use crate::order::Order;
 use crate::range::{bits_of, within};
-use crate::refusal::Refusal;
+use crate::refusal::{Refusal, refused};
 use crate::register::Register;
+use crate::slice_mut::BitSliceMut;
 use crate::words::Words;
 use core::marker::PhantomData;
 use core::ops::RangeBounds;
@@ -58,6 +59,12 @@ pub(crate) fn load_bits<T: Register, O: Order>(words: &[T], start: usize, count:
     )
 }
 
+#[cold]
+#[track_caller]
+fn too_many(words: usize, why: Refusal) -> ! {
+    panic!("the bits of {words} words: {why} (`new` answers that)")
+}
+
 impl<'a, T: Register, O: Order> BitSlice<'a, T, O> {
     /// The bits of a range of places. Constant time.
     ///
@@ -81,6 +88,87 @@ impl<'a, T: Register, O: Order> BitSlice<'a, T, O> {
     pub fn new(words: &'a [T], range: impl RangeBounds<usize>) -> Result<Self, Refusal> {
         let (start, len) = within(range, bits_of(words.len(), T::BITS))?;
         Ok(Self::of(words, start, len))
+    }
+
+    /// All bits of words. Constant time.
+    ///
+    /// # Panics
+    ///
+    /// Panics where there are more than 2305843009213693951 bits; [`new`](Self::new) does not.
+    ///
+    /// # Examples
+    ///
+    /// ```
+    /// use worghulen::{BitSlice, Lsb0};
+    ///
+    /// assert_eq!(BitSlice::<_, Lsb0>::from_slice(&[1_u8, 1]).count_ones(), 2);
+    /// ```
+    #[inline]
+    #[must_use]
+    #[track_caller]
+    pub fn from_slice(words: &'a [T]) -> Self {
+        match Self::new(words, ..) {
+            Ok(bits) => bits,
+            Err(why) => too_many(words.len(), why),
+        }
+    }
+
+    /// All bits of words, to be written. Constant time.
+    ///
+    /// # Panics
+    ///
+    /// As [`from_slice`](Self::from_slice).
+    ///
+    /// # Examples
+    ///
+    /// ```
+    /// use worghulen::{BitSlice, Msb0};
+    ///
+    /// let mut words = [0_u8; 2];
+    /// BitSlice::<_, Msb0>::from_slice_mut(&mut words).set(8, true);
+    /// assert_eq!(words, [0, 0x80]);
+    /// ```
+    #[inline]
+    #[must_use]
+    #[track_caller]
+    pub fn from_slice_mut(words: &'a mut [T]) -> BitSliceMut<'a, T, O> {
+        let len = words.len();
+        match BitSliceMut::new(words, ..) {
+            Ok(bits) => bits,
+            Err(why) => too_many(len, why),
+        }
+    }
+
+    /// All bits of a word. Constant time.
+    ///
+    /// # Examples
+    ///
+    /// ```
+    /// use worghulen::{BitSlice, Msb0};
+    ///
+    /// assert_eq!(BitSlice::<u8, Msb0>::from_element(&3).to_string(), "00000011");
+    /// ```
+    #[inline]
+    #[must_use]
+    pub fn from_element(word: &'a T) -> Self {
+        Self::from_slice(core::slice::from_ref(word))
+    }
+
+    /// All bits of a word, to be written. Constant time.
+    ///
+    /// # Examples
+    ///
+    /// ```
+    /// use worghulen::{BitSlice, Msb0};
+    ///
+    /// let mut word = 0_u16;
+    /// BitSlice::<_, Msb0>::from_element_mut(&mut word).set(0, true);
+    /// assert_eq!(word, 0x8000);
+    /// ```
+    #[inline]
+    #[must_use]
+    pub fn from_element_mut(word: &'a mut T) -> BitSliceMut<'a, T, O> {
+        Self::from_slice_mut(core::slice::from_mut(word))
     }
 
     /// A number of bits from a place on, which lie in the words.
@@ -242,16 +330,16 @@ impl<'a, T: Register, O: Order> BitSlice<'a, T, O> {
     /// use worghulen::{BitSlice, Lsb0, Refusal};
     ///
     /// let bits = BitSlice::<_, Lsb0>::new(&[0x30_u8, 0x0f], 4..12)?;
-    /// assert_eq!(bits.load_le::<u8>()?, 0xf3);
-    /// assert_eq!(bits.load_le::<u32>()?, 0xf3);
-    /// assert_eq!(bits.load_le::<i32>()?, -13);
+    /// assert_eq!(bits.try_load_le::<u8>()?, 0xf3);
+    /// assert_eq!(bits.try_load_le::<u32>()?, 0xf3);
+    /// assert_eq!(bits.try_load_le::<i32>()?, -13);
     /// let bits = BitSlice::<_, Lsb0>::new(&[0x30_u8, 0x02], ..)?;
-    /// assert_eq!(bits.load_le::<u8>(), Err(Refusal::TooWide));
+    /// assert_eq!(bits.try_load_le::<u8>(), Err(Refusal::TooWide));
     /// # Ok::<(), worghulen::Refusal>(())
     /// ```
     #[inline]
-    pub fn load_le<N: Number>(&self) -> Result<N, Refusal> {
-        self.load(false)
+    pub fn try_load_le<N: Number>(&self) -> Result<N, Refusal> {
+        self.number(false)
     }
 
     /// The number whose digits the bits are, those of the first word highest.
@@ -270,16 +358,86 @@ impl<'a, T: Register, O: Order> BitSlice<'a, T, O> {
     /// use worghulen::{BitSlice, Msb0};
     ///
     /// let bits = BitSlice::<_, Msb0>::new(&[0x02_u8, 0x30], 4..12)?;
-    /// assert_eq!(bits.load_be::<u16>()?, 0x23);
+    /// assert_eq!(bits.try_load_be::<u16>()?, 0x23);
     /// # Ok::<(), worghulen::Refusal>(())
     /// ```
     #[inline]
-    pub fn load_be<N: Number>(&self) -> Result<N, Refusal> {
-        self.load(true)
+    pub fn try_load_be<N: Number>(&self) -> Result<N, Refusal> {
+        self.number(true)
+    }
+
+    /// The number whose digits the bits are, those of the first word lowest: what
+    /// [`try_load_le`](Self::try_load_le) answers. Constant time.
+    ///
+    /// # Panics
+    ///
+    /// Panics where there are more bits than the number's type has.
+    ///
+    /// # Examples
+    ///
+    /// ```
+    /// use worghulen::{BitView, Lsb0};
+    ///
+    /// let words = [0x30_u8, 0x0f];
+    /// assert_eq!(words.view_bits::<Lsb0>().get(4..12).unwrap().load_le::<u8>(), 0xf3);
+    /// ```
+    #[inline]
+    #[must_use]
+    #[track_caller]
+    pub fn load_le<N: Number>(&self) -> N {
+        match self.number(false) {
+            Ok(number) => number,
+            Err(why) => refused("load_le", &(), self.len, why),
+        }
+    }
+
+    /// The number whose digits the bits are, those of the first word highest: what
+    /// [`try_load_be`](Self::try_load_be) answers. Constant time.
+    ///
+    /// # Panics
+    ///
+    /// Panics where there are more bits than the number's type has.
+    ///
+    /// # Examples
+    ///
+    /// ```
+    /// use worghulen::{BitView, Msb0};
+    ///
+    /// let words = [0x12_u8, 0x34];
+    /// assert_eq!(words.view_bits::<Msb0>().get(4..).unwrap().load_be::<u16>(), 0x234);
+    /// ```
+    #[inline]
+    #[must_use]
+    #[track_caller]
+    pub fn load_be<N: Number>(&self) -> N {
+        match self.number(true) {
+            Ok(number) => number,
+            Err(why) => refused("load_be", &(), self.len, why),
+        }
+    }
+
+    /// As [`load_le`](Self::load_le), on every machine. Constant time.
+    ///
+    /// # Panics
+    ///
+    /// As that call.
+    ///
+    /// # Examples
+    ///
+    /// ```
+    /// use worghulen::{BitView, Lsb0};
+    ///
+    /// assert_eq!([0x34_u8, 0x12].view_bits::<Lsb0>().load::<u16>(), 0x1234);
+    /// ```
+    #[inline]
+    #[must_use]
+    #[track_caller]
+    pub fn load<N: Number>(&self) -> N {
+        self.load_le()
     }
 
     #[inline]
-    fn load<N: Number>(&self, big: bool) -> Result<N, Refusal> {
+    fn number<N: Number>(&self, big: bool) -> Result<N, Refusal> {
         if self.len > N::WIDTH {
             return Err(Refusal::TooWide);
         }

@@ -1,5 +1,6 @@
 //! Bits that are written.
 
+use crate::index::BitIndex;
 use crate::order::Order;
 use crate::range::{bits_of, run_of, within};
 use crate::refusal::Refusal;
@@ -19,8 +20,8 @@ use core::ops::RangeBounds;
 ///
 /// let mut words = [0_u8; 2];
 /// let mut bits = BitSliceMut::<_, Lsb0>::new(&mut words, 4..12)?;
-/// bits.store_le(0x2b)?;
-/// bits.set(7, true)?;
+/// bits.store_le(0x2b);
+/// bits.set(7, true);
 /// assert_eq!(words, [0xb0, 0x0a]);
 /// # Ok::<(), worghulen::Refusal>(())
 /// ```
@@ -57,7 +58,7 @@ impl<'a, T: Register, O: Order> BitSliceMut<'a, T, O> {
 
     /// A number of bits from a place on, which lie in the words.
     #[inline]
-    fn of(words: &'a mut [T], start: usize, len: usize) -> Self {
+    pub(crate) fn of(words: &'a mut [T], start: usize, len: usize) -> Self {
         Self {
             words,
             start,
@@ -91,8 +92,20 @@ impl<'a, T: Register, O: Order> BitSliceMut<'a, T, O> {
         BitSlice::of(self.words, self.start, self.len)
     }
 
-    /// The bits of a range of indices, to be written, and `None` where these are not among the
-    /// bits. Constant time.
+    /// The words, the place of the first bit in them, and how many bits there are.
+    #[inline]
+    pub(crate) fn into_place(self) -> (&'a mut [T], usize, usize) {
+        (self.words, self.start, self.len)
+    }
+
+    /// All bits, for as long as this slice is lent.
+    #[inline]
+    pub(crate) fn lend(&mut self) -> BitSliceMut<'_, T, O> {
+        BitSliceMut::of(self.words, self.start, self.len)
+    }
+
+    /// The bits of a range of indices, or the bit at an index as a [`BitRef`](crate::BitRef), to be
+    /// written, and `None` where these are not among the bits. Constant time.
     ///
     /// # Examples
     ///
@@ -103,12 +116,13 @@ impl<'a, T: Register, O: Order> BitSliceMut<'a, T, O> {
     /// let mut bits = words.view_bits_mut::<Lsb0>();
     /// bits.get_mut(2..12).unwrap().get_mut(3..).unwrap().fill(true);
     /// assert!(bits.get_mut(12..17).is_none());
-    /// assert_eq!(words, [0b1110_0000, 0b0000_1111]);
+    /// *bits.get_mut(0).unwrap() = true;
+    /// assert_eq!(words, [0b1110_0001, 0b0000_1111]);
     /// ```
     #[inline]
     #[must_use]
-    pub fn get_mut(&mut self, range: impl RangeBounds<usize>) -> Option<BitSliceMut<'_, T, O>> {
-        self.part_mut(range).ok()
+    pub fn get_mut<'b, I: BitIndex<'b, T, O>>(&'b mut self, index: I) -> Option<I::OutputMut> {
+        index.of_mut(self.lend())
     }
 
     /// The bits of a range of indices, to be written, or why it is refused. Constant time.
@@ -124,8 +138,8 @@ impl<'a, T: Register, O: Order> BitSliceMut<'a, T, O> {
     ///
     /// let mut word = 0_u16;
     /// let mut bits = word.view_bits_mut::<Msb0>();
-    /// bits.part_mut(..4)?.store_be(0x7)?;
-    /// bits.part_mut(12..)?.store_be(0x9)?;
+    /// bits.part_mut(..4)?.store_be(0x7);
+    /// bits.part_mut(12..)?.store_be(0x9);
     /// assert_eq!(word, 0x7009);
     /// # Ok::<(), worghulen::Refusal>(())
     /// ```
@@ -185,7 +199,7 @@ impl<'a, T: Register, O: Order> BitSliceMut<'a, T, O> {
     /// let mut bits = BitSliceMut::<_, Lsb0>::new(&mut words, 4..20)?;
     /// let (mut low, mut high) = bits.split_at_mut(12)?;
     /// low.fill(true);
-    /// high.set(1, true)?;
+    /// high.set(1, true);
     /// assert_eq!(bits.split_at_mut(11).err(), Some(Refusal::SharedWord));
     /// assert_eq!(words, [0xf0, 0xff, 0x02]);
     ///

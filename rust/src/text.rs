@@ -1,9 +1,14 @@
 //! Texts of bits.
 
+use crate::array::BitArray;
+#[cfg(feature = "alloc")]
+use crate::boxed::BitBox;
 use crate::order::Order;
 use crate::register::Register;
 use crate::slice::BitSlice;
 use crate::slice_mut::BitSliceMut;
+#[cfg(feature = "alloc")]
+use crate::vec::BitVec;
 use core::fmt::{self, Alignment, Binary, Debug, Display, Formatter, Write};
 
 /// Writes a prefix and the bits in order, each as 0 or 1, in as wide a field as is asked for.
@@ -81,15 +86,28 @@ impl<T: Register, O: Order> Debug for BitSlice<'_, T, O> {
     }
 }
 
-macro_rules! texts {
-    ($($text:ident)*) => { $(
+macro_rules! text {
+    ($text:ident [$($generics:tt)*] $type:ty) => {
         /// The text of the same bits as a [`BitSlice`]. Costs by bits.
-        impl<T: Register, O: Order> $text for BitSliceMut<'_, T, O> {
+        impl<$($generics)*> $text for $type {
             fn fmt(&self, f: &mut Formatter<'_>) -> fmt::Result {
                 $text::fmt(&self.as_bitslice(), f)
             }
         }
-    )* };
+    };
 }
 
-texts!(Display Binary Debug);
+macro_rules! texts {
+    ($generics:tt $type:ty) => {
+        text! { Display $generics $type }
+        text! { Binary $generics $type }
+        text! { Debug $generics $type }
+    };
+}
+
+texts! { [T: Register, O: Order] BitSliceMut<'_, T, O> }
+texts! { [T: Register, O: Order, const W: usize] BitArray<[T; W], O> }
+#[cfg(feature = "alloc")]
+texts! { [T: Register, O: Order] BitVec<T, O> }
+#[cfg(feature = "alloc")]
+texts! { [T: Register, O: Order] BitBox<T, O> }

@@ -16,12 +16,11 @@ use core::slice;
 /// let words = [0x0f_u8, 0x01];
 /// assert_eq!(words.view_bits::<Lsb0>().count_ones(), 5);
 /// let mut word = 0_u32;
-/// word.view_bits_mut::<Lsb0>().set(9, true)?;
+/// word.view_bits_mut::<Lsb0>().set(9, true);
 /// assert_eq!(word, 0x200);
 /// let mut seats = [0_usize; 2];
-/// seats.view_bits_mut::<Lsb0>().set(64, true)?;
+/// seats.view_bits_mut::<Lsb0>().set(64, true);
 /// assert_eq!(seats, [0, 1]);
-/// # Ok::<(), worghulen::Refusal>(())
 /// ```
 pub trait BitView {
     /// The type of the words.
@@ -47,12 +46,12 @@ impl<T: Register> BitView for [T] {
 
     #[inline]
     fn view_bits<O: Order>(&self) -> BitSlice<'_, T, O> {
-        BitSlice::new(self, ..).expect("the words have too many bits")
+        BitSlice::from_slice(self)
     }
 
     #[inline]
     fn view_bits_mut<O: Order>(&mut self) -> BitSliceMut<'_, T, O> {
-        BitSliceMut::new(self, ..).expect("the words have too many bits")
+        BitSlice::from_slice_mut(self)
     }
 }
 
@@ -89,3 +88,53 @@ macro_rules! words {
 }
 
 words!(u8 u16 u32 u64 usize);
+
+/// What lends a slice of words, as a `Vec` does, seen as bits.
+///
+/// # Examples
+///
+/// ```
+/// use worghulen::{AsBits, Lsb0};
+///
+/// assert_eq!(vec![3_u8, 1].as_bits::<Lsb0>().count_ones(), 3);
+/// ```
+pub trait AsBits<T: Register> {
+    /// All their bits, to be read. Constant time.
+    ///
+    /// # Panics
+    ///
+    /// As [`BitView::view_bits`].
+    fn as_bits<O: Order>(&self) -> BitSlice<'_, T, O>;
+}
+
+impl<T: Register, A: AsRef<[T]> + ?Sized> AsBits<T> for A {
+    fn as_bits<O: Order>(&self) -> BitSlice<'_, T, O> {
+        self.as_ref().view_bits()
+    }
+}
+
+/// What lends a slice of words for writing, as a `Vec` does, seen as bits.
+///
+/// # Examples
+///
+/// ```
+/// use worghulen::{AsMutBits, Lsb0};
+///
+/// let mut words = vec![0_u8; 2];
+/// words.as_mut_bits::<Lsb0>().set(9, true);
+/// assert_eq!(words, [0, 2]);
+/// ```
+pub trait AsMutBits<T: Register> {
+    /// All their bits, to be written. Constant time.
+    ///
+    /// # Panics
+    ///
+    /// As [`BitView::view_bits`].
+    fn as_mut_bits<O: Order>(&mut self) -> BitSliceMut<'_, T, O>;
+}
+
+impl<T: Register, A: AsMut<[T]> + ?Sized> AsMutBits<T> for A {
+    fn as_mut_bits<O: Order>(&mut self) -> BitSliceMut<'_, T, O> {
+        self.as_mut().view_bits_mut()
+    }
+}

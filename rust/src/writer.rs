@@ -121,7 +121,7 @@ impl<'a, T: Register, O: Order> BitWriter<'a, T, O> {
     /// let mut writer = BitWriter::new(words.view_bits_mut::<Msb0>());
     /// writer.write_be(4, 6_u8)?;
     /// let mut bits = writer.finish();
-    /// bits.set(7, false)?;
+    /// bits.set(7, false);
     /// assert_eq!(words, [0b0110_1110]);
     /// # Ok::<(), worghulen::Refusal>(())
     /// ```
@@ -196,7 +196,7 @@ impl<'a, T: Register, O: Order> BitWriter<'a, T, O> {
         if self.remaining() == 0 {
             return Err(Refusal::TooFew);
         }
-        self.bits.set(self.position, bit)?;
+        self.bits.try_set(self.position, bit)?;
         self.position += 1;
         Ok(())
     }

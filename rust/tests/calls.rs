@@ -343,12 +343,12 @@ mod cases {
         let mut words = vec![T::of(0); (start + len).div_ceil(T::BITS) + random.below(2)];
         let mut bits = BitSliceMut::<T, O>::new(&mut words, start..start + len).unwrap();
         for (i, bit) in model.iter().take(len).enumerate() {
-            bits.set(i, *bit).unwrap();
+            bits.set(i, *bit);
         }
         if len > 0 && random.one_in(2) {
             let i = random.below(len);
             let bit = bits[i];
-            bits.set(i, !bit).unwrap();
+            bits.set(i, !bit);
         }
         let other = list(bits.as_bitslice());
         (words, start..start + len, other)
@@ -464,13 +464,13 @@ mod cases {
             random.bit(),
         );
         let expected = own.get(i).copied().ok_or(Refusal::Outside);
-        assert_eq!(bits.replace(i, bit), expected);
+        assert_eq!(bits.try_replace(i, bit), expected);
         if expected.is_ok() {
             own[i] = bit;
         }
         let both = i.max(j) < own.len();
         assert_eq!(
-            bits.swap(i, j),
+            bits.try_swap(i, j),
             if both { Ok(()) } else { Err(Refusal::Outside) }
         );
         if both {
@@ -504,10 +504,10 @@ mod cases {
                 own.reverse();
                 expected
             }
-            1 => bits.shift_left(by),
-            2 => bits.shift_right(by),
-            3 => bits.rotate_left(by),
-            _ => bits.rotate_right(by),
+            1 => bits.try_shift_left(by),
+            2 => bits.try_shift_right(by),
+            3 => bits.try_rotate_left(by),
+            _ => bits.try_rotate_right(by),
         };
         assert_eq!(answer, expected, "{kind} {by}");
         if expected.is_ok() {
@@ -585,9 +585,9 @@ mod cases {
         let bits = BitSlice::<T, O>::new(&words, range.clone()).unwrap();
         let big = random.bit();
         let (all, own) = if big {
-            (bits.load_be::<u64>(), bits.load_be::<N>())
+            (bits.try_load_be::<u64>(), bits.try_load_be::<N>())
         } else {
-            (bits.load_le::<u64>(), bits.load_le::<N>())
+            (bits.try_load_le::<u64>(), bits.try_load_le::<N>())
         };
         let expected = all.and_then(|all| {
             if count > width {
@@ -604,9 +604,9 @@ mod cases {
         let before = list(bits.as_bitslice());
         bits.fill(random.bit());
         let stored = if big {
-            bits.store_be(number)
+            bits.try_store_be(number)
         } else {
-            bits.store_le(number)
+            bits.try_store_le(number)
         };
         assert_eq!((stored, list(bits.as_bitslice())), (Ok(()), before));
     }
@@ -636,7 +636,7 @@ fn views_see_all_bits() {
     );
     words.view_bits_mut::<Msb0>().fill(true);
     let mut word = 0_u64;
-    word.view_bits_mut::<Msb0>().set(0, true).unwrap();
+    word.view_bits_mut::<Msb0>().set(0, true);
     assert_eq!((words, word), ([0xffff; 2], 1 << 63));
     assert!(Vec::<u8>::new().view_bits::<Lsb0>().is_empty());
 }
@@ -728,6 +728,6 @@ fn numbers_of_no_bits_are_zero() {
     assert_eq!(bits, 8);
     let words = [0xff_u8];
     let none = words.view_bits::<Lsb0>().get(3..3).unwrap();
-    zero(none.load_le::<u8>());
-    zero(none.load_be::<i64>());
+    zero(none.try_load_le::<u8>());
+    zero(none.try_load_be::<i64>());
 }

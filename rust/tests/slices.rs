@@ -61,7 +61,7 @@ mod cases {
         let range = random.range(model.len());
         let (index, bit) = (random.place(range.len()), random.bit());
         let answer = BitSliceMut::<T, O>::new(&mut words, range.clone())
-            .and_then(|mut bits| bits.set(index, bit));
+            .and_then(|mut bits| bits.try_set(index, bit));
         let expected = checked(&range, model.len()).and_then(|range| {
             let place = model[range].get_mut(index).ok_or(Refusal::Outside)?;
             *place = bit;
@@ -107,8 +107,13 @@ mod cases {
         let words = random.words::<T>();
         let model = bits_of::<T, O>(&words);
         let range = random.short_range(model.len());
-        let answer = BitSlice::<T, O>::new(&words, range.clone())
-            .and_then(|bits| if big { bits.load_be() } else { bits.load_le() });
+        let answer = BitSlice::<T, O>::new(&words, range.clone()).and_then(|bits| {
+            if big {
+                bits.try_load_be()
+            } else {
+                bits.try_load_le()
+            }
+        });
         let expected = checked_number(&range, model.len()).map(|range| {
             let places = by_digit::<T, O>(range, big).into_iter().rev();
             places.fold(0, |number, place| number << 1 | u64::from(model[place]))
@@ -122,9 +127,9 @@ mod cases {
         let (range, number) = (random.short_range(model.len()), random.number());
         let answer = BitSliceMut::<T, O>::new(&mut words, range.clone()).and_then(|mut bits| {
             if big {
-                bits.store_be(number)
+                bits.try_store_be(number)
             } else {
-                bits.store_le(number)
+                bits.try_store_le(number)
             }
         });
         let expected = checked_number(&range, model.len()).map(|range| {
@@ -245,7 +250,7 @@ mod cases {
             model[range].copy_within(source, start);
             Ok(())
         });
-        assert_eq!(bits.copy_within(source, start), expected);
+        assert_eq!(bits.try_copy_within(source, start), expected);
         assert_eq!(bits_of::<T, O>(&words), model);
     }
 

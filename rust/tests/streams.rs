@@ -396,7 +396,7 @@ fn numbers_of_usize() {
 #[test]
 fn codes_at_the_ends_of_types() {
     let mut words = [0_u8; 17];
-    words.view_bits_mut::<Msb0>().set(64, true).unwrap();
+    words.view_bits_mut::<Msb0>().set(64, true);
     let mut reader = BitReader::new(words.view_bits::<Msb0>());
     assert_eq!(reader.read_exp_golomb::<u32>(), Err(Refusal::TooLarge));
     assert_eq!(reader.read_exp_golomb::<i64>(), Err(Refusal::TooLarge));
@@ -404,7 +404,7 @@ fn codes_at_the_ends_of_types() {
     assert_eq!(reader.read_exp_golomb::<u64>(), Ok(u64::MAX));
     assert_eq!(reader.position(), 129);
 
-    words.view_bits_mut::<Msb0>().set(128, true).unwrap();
+    words.view_bits_mut::<Msb0>().set(128, true);
     let mut reader = BitReader::new(words.view_bits::<Msb0>());
     assert_eq!(reader.read_exp_golomb::<u64>(), Err(Refusal::TooLarge));
     assert_eq!(reader.position(), 0);

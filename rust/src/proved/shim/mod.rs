@@ -6,6 +6,8 @@ pub use core::{cell, cmp, error, fmt, hash, iter, mem, ops};
 
 pub mod alloc;
 pub mod clone;
+#[cfg(feature = "alloc")]
+pub mod vec;
 
 /// Rust's markers, and what says in the sources what a contract sees of a type.
 pub mod marker {
@@ -28,4 +30,6 @@ pub mod str {
 /// What each file of the sources names without an import.
 pub mod prelude {
     pub use super::clone::TryClone;
+    #[cfg(feature = "alloc")]
+    pub use super::vec::Vec;
 }

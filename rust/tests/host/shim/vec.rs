@@ -1,126 +1,8 @@
-//! Vectors that are handed an allocator and answer where memory is refused, over Rust's.
-//!
-//! The memory is Rust's global allocator's. The allocator that a vector is handed is asked first,
-//! and may refuse.
+//! Vectors, and what is written to one.
 
-use super::alloc::{AllocError, Allocator, Global};
+pub use super::super::base::vec::Vec;
+use super::alloc::Allocator;
 use std::io;
-use std::ops::{Deref, DerefMut};
-
-/// A vector with its allocator.
-pub struct Vec<T, A = Global> {
-    items: std::vec::Vec<T>,
-    alloc: A,
-}
-
-impl<T, A: Allocator> Vec<T, A> {
-    /// A vector of nothing.
-    pub fn new(alloc: A) -> Self {
-        Self {
-            items: std::vec::Vec::new(),
-            alloc,
-        }
-    }
-
-    /// Its allocator.
-    pub fn allocator(&self) -> &A {
-        &self.alloc
-    }
-
-    /// Takes room for so many more items, where the allocator gives leave.
-    pub fn reserve(&mut self, more: usize) -> Result<(), AllocError> {
-        let len = self.items.len().checked_add(more).ok_or(AllocError)?;
-        if len <= self.items.capacity() {
-            return Ok(());
-        }
-        let size = len.checked_mul(size_of::<T>()).ok_or(AllocError)?;
-        self.alloc.allocate(size, align_of::<T>())?;
-        self.items.try_reserve(more).map_err(|_| AllocError)
-    }
-
-    /// Puts an item behind the last.
-    pub fn push(&mut self, item: T) -> Result<(), AllocError> {
-        self.reserve(1)?;
-        self.items.push(item);
-        Ok(())
-    }
-
-    /// Puts copies of items behind the last.
-    pub fn extend_from_slice(&mut self, items: &[T]) -> Result<(), AllocError>
-    where
-        T: Clone,
-    {
-        self.reserve(items.len())?;
-        self.items.extend_from_slice(items);
-        Ok(())
-    }
-
-    /// Puts an item before another.
-    pub fn insert(&mut self, at: usize, item: T) -> Result<(), AllocError> {
-        self.reserve(1)?;
-        self.items.insert(at, item);
-        Ok(())
-    }
-
-    /// Puts copies of an item behind the last, or drops the last, until there are so many.
-    pub fn resize(&mut self, len: usize, item: T) -> Result<(), AllocError>
-    where
-        T: Clone,
-    {
-        self.reserve(len.saturating_sub(self.items.len()))?;
-        self.items.resize(len, item);
-        Ok(())
-    }
-}
-
-/// Rust's calls of these names. (Those of slices are here too, so that an argument may read the
-/// vector.)
-impl<T, A> Vec<T, A> {
-    /// How many items have room.
-    pub fn capacity(&self) -> usize {
-        self.items.capacity()
-    }
-
-    /// The items.
-    pub fn as_slice(&self) -> &[T] {
-        &self.items
-    }
-
-    /// The items, to be changed.
-    pub fn as_mut_slice(&mut self) -> &mut [T] {
-        &mut self.items
-    }
-
-    /// How many there are.
-    pub fn len(&self) -> usize {
-        self.items.len()
-    }
-
-    /// Takes the last out.
-    pub fn pop(&mut self) -> Option<T> {
-        self.items.pop()
-    }
-
-    /// Takes one out.
-    pub fn remove(&mut self, at: usize) -> T {
-        self.items.remove(at)
-    }
-
-    /// Takes one out, and puts the last in its place.
-    pub fn swap_remove(&mut self, at: usize) -> T {
-        self.items.swap_remove(at)
-    }
-
-    /// Puts the first behind the others.
-    pub fn rotate_left(&mut self, by: usize) {
-        self.items.rotate_left(by);
-    }
-
-    /// Drops the last, until there are so many.
-    pub fn truncate(&mut self, len: usize) {
-        self.items.truncate(len);
-    }
-}
 
 /// Bytes that are written to it go behind the last.
 impl<A: Allocator> io::Write for Vec<u8, A> {
@@ -131,19 +13,5 @@ impl<A: Allocator> io::Write for Vec<u8, A> {
 
     fn flush(&mut self) -> io::Result<()> {
         Ok(())
-    }
-}
-
-impl<T, A> Deref for Vec<T, A> {
-    type Target = [T];
-
-    fn deref(&self) -> &[T] {
-        &self.items
-    }
-}
-
-impl<T, A> DerefMut for Vec<T, A> {
-    fn deref_mut(&mut self) -> &mut [T] {
-        &mut self.items
     }
 }

@@ -1,0 +1,140 @@
+//! What has bits, and its words and order as the proved library has them.
+
+use crate::order::Order;
+use crate::proved::bitvec::ptr::span::BitSpan;
+use crate::proved::bitvec_slice::slice;
+use crate::register::Register;
+use crate::slice::BitSlice;
+use crate::sys::Exports;
+#[cfg(feature = "alloc")]
+use std_alloc::vec::Vec;
+
+#[cfg(feature = "alloc")]
+extern crate alloc as std_alloc;
+
+/// Words that the library hands back, as this crate has them: the same, of the same type.
+pub trait Owned: Exports {
+    /// A word of no ones.
+    const ZERO: Self;
+
+    /// The words, to be read.
+    fn own(words: &[Self::Word]) -> &[Self];
+
+    /// The words, to be written.
+    fn own_mut(words: &mut [Self::Word]) -> &mut [Self];
+
+    /// A vector, as the library is to have it.
+    #[cfg(feature = "alloc")]
+    fn give(words: Vec<Self>) -> Vec<Self::Word>;
+
+    /// A vector that the library had.
+    #[cfg(feature = "alloc")]
+    fn take(words: Vec<Self::Word>) -> Vec<Self>;
+}
+
+macro_rules! owned {
+    ($($word:ident)*) => { $(
+        impl Owned for $word {
+            const ZERO: Self = 0;
+
+            #[inline]
+            fn own(words: &[Self]) -> &[Self] {
+                words
+            }
+
+            #[inline]
+            fn own_mut(words: &mut [Self]) -> &mut [Self] {
+                words
+            }
+
+            #[cfg(feature = "alloc")]
+            #[inline]
+            fn give(words: Vec<Self>) -> Vec<Self> {
+                words
+            }
+
+            #[cfg(feature = "alloc")]
+            #[inline]
+            fn take(words: Vec<Self>) -> Vec<Self> {
+                words
+            }
+        }
+    )* };
+}
+
+owned!(u8 u16 u32 u64 usize);
+
+/// A slice as the library has it.
+pub type Proved<'a, T, O> = slice::BitSlice<
+    'a,
+    <T as Exports>::Word,
+    <O as crate::order::code::Code>::In<<T as Exports>::Word>,
+>;
+
+impl<'a, T: Register, O: Order> BitSlice<'a, T, O> {
+    /// The same bits, as the library has them.
+    #[inline]
+    pub(crate) fn proved(&self) -> Proved<'a, T, O> {
+        let (words, start) = self.place();
+        let span = BitSpan::at(start, self.len()).ok();
+        span.and_then(|span| slice::BitSlice::new(span, T::words(words)))
+            .expect("a slice lies in its words")
+    }
+}
+
+/// What has bits: a slice, an array, a vector or a box of them, and a reference to one. What takes
+/// bits takes any of these.
+///
+/// # Examples
+///
+/// ```
+/// use worghulen::{AsBitSlice, BitView, Lsb0};
+///
+/// fn ones(bits: impl AsBitSlice) -> usize {
+///     bits.as_bitslice().count_ones()
+/// }
+///
+/// let mut words = [0x0f_u8];
+/// assert_eq!(ones(words.view_bits::<Lsb0>()), 4);
+/// assert_eq!(ones(&words.view_bits_mut::<Lsb0>()), 4);
+/// ```
+pub trait AsBitSlice {
+    /// The type of the words.
+    type Word: Register;
+
+    /// The order of the bits in a word.
+    type Order: Order;
+
+    /// The bits, to be read. Constant time.
+    fn as_bitslice(&self) -> BitSlice<'_, Self::Word, Self::Order>;
+}
+
+impl<T: Register, O: Order> AsBitSlice for BitSlice<'_, T, O> {
+    type Word = T;
+    type Order = O;
+
+    #[inline]
+    fn as_bitslice(&self) -> BitSlice<'_, T, O> {
+        *self
+    }
+}
+
+impl<B: AsBitSlice + ?Sized> AsBitSlice for &B {
+    type Word = B::Word;
+    type Order = B::Order;
+
+    #[inline]
+    fn as_bitslice(&self) -> BitSlice<'_, B::Word, B::Order> {
+        (**self).as_bitslice()
+    }
+}
+
+impl<B: AsBitSlice + ?Sized> AsBitSlice for &mut B {
+    type Word = B::Word;
+    type Order = B::Order;
+
+    #[inline]
+    fn as_bitslice(&self) -> BitSlice<'_, B::Word, B::Order> {
+        (**self).as_bitslice()
+    }
+}
