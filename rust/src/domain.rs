@@ -2,10 +2,24 @@
 
 use crate::order::Order;
 use crate::register::Register;
-use crate::slice::BitSlice;
+use crate::slice::{BitSlice, granted};
+use crate::slice_mut::BitSliceMut;
+use core::slice;
 
 /// The words that a slice has whole, and its parts of others: what [`BitSlice::domain`] returns.
-#[derive(Clone, Copy, Debug)]
+///
+/// As an iterator it hands out the words in order, where bits that the slice has not are zero.
+///
+/// # Examples
+///
+/// ```
+/// use worghulen::{BitView, Lsb0};
+///
+/// let words = [0xff_u8; 3];
+/// let bits = words.view_bits::<Lsb0>();
+/// assert_eq!(bits.get(4..18).unwrap().domain().collect::<Vec<_>>(), [0xf0, 0xff, 0x03]);
+/// ```
+#[derive(Clone, Debug)]
 pub enum Domain<'a, T: Register, O: Order> {
     /// A part of one word that has neither its first nor its last bit.
     Enclave(BitSlice<'a, T, O>),
@@ -18,6 +32,38 @@ pub enum Domain<'a, T: Register, O: Order> {
         /// The first bits of a word, where the slice ends in one.
         tail: Option<BitSlice<'a, T, O>>,
     },
+}
+
+/// The word of a part of one, with zeros for what the part has not.
+fn word<T: Register, O: Order>(part: BitSlice<'_, T, O>) -> T {
+    let ((_, start), mut word) = (part.place(), T::ZERO);
+    let place = start % T::BITS;
+    let mut bits = BitSliceMut::<T, O>::of(slice::from_mut(&mut word), place, part.len());
+    granted(bits.copy_from(part));
+    word
+}
+
+impl<T: Register, O: Order> Iterator for Domain<'_, T, O> {
+    type Item = T;
+
+    fn next(&mut self) -> Option<T> {
+        let (head, body, tail) = match self {
+            Self::Enclave(part) => {
+                let part = *part;
+                *self = BitSlice::default().domain();
+                return Some(word(part));
+            }
+            Self::Region { head, body, tail } => (head, body, tail),
+        };
+        if let Some(part) = head.take() {
+            return Some(word(part));
+        }
+        if let Some((first, rest)) = body.split_first() {
+            *body = rest;
+            return Some(*first);
+        }
+        tail.take().map(word)
+    }
 }
 
 impl<'a, T: Register, O: Order> BitSlice<'a, T, O> {

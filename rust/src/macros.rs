@@ -44,9 +44,7 @@ macro_rules! __words {
 #[macro_export]
 macro_rules! __slice {
     ($store:ty, $order:ty; $words:expr, $len:expr) => {
-        $crate::BitSlice::<'static, $store, $order>::from_slice(&$words)
-            .split_at($len)
-            .0
+        $crate::BitSlice::<'static, $store, $order>::of_first(&$words, $len)
     };
 }
 
@@ -60,7 +58,7 @@ macro_rules! __array {
 
 /// A [`BitSlice`](crate::BitSlice) of bits that are known where the program is compiled, in words
 /// that last as long as it runs: a list of zeros and ones, or one of them and how many. Words and
-/// order stand before, and are `usize` and `Lsb0` where none do.
+/// order stand before, and are `usize` and `Lsb0` where none do. It can be a constant's value.
 ///
 /// # Examples
 ///
@@ -68,8 +66,8 @@ macro_rules! __array {
 /// use worghulen::{BitSlice, Lsb0, Msb0, bits};
 ///
 /// const LEN: usize = 10;
-/// let mask: BitSlice<'static, u8, Msb0> = bits![u8, Msb0; 1; LEN];
-/// assert_eq!(mask.count_ones(), 10);
+/// const MASK: BitSlice<'static, u8, Msb0> = bits![u8, Msb0; 1; LEN];
+/// assert_eq!(MASK.count_ones(), 10);
 /// assert_eq!(bits![0, 1, 1].to_string(), "011");
 /// assert_eq!(bits![u16, Lsb0; 1, 0].iter_ones().next(), Some(0));
 /// assert!(bits![].is_empty());
@@ -113,6 +111,9 @@ macro_rules! bits {
 /// ```
 #[macro_export]
 macro_rules! bitarr {
+    (const $($bits:tt)*) => {
+        $crate::bitarr![$($bits)*]
+    };
     ($store:ident, $order:ident; $bit:expr; $len:expr) => {
         $crate::__words!($store, $order; $crate::__array; $bit; $len)
     };

@@ -133,6 +133,15 @@ impl<T: Register, O: Order> ExactSizeIterator for IterMut<'_, T, O> {}
 
 impl<T: Register, O: Order> FusedIterator for IterMut<'_, T, O> {}
 
+impl<'b, T: Register, O: Order> IntoIterator for &'b mut BitSliceMut<'_, T, O> {
+    type Item = BitRef<'b, T, O>;
+    type IntoIter = IterMut<'b, T, O>;
+
+    fn into_iter(self) -> IterMut<'b, T, O> {
+        self.iter_mut()
+    }
+}
+
 impl<T: Register, O: Order> BitSliceMut<'_, T, O> {
     /// The bits in order, each lent for writing by a [`BitRef`]. Constant time a bit; where many
     /// bits become the same, [`fill`](Self::fill) and its like go by words.

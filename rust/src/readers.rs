@@ -11,7 +11,7 @@ use crate::number::Number;
 use crate::order::Order;
 use crate::own::AsBitSlice;
 use crate::pieces::{ChunksExact, RChunks, Windows};
-use crate::proxy::IterMut;
+use crate::proxy::{BitRef, IterMut};
 use crate::refusal::Refusal;
 use crate::register::Register;
 use crate::slice::BitSlice;
@@ -74,6 +74,7 @@ macro_rules! readers {
             iter_ones() -> Ones<'_, T, O>;
             iter_zeros() -> Zeros<'_, T, O>;
             #[must_use] domain() -> Domain<'_, T, O>;
+            #[cfg(feature = "alloc")] #[must_use] to_bitvec() -> BitVec<T, O>;
             split(is_cut: impl FnMut(usize, &bool) -> bool)
                 -> impl Iterator<Item = BitSlice<'_, T, O>>;
             #[must_use] split_at_checked(
@@ -330,6 +331,15 @@ macro_rules! edits {
                 self.iter()
             }
         }
+
+        impl<'b, $($generics)*> IntoIterator for &'b mut $type {
+            type Item = BitRef<'b, T, O>;
+            type IntoIter = IterMut<'b, T, O>;
+
+            fn into_iter(self) -> IterMut<'b, T, O> {
+                self.iter_mut()
+            }
+        }
     };
 }
 
@@ -341,7 +351,7 @@ macro_rules! lent {
             #[doc = concat!(
                 "As [`BitSliceMut::", stringify!($name), "`] of the same bits, also in what is refused.",
             )]
-            #[allow(missing_docs, clippy::missing_errors_doc)]
+            #[allow(clippy::missing_errors_doc)]
             #[inline]
             #[track_caller]
             pub fn $name(&mut self, $($arg: $t),*) -> $result {

@@ -3,7 +3,7 @@
 use crate::index::BitIndex;
 use crate::number::Number;
 use crate::order::Order;
-use crate::range::{bits_of, within};
+use crate::range::{MAX_BITS, bits_of, within};
 use crate::refusal::{Refusal, refused};
 use crate::register::Register;
 use crate::slice_mut::BitSliceMut;
@@ -59,10 +59,15 @@ pub(crate) fn load_bits<T: Register, O: Order>(words: &[T], start: usize, count:
     )
 }
 
-#[cold]
+/// How many bits so many words have, where these are not too many.
+#[inline]
 #[track_caller]
-fn too_many(words: usize, why: Refusal) -> ! {
-    panic!("the bits of {words} words: {why} (`new` answers that)")
+const fn bits_in<T: Register>(words: usize) -> usize {
+    assert!(
+        words <= MAX_BITS / T::BITS,
+        "the words have more than 2305843009213693951 bits (`new` answers that)",
+    );
+    words * T::BITS
 }
 
 impl<'a, T: Register, O: Order> BitSlice<'a, T, O> {
@@ -106,11 +111,16 @@ impl<'a, T: Register, O: Order> BitSlice<'a, T, O> {
     #[inline]
     #[must_use]
     #[track_caller]
-    pub fn from_slice(words: &'a [T]) -> Self {
-        match Self::new(words, ..) {
-            Ok(bits) => bits,
-            Err(why) => too_many(words.len(), why),
-        }
+    pub const fn from_slice(words: &'a [T]) -> Self {
+        Self::of(words, 0, bits_in::<T>(words.len()))
+    }
+
+    /// The first bits of words that `bits!` wrote.
+    #[doc(hidden)]
+    #[must_use]
+    pub const fn of_first(words: &'a [T], len: usize) -> Self {
+        assert!(len <= bits_in::<T>(words.len()), "there are fewer bits");
+        Self::of(words, 0, len)
     }
 
     /// All bits of words, to be written. Constant time.
@@ -132,11 +142,8 @@ impl<'a, T: Register, O: Order> BitSlice<'a, T, O> {
     #[must_use]
     #[track_caller]
     pub fn from_slice_mut(words: &'a mut [T]) -> BitSliceMut<'a, T, O> {
-        let len = words.len();
-        match BitSliceMut::new(words, ..) {
-            Ok(bits) => bits,
-            Err(why) => too_many(len, why),
-        }
+        let len = bits_in::<T>(words.len());
+        BitSliceMut::of(words, 0, len)
     }
 
     /// All bits of a word. Constant time.
@@ -150,7 +157,7 @@ impl<'a, T: Register, O: Order> BitSlice<'a, T, O> {
     /// ```
     #[inline]
     #[must_use]
-    pub fn from_element(word: &'a T) -> Self {
+    pub const fn from_element(word: &'a T) -> Self {
         Self::from_slice(core::slice::from_ref(word))
     }
 
@@ -173,7 +180,7 @@ impl<'a, T: Register, O: Order> BitSlice<'a, T, O> {
 
     /// A number of bits from a place on, which lie in the words.
     #[inline]
-    pub(crate) fn of(words: &'a [T], start: usize, len: usize) -> Self {
+    pub(crate) const fn of(words: &'a [T], start: usize, len: usize) -> Self {
         Self {
             words,
             start,

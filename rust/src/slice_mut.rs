@@ -282,5 +282,5 @@ pub fn copy_bits<T: Register, O: Order>(
     start: usize,
 ) -> Result<(), Refusal> {
     let source = BitSlice::<T, O>::new(source, range)?;
-    BitSliceMut::<T, O>::new(target, run_of(start, source.len())?)?.copy_from(&source)
+    BitSliceMut::<T, O>::new(target, run_of(start, source.len())?)?.copy_from(source)
 }

@@ -821,24 +821,39 @@ impl<T: Register, O: Order> BitVec<T, O> {
         self.0.try_clone().map(Self).map_err(no_memory)
     }
 
-    /// Puts bits behind the last, up to 64 by one call.
+    /// Puts bits behind the last, up to 1024 by one call.
     #[track_caller]
-    fn gather(&mut self, bits: impl Iterator<Item = bool>) {
-        let mut bits = bits;
+    fn gather(&mut self, mut bits: impl Iterator<Item = bool>) {
         self.reserve(bits.size_hint().0);
         loop {
-            let (mut digits, mut len) = (0_u64, 0);
-            for bit in bits.by_ref().take(64) {
-                digits |= u64::from(bit) << len;
-                len += 1;
+            let (mut block, mut len) = ([0; 16], 0);
+            for word in &mut block {
+                let (digits, count) = gathered(&mut bits);
+                *word = O::turned(digits, 64);
+                len += count;
+                if count < 64 {
+                    break;
+                }
             }
-            let word = [O::turned(digits, 64)];
-            self.extend_from_bitslice(BitSlice::<u64, O>::of(&word, 0, len));
-            if len < 64 {
+            self.extend_from_bitslice(BitSlice::<u64, O>::of(&block, 0, len));
+            if len < 1024 {
                 return;
             }
         }
     }
+}
+
+/// The next bits, at most 64, as digits, the first lowest, and how many they are.
+#[inline]
+fn gathered(bits: &mut impl Iterator<Item = bool>) -> (u64, usize) {
+    let mut digits = 0;
+    for count in 0..64 {
+        let Some(bit) = bits.next() else {
+            return (digits, count);
+        };
+        digits |= u64::from(bit) << count;
+    }
+    (digits, 64)
 }
 
 crate::refusal::or_panics! {
@@ -895,6 +910,7 @@ crate::refusal::or_panics! {
     /// assert_eq!(bits.split_off(1).to_string(), "11");
     /// assert_eq!(bits.to_string(), "0");
     /// ```
+    #[must_use]
     split_off by try_split_off(at: usize) -> Self;
 
     /// Drops the last bits, or puts bits that are `bit` behind them, until there are so many. Costs
@@ -931,7 +947,7 @@ impl<T: Register, O: Order> Default for BitVec<T, O> {
     }
 }
 
-/// Bits behind the last, up to 64 by one call. Costs by bits.
+/// Bits behind the last, up to 1024 by one call. Costs by bits.
 ///
 /// # Examples
 ///

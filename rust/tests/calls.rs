@@ -408,7 +408,7 @@ mod cases {
             } else {
                 Err(Refusal::Lengths)
             };
-            assert_eq!(bits.copy_from(&other), expected);
+            assert_eq!(bits.copy_from(other), expected);
             assert_eq!(bits_of::<T, O>(&words), model);
         }
         with_any_other!(random, with::<T, O>);
@@ -427,9 +427,9 @@ mod cases {
             match kind {
                 0 => bits &= &other,
                 1 => bits |= other.as_bitslice(),
-                2 => bits ^= &other.as_bitslice(),
+                2 => bits ^= other,
                 _ => {
-                    let answer = bits.and_not_from(&other.as_bitslice());
+                    let answer = bits.and_not_from(other.as_bitslice());
                     if range.len() != other_model.len() {
                         assert_eq!(answer, Err(Refusal::Lengths));
                         assert_eq!(bits_of::<T, O>(&words), model);

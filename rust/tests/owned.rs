@@ -47,6 +47,7 @@ fn panics(call: impl FnOnce()) -> String {
 }
 
 /// One random edit, of a vector and of its model.
+#[allow(clippy::too_many_lines)]
 fn step<T: Word, O: Layout>(
     random: &mut Random,
     bits: &mut BitVec<T, O>,
@@ -296,12 +297,12 @@ fn pieces<T: Word, O: Layout>(bits: BitSlice<'_, T, O>, list: &[bool], size: usi
     match bits.domain() {
         Domain::Enclave(part) => assert_eq!(part, bits),
         Domain::Region { head, body, tail } => {
-            let mut all = head.map_or(BitVec::new(), |it| it.to_bitvec());
+            let mut all = head.unwrap_or_default().to_bitvec();
             all.extend_from_raw_slice(body);
             all.extend(tail);
             assert_eq!(all, bits);
             let parts = head.iter().chain(tail.iter());
-            assert!(parts.map(|it| it.len()).all(|len| 0 < len && len < T::BITS));
+            assert!(parts.map(BitSlice::len).all(|len| 0 < len && len < T::BITS));
         }
     }
 }
@@ -357,7 +358,7 @@ fn an_array_is_a_list<T: Word, O: Layout, const N: usize>(random: &mut Random) {
         };
         assert_eq!(bits & there, of(|here, there| here & there)[..]);
         assert_eq!(bits | there, of(|here, there| here | there)[..]);
-        assert_eq!(bits ^ &there, of(|here, there| here ^ there)[..]);
+        assert_eq!(bits ^ there, of(|here, there| here ^ there)[..]);
         assert_eq!(!bits, of(|here, _| !here)[..]);
         assert_eq!(bits.cmp(&bits.clone()), std::cmp::Ordering::Equal);
         assert_eq!(bits.partial_cmp(&there), model.partial_cmp(&others));

@@ -232,7 +232,7 @@ mod cases {
         } else {
             Err(Refusal::Lengths)
         };
-        assert_eq!(bits.copy_from(&source), expected);
+        assert_eq!(bits.copy_from(source), expected);
         assert_eq!(bits_of::<T, O>(&target), model);
     }
 

@@ -1,0 +1,97 @@
+//! The first lines that a user of the crate `bitvec` types, by its names: those that compile here and
+//! mean the same. Each line that a comment numbers counts once.
+
+use std::collections::HashMap;
+use worghulen::prelude::*;
+
+fn ones_of(b: BitSlice<'_, u8, Msb0>) -> usize {
+    b.count_ones()
+}
+
+fn any_ones<T: BitStore, O: BitOrder>(b: BitSlice<'_, T, O>) -> usize {
+    b.count_ones()
+}
+
+/// Those that compiled before there were vectors.
+#[test]
+fn views_and_questions() {
+    let mut data = [0x12_u8, 0x34];
+    let words = vec![0xf0_u16, 1];
+    let bits = data.view_bits::<Msb0>(); // 1
+    assert_eq!(words.view_bits::<Lsb0>().len(), 32); // 2
+    assert_eq!(ones_of(bits), 5); // 3
+    assert!(bits[3]); // 4
+    assert_eq!(bits.iter_ones().collect::<Vec<_>>(), [3, 6, 10, 11, 13]); // 5
+    assert_eq!((bits.count_ones(), bits.count_zeros()), (5, 11)); // 6
+    assert_eq!(
+        (bits.first_one(), bits.last_one(), bits.leading_zeros()),
+        (Some(3), Some(13), 3)
+    ); // 7
+    assert_eq!(bits.chunks(4).count(), 4); // 8
+    assert_eq!(bits.split_at(4).1.len(), 12); // 9
+    assert!([0x80_u8].view_bits::<Msb0>() == [1_u8].view_bits::<Lsb0>()); // 10
+    let mut bits = data.view_bits_mut::<Msb0>();
+    bits.set(0, true); // 11
+    bits.get_mut(8..12).unwrap().fill(false); // 12
+    bits.copy_within(..4, 4); // 13
+    bits.rotate_left(1); // 14
+    bits.shift_left(1);
+    bits.swap(0, 1); // 15
+    bits.reverse();
+    bits.fill(true); // 16
+    assert_eq!(data, [0xff; 2]);
+}
+
+/// What came since.
+#[test]
+fn names() {
+    let mut data = [0x12_u8, 0x34];
+    assert_eq!(data.as_bits::<Lsb0>().len(), 16); // 17, and the prelude is 18
+    assert_eq!(BitSlice::<u8, Msb0>::from_slice(&data).count_ones(), 5); // 19
+    assert_eq!(
+        BitSlice::<u8, Lsb0>::from_element(&data[0]).first_one(),
+        Some(1)
+    ); // 20
+    let n: u16 = data.view_bits::<Msb0>().load_be(); // 21
+    assert_eq!(n, 0x1234);
+    let mut bits = data.view_bits_mut::<Lsb0>();
+    *bits.get_mut(0).unwrap() = true; // 22
+    for mut bit in bits.iter_mut().take(4) {
+        *bit = !*bit; // 23
+    }
+    assert_eq!(data, [0x1c, 0x34]);
+    let bits = data.view_bits::<Lsb0>();
+    assert_eq!(bits.iter().by_vals().filter(|b| *b).count(), 6); // 24
+    assert!(bits.some()); // 25
+    assert_eq!(bits.chunks_exact(5).count(), 3); // 26
+    assert_eq!(bits.windows(5).count(), 12); // 27
+    assert_eq!(bits.rchunks(5).count(), 4); // 28
+    assert_eq!(bits.split(|_, bit| *bit).count(), 7); // 29
+    let mut other = [0_u8; 2];
+    other.view_bits_mut::<Lsb0>().copy_from_bitslice(bits); // 30
+    other.view_bits_mut::<Lsb0>().clone_from_bitslice(bits); // 31
+    assert_eq!(other, data);
+    assert_eq!(any_ones::<u8, LocalBits>(bits), 6); // 32, 33
+    assert_eq!(bits.domain().collect::<Vec<_>>(), data); // 34
+    let refused = std::panic::catch_unwind(move || other.view_bits_mut::<Lsb0>().set(16, true)); // 35
+    assert!(refused.is_err());
+}
+
+/// Bits that are owned.
+#[test]
+fn owned() {
+    const FLAGS: BitArray<[u8; 1], Msb0> = bitarr![const u8, Msb0; 1, 0, 1]; // 36
+    let mut bv: BitVec = BitVec::new();
+    bv.push(true); // 37
+    assert_eq!(bitvec![0; 100].len(), 100); // 38
+    let odd = (0..10).map(|i| i % 2 == 1).collect::<BitVec>(); // 39
+    assert_eq!(odd, bits![0, 1, 0, 1, 0, 1, 0, 1, 0, 1]); // 40
+    assert_eq!(bitarr![u8, Msb0; 1, 0, 1], FLAGS); // 41
+    let zero: BitArr!(for 100, in u32, Msb0) = BitArray::ZERO; // 42
+    assert_eq!(zero.len(), 128);
+    assert_eq!(FLAGS.as_bitslice().to_bitvec().len(), 8); // 43
+    assert_eq!(BitVec::<u8, Lsb0>::from_vec(vec![1, 2]).into_vec(), [1, 2]); // 44
+    let mut names = HashMap::from([(bitvec![0, 1], "one"), (bitvec![1, 1], "three")]);
+    assert_eq!(names.remove(&bitvec![0, 1]), Some("one"));
+    assert_eq!(format!("{:?}", bitvec![u8, Msb0; 0, 1, 1]), "[0, 1, 1]");
+}
