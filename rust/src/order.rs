@@ -39,10 +39,10 @@ impl Order for Lsb0 {}
 impl Order for Msb0 {}
 
 impl code::Code for Lsb0 {
-    type In<R: BitRegister> = order::Lsb0;
-
     const CODE: u8 = 0;
     const BIG: bool = false;
+
+    type In<R: BitRegister> = order::Lsb0;
 
     #[inline]
     fn turned(bits: u64, _: usize) -> u64 {
@@ -51,10 +51,10 @@ impl code::Code for Lsb0 {
 }
 
 impl code::Code for Msb0 {
-    type In<R: BitRegister> = order::Msb0;
-
     const CODE: u8 = 1;
     const BIG: bool = true;
+
+    type In<R: BitRegister> = order::Msb0;
 
     #[inline]
     fn turned(bits: u64, count: usize) -> u64 {

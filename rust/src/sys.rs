@@ -2,8 +2,9 @@
 //! exports for C are made.
 //!
 //! Each is proved for all arguments, with no condition on their values: it tests them, and answers a
-//! status. No other call of the library is made by this crate, so that a call of the library that
-//! has a condition is reached by calls of the library alone, which a proof says meet it.
+//! status. The calls that this crate makes besides, of vectors (`vec`), free maps (`freemap`) and the
+//! search for a pattern (`own`, `pieces`), have no condition either, or it is tested before. So a call
+//! of the library that has one is reached by calls of the library, which a proof says meet it.
 
 use crate::proved::bitvec::mem::BitRegister;
 use crate::proved::bitvec::ptr::combine::{And, AndNot, Or, Xor};

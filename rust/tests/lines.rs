@@ -16,7 +16,7 @@ fn any_ones<T: BitStore, O: BitOrder>(b: BitSlice<'_, T, O>) -> usize {
 #[test]
 fn views_and_questions() {
     let mut data = [0x12_u8, 0x34];
-    let words = vec![0xf0_u16, 1];
+    let words: Vec<u16> = [0xf0, 1].into();
     let bits = data.view_bits::<Msb0>(); // 1
     assert_eq!(words.view_bits::<Lsb0>().len(), 32); // 2
     assert_eq!(ones_of(bits), 5); // 3

@@ -312,7 +312,7 @@ fn a_vector_is_a_list<T: Word, O: Layout>(random: &mut Random) {
     let mut kinds = [0; 32];
     for _ in 0..STEPS {
         kinds[step(random, &mut bits, &mut model)] += 1;
-        if model.len() > 3_000 {
+        if model.len() > 1_200 {
             bits.truncate(40);
             model.truncate(40);
         }
