@@ -164,8 +164,7 @@ impl<'a, R: BitRegister, O: BitOrder<R>> BitWriter<'a, R, O> {
     pub fn written(&self) -> BitSlice<'_, R, O>
         ensures bits { slice_bits result ≡ written self.now }
         ensures memory { slice_memory result ≡ (target_memory self.now).now }
-        ensures span { slice_span result ≡ span_upto (target_span self.now) (bits_written self.now)
-            }
+        ensures span { slice_span result ≡ span_upto (target_span self.now) (bits_written self.now) }
     {
         let (written, _) = self.slice().split_at(self.position());
         written
