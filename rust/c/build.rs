@@ -32,8 +32,9 @@ fn main() -> ExitCode {
 
 fn make() -> Result<(), String> {
     let out = env::var_os("OUT_DIR").ok_or("OUT_DIR is not set")?;
-    let top = Path::new(env!("CARGO_MANIFEST_DIR")).join("../..");
-    let crates = crates::listed(&top)?;
+    let here = Path::new(env!("CARGO_MANIFEST_DIR"));
+    let top = here.ancestors().nth(2).ok_or("no folder above")?;
+    let crates = crates::listed(top)?;
     let names = crates::with_those_below(TOP, &crates);
     let library: Vec<_> = crates
         .iter()

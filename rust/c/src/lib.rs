@@ -16,7 +16,10 @@
 //! - that nothing panics: each export is proved to answer for all arguments. Where it did, the
 //!   program would end by `abort`, or stand still where there is no system.
 #![no_std]
-#![deny(missing_docs, improper_ctypes_definitions)]
+#![deny(missing_docs)]
+
+#[cfg(not(target_pointer_width = "64"))]
+compile_error!("the library is proved for a usize of 64 bits");
 
 mod proved;
 
