@@ -346,6 +346,17 @@ impl<O: Order> Debug for FreeMap<'_, O> {
 }
 
 /// The runs of free blocks: what [`FreeMap::iter_free_runs`] returns.
+///
+/// # Examples
+///
+/// ```
+/// use worghulen::{FreeMap, Lsb0};
+///
+/// let mut words = [!0b0110];
+/// let map = FreeMap::<Lsb0>::from_words(&mut words, 64)?;
+/// assert_eq!(map.iter_free_runs().next(), Some((1, 2)));
+/// # Ok::<(), worghulen::Refusal>(())
+/// ```
 #[must_use = "iterators are lazy and do nothing unless consumed"]
 pub struct FreeRuns<'a, O: Order>(freemap::FreeRuns<'a, <O as Code>::In<u64>>);
 

@@ -33,6 +33,14 @@ pub struct Lsb0;
 pub struct Msb0;
 
 /// The order that the crate `bitvec` has of this name on most machines, and this crate on each.
+///
+/// # Examples
+///
+/// ```
+/// use worghulen::{BitView, LocalBits};
+///
+/// assert_eq!([1_u8].view_bits::<LocalBits>().first(), Some(true));
+/// ```
 pub type LocalBits = Lsb0;
 
 impl Order for Lsb0 {}

@@ -80,14 +80,39 @@ macro_rules! pieces {
 
 pieces! {
     /// Every part of so many bits in a row: what [`BitSlice::windows`] returns.
+    ///
+    /// # Examples
+    ///
+    /// ```
+    /// use worghulen::bits;
+    ///
+    /// let mut windows = bits![0, 1, 1].windows(2);
+    /// assert_eq!((windows.len(), windows.next_back()), (2, Some(bits![1, 1])));
+    /// ```
     Windows: bits, size, i => (bits.len() + 1).saturating_sub(size), i..i + size;
 
     /// Parts of so many bits each, without what is left behind: what [`BitSlice::chunks_exact`]
     /// returns.
+    ///
+    /// # Examples
+    ///
+    /// ```
+    /// use worghulen::bits;
+    ///
+    /// assert_eq!(bits![0, 1, 1].chunks_exact(2).len(), 1);
+    /// ```
     ChunksExact: bits, size, i => bits.len() / size, i * size..i * size + size;
 
     /// Parts of so many bits each from the end on, the last of what is left: what
     /// [`BitSlice::rchunks`] returns.
+    ///
+    /// # Examples
+    ///
+    /// ```
+    /// use worghulen::bits;
+    ///
+    /// assert_eq!(bits![0, 1, 1].rchunks(2).next(), Some(bits![1, 1]));
+    /// ```
     RChunks: bits, size, i => bits.len().div_ceil(size), {
         let end = bits.len() - i * size;
         end.saturating_sub(size)..end

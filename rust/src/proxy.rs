@@ -87,6 +87,19 @@ impl<T: Register, O: Order> Debug for BitRef<'_, T, O> {
 }
 
 /// The bits of a slice in order, each lent for writing: what [`BitSliceMut::iter_mut`] returns.
+///
+/// # Examples
+///
+/// ```
+/// use worghulen::bitarr;
+///
+/// let mut bits = bitarr![0; 64];
+/// let mut lent = bits.iter_mut();
+/// let (mut first, mut last) = (lent.next().unwrap(), lent.next_back().unwrap());
+/// (*first, *last) = (true, true);
+/// drop((first, last));
+/// assert_eq!(bits.iter_ones().collect::<Vec<_>>(), [0, 63]);
+/// ```
 #[derive(Debug)]
 #[must_use = "iterators are lazy and do nothing unless consumed"]
 pub struct IterMut<'a, T: Register, O: Order> {
