@@ -406,7 +406,7 @@ fn the_first_bits(rt: HostRuntime) -> Result<(), Fail> {
     let words = [0xFFu8, 0x0F];
     let front = BitSlice::<u8, Lsb0>::front(&words, 12).ok_or("too few")?;
     assert_eq!(rt; front.len(), 12);
-    assert!(rt; front.all());
+    assert!(rt; front.all_ones());
     assert!(rt; BitSlice::<u8, Lsb0>::front(&words, 17).is_none());
     Ok(())
 }

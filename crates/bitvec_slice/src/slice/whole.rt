@@ -80,7 +80,7 @@ impl<'a, R: BitRegister, O: BitOrder<R>> BitSlice<'a, R, O> {
     /// let words = [0xFFu8, 0x0F];
     /// let front = BitSlice::<u8, Lsb0>::front(&words, 12).ok_or("too few")?;
     /// assert_eq!(rt; front.len(), 12);
-    /// assert!(rt; front.all());
+    /// assert!(rt; front.all_ones());
     /// assert!(rt; BitSlice::<u8, Lsb0>::front(&words, 17).is_none());
     /// ```
     pub fn front(memory: &'a [R], len: usize) -> Option<Self>
