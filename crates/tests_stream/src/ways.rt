@@ -54,7 +54,7 @@ fn next_byte<R: BitRegister, O: BitOrder<R>>(
 ) -> Result<u8, ReadError>
     ensures accepted { IsOk result
         ↔ (to_multiple 8 (bits_read reader.old) + 8 ≤ length (unread reader.old)) }
-    ensures { IfOk result (λ _. bits_read reader.new % 8 ≡ 0) }
+    ensures multiple { IfOk result (λ _. bits_read reader.new % 8 ≡ 0) }
 {
     reader.skip_to_multiple(8)?;
     reader.read_be(8)
