@@ -87,6 +87,13 @@
 #define BITVEC_NONNULL(argument)
 #endif
 
+/* A function of the header: in C one of each file, in C++ one of the program. */
+#if defined(__cplusplus)
+#define BITVEC_INLINE inline
+#else
+#define BITVEC_INLINE static inline
+#endif
+
 /* An enum of bytes, as each argument of one is, so that no conversion is warned of. */
 #if (defined(__cplusplus) && __cplusplus >= 201103L) || \
     (defined(__STDC_VERSION__) && __STDC_VERSION__ >= 202311L)
@@ -130,7 +137,7 @@ BITVEC_ENUM(bitvec_status) {
 };
 
 /* Returns what a status says, in a few words. */
-static inline const char *bitvec_status_text(uint8_t status) {
+BITVEC_INLINE const char *bitvec_status_text(uint8_t status) {
     switch (status) {
     case BITVEC_OK:
         return "done";
@@ -341,21 +348,21 @@ BITVEC_CHECKED uint8_t bitvec_c_first_u64(
 
 /* Writes to `index` the index of the first bit that is zero. Refuses with BITVEC_NO_ORDER,
  * BITVEC_TOO_LONG or BITVEC_OUTSIDE. Costs by words, up to that bit. */
-BITVEC_CHECKED BITVEC_NONNULL(6) static inline uint8_t bitvec_c_first_zero_u8(
+BITVEC_CHECKED BITVEC_NONNULL(6) BITVEC_INLINE uint8_t bitvec_c_first_zero_u8(
     uint8_t order, const uint8_t *memory, size_t words, size_t start, size_t count, size_t *index) {
     return bitvec_c_first_u8(order, memory, words, start, count, false, index);
 }
-BITVEC_CHECKED BITVEC_NONNULL(6) static inline uint8_t bitvec_c_first_zero_u16(
+BITVEC_CHECKED BITVEC_NONNULL(6) BITVEC_INLINE uint8_t bitvec_c_first_zero_u16(
     uint8_t order, const uint16_t *memory, size_t words, size_t start, size_t count, size_t *index)
     {
     return bitvec_c_first_u16(order, memory, words, start, count, false, index);
 }
-BITVEC_CHECKED BITVEC_NONNULL(6) static inline uint8_t bitvec_c_first_zero_u32(
+BITVEC_CHECKED BITVEC_NONNULL(6) BITVEC_INLINE uint8_t bitvec_c_first_zero_u32(
     uint8_t order, const uint32_t *memory, size_t words, size_t start, size_t count, size_t *index)
     {
     return bitvec_c_first_u32(order, memory, words, start, count, false, index);
 }
-BITVEC_CHECKED BITVEC_NONNULL(6) static inline uint8_t bitvec_c_first_zero_u64(
+BITVEC_CHECKED BITVEC_NONNULL(6) BITVEC_INLINE uint8_t bitvec_c_first_zero_u64(
     uint8_t order, const uint64_t *memory, size_t words, size_t start, size_t count, size_t *index)
     {
     return bitvec_c_first_u64(order, memory, words, start, count, false, index);
@@ -378,21 +385,21 @@ BITVEC_CHECKED uint8_t bitvec_c_last_u64(
 
 /* Writes to `index` the index of the last bit that is one. Refuses with BITVEC_NO_ORDER,
  * BITVEC_TOO_LONG or BITVEC_OUTSIDE. Costs by words, down to that bit. */
-BITVEC_CHECKED BITVEC_NONNULL(6) static inline uint8_t bitvec_c_last_one_u8(
+BITVEC_CHECKED BITVEC_NONNULL(6) BITVEC_INLINE uint8_t bitvec_c_last_one_u8(
     uint8_t order, const uint8_t *memory, size_t words, size_t start, size_t count, size_t *index) {
     return bitvec_c_last_u8(order, memory, words, start, count, true, index);
 }
-BITVEC_CHECKED BITVEC_NONNULL(6) static inline uint8_t bitvec_c_last_one_u16(
+BITVEC_CHECKED BITVEC_NONNULL(6) BITVEC_INLINE uint8_t bitvec_c_last_one_u16(
     uint8_t order, const uint16_t *memory, size_t words, size_t start, size_t count, size_t *index)
     {
     return bitvec_c_last_u16(order, memory, words, start, count, true, index);
 }
-BITVEC_CHECKED BITVEC_NONNULL(6) static inline uint8_t bitvec_c_last_one_u32(
+BITVEC_CHECKED BITVEC_NONNULL(6) BITVEC_INLINE uint8_t bitvec_c_last_one_u32(
     uint8_t order, const uint32_t *memory, size_t words, size_t start, size_t count, size_t *index)
     {
     return bitvec_c_last_u32(order, memory, words, start, count, true, index);
 }
-BITVEC_CHECKED BITVEC_NONNULL(6) static inline uint8_t bitvec_c_last_one_u64(
+BITVEC_CHECKED BITVEC_NONNULL(6) BITVEC_INLINE uint8_t bitvec_c_last_one_u64(
     uint8_t order, const uint64_t *memory, size_t words, size_t start, size_t count, size_t *index)
     {
     return bitvec_c_last_u64(order, memory, words, start, count, true, index);
@@ -400,21 +407,21 @@ BITVEC_CHECKED BITVEC_NONNULL(6) static inline uint8_t bitvec_c_last_one_u64(
 
 /* Writes to `index` the index of the last bit that is zero. Refuses with BITVEC_NO_ORDER,
  * BITVEC_TOO_LONG or BITVEC_OUTSIDE. Costs by words, down to that bit. */
-BITVEC_CHECKED BITVEC_NONNULL(6) static inline uint8_t bitvec_c_last_zero_u8(
+BITVEC_CHECKED BITVEC_NONNULL(6) BITVEC_INLINE uint8_t bitvec_c_last_zero_u8(
     uint8_t order, const uint8_t *memory, size_t words, size_t start, size_t count, size_t *index) {
     return bitvec_c_last_u8(order, memory, words, start, count, false, index);
 }
-BITVEC_CHECKED BITVEC_NONNULL(6) static inline uint8_t bitvec_c_last_zero_u16(
+BITVEC_CHECKED BITVEC_NONNULL(6) BITVEC_INLINE uint8_t bitvec_c_last_zero_u16(
     uint8_t order, const uint16_t *memory, size_t words, size_t start, size_t count, size_t *index)
     {
     return bitvec_c_last_u16(order, memory, words, start, count, false, index);
 }
-BITVEC_CHECKED BITVEC_NONNULL(6) static inline uint8_t bitvec_c_last_zero_u32(
+BITVEC_CHECKED BITVEC_NONNULL(6) BITVEC_INLINE uint8_t bitvec_c_last_zero_u32(
     uint8_t order, const uint32_t *memory, size_t words, size_t start, size_t count, size_t *index)
     {
     return bitvec_c_last_u32(order, memory, words, start, count, false, index);
 }
-BITVEC_CHECKED BITVEC_NONNULL(6) static inline uint8_t bitvec_c_last_zero_u64(
+BITVEC_CHECKED BITVEC_NONNULL(6) BITVEC_INLINE uint8_t bitvec_c_last_zero_u64(
     uint8_t order, const uint64_t *memory, size_t words, size_t start, size_t count, size_t *index)
     {
     return bitvec_c_last_u64(order, memory, words, start, count, false, index);
@@ -438,22 +445,22 @@ BITVEC_CHECKED uint8_t bitvec_c_next_u64(
 
 /* Writes to `index` the index of the first bit, of those from index `from` on, that is one. Refuses
  * with BITVEC_NO_ORDER, BITVEC_TOO_LONG or BITVEC_OUTSIDE. Costs by words, up to that bit. */
-BITVEC_CHECKED BITVEC_NONNULL(7) static inline uint8_t bitvec_c_next_one_u8(
+BITVEC_CHECKED BITVEC_NONNULL(7) BITVEC_INLINE uint8_t bitvec_c_next_one_u8(
     uint8_t order, const uint8_t *memory, size_t words, size_t start, size_t count, size_t from,
     size_t *index) {
     return bitvec_c_next_u8(order, memory, words, start, count, from, true, index);
 }
-BITVEC_CHECKED BITVEC_NONNULL(7) static inline uint8_t bitvec_c_next_one_u16(
+BITVEC_CHECKED BITVEC_NONNULL(7) BITVEC_INLINE uint8_t bitvec_c_next_one_u16(
     uint8_t order, const uint16_t *memory, size_t words, size_t start, size_t count, size_t from,
     size_t *index) {
     return bitvec_c_next_u16(order, memory, words, start, count, from, true, index);
 }
-BITVEC_CHECKED BITVEC_NONNULL(7) static inline uint8_t bitvec_c_next_one_u32(
+BITVEC_CHECKED BITVEC_NONNULL(7) BITVEC_INLINE uint8_t bitvec_c_next_one_u32(
     uint8_t order, const uint32_t *memory, size_t words, size_t start, size_t count, size_t from,
     size_t *index) {
     return bitvec_c_next_u32(order, memory, words, start, count, from, true, index);
 }
-BITVEC_CHECKED BITVEC_NONNULL(7) static inline uint8_t bitvec_c_next_one_u64(
+BITVEC_CHECKED BITVEC_NONNULL(7) BITVEC_INLINE uint8_t bitvec_c_next_one_u64(
     uint8_t order, const uint64_t *memory, size_t words, size_t start, size_t count, size_t from,
     size_t *index) {
     return bitvec_c_next_u64(order, memory, words, start, count, from, true, index);
@@ -462,22 +469,22 @@ BITVEC_CHECKED BITVEC_NONNULL(7) static inline uint8_t bitvec_c_next_one_u64(
 /* Writes to `index` the index of the first bit, of those from index `from` on, that is zero.
  * Refuses with BITVEC_NO_ORDER, BITVEC_TOO_LONG or BITVEC_OUTSIDE. Costs by words, up to that
  * bit. */
-BITVEC_CHECKED BITVEC_NONNULL(7) static inline uint8_t bitvec_c_next_zero_u8(
+BITVEC_CHECKED BITVEC_NONNULL(7) BITVEC_INLINE uint8_t bitvec_c_next_zero_u8(
     uint8_t order, const uint8_t *memory, size_t words, size_t start, size_t count, size_t from,
     size_t *index) {
     return bitvec_c_next_u8(order, memory, words, start, count, from, false, index);
 }
-BITVEC_CHECKED BITVEC_NONNULL(7) static inline uint8_t bitvec_c_next_zero_u16(
+BITVEC_CHECKED BITVEC_NONNULL(7) BITVEC_INLINE uint8_t bitvec_c_next_zero_u16(
     uint8_t order, const uint16_t *memory, size_t words, size_t start, size_t count, size_t from,
     size_t *index) {
     return bitvec_c_next_u16(order, memory, words, start, count, from, false, index);
 }
-BITVEC_CHECKED BITVEC_NONNULL(7) static inline uint8_t bitvec_c_next_zero_u32(
+BITVEC_CHECKED BITVEC_NONNULL(7) BITVEC_INLINE uint8_t bitvec_c_next_zero_u32(
     uint8_t order, const uint32_t *memory, size_t words, size_t start, size_t count, size_t from,
     size_t *index) {
     return bitvec_c_next_u32(order, memory, words, start, count, from, false, index);
 }
-BITVEC_CHECKED BITVEC_NONNULL(7) static inline uint8_t bitvec_c_next_zero_u64(
+BITVEC_CHECKED BITVEC_NONNULL(7) BITVEC_INLINE uint8_t bitvec_c_next_zero_u64(
     uint8_t order, const uint64_t *memory, size_t words, size_t start, size_t count, size_t from,
     size_t *index) {
     return bitvec_c_next_u64(order, memory, words, start, count, from, false, index);
@@ -501,22 +508,22 @@ BITVEC_CHECKED uint8_t bitvec_c_previous_u64(
 
 /* Writes to `index` the index of the last bit, of those before index `before`, that is one. Refuses
  * with BITVEC_NO_ORDER, BITVEC_TOO_LONG or BITVEC_OUTSIDE. Costs by words, down to that bit. */
-BITVEC_CHECKED BITVEC_NONNULL(7) static inline uint8_t bitvec_c_previous_one_u8(
+BITVEC_CHECKED BITVEC_NONNULL(7) BITVEC_INLINE uint8_t bitvec_c_previous_one_u8(
     uint8_t order, const uint8_t *memory, size_t words, size_t start, size_t count, size_t before,
     size_t *index) {
     return bitvec_c_previous_u8(order, memory, words, start, count, before, true, index);
 }
-BITVEC_CHECKED BITVEC_NONNULL(7) static inline uint8_t bitvec_c_previous_one_u16(
+BITVEC_CHECKED BITVEC_NONNULL(7) BITVEC_INLINE uint8_t bitvec_c_previous_one_u16(
     uint8_t order, const uint16_t *memory, size_t words, size_t start, size_t count, size_t before,
     size_t *index) {
     return bitvec_c_previous_u16(order, memory, words, start, count, before, true, index);
 }
-BITVEC_CHECKED BITVEC_NONNULL(7) static inline uint8_t bitvec_c_previous_one_u32(
+BITVEC_CHECKED BITVEC_NONNULL(7) BITVEC_INLINE uint8_t bitvec_c_previous_one_u32(
     uint8_t order, const uint32_t *memory, size_t words, size_t start, size_t count, size_t before,
     size_t *index) {
     return bitvec_c_previous_u32(order, memory, words, start, count, before, true, index);
 }
-BITVEC_CHECKED BITVEC_NONNULL(7) static inline uint8_t bitvec_c_previous_one_u64(
+BITVEC_CHECKED BITVEC_NONNULL(7) BITVEC_INLINE uint8_t bitvec_c_previous_one_u64(
     uint8_t order, const uint64_t *memory, size_t words, size_t start, size_t count, size_t before,
     size_t *index) {
     return bitvec_c_previous_u64(order, memory, words, start, count, before, true, index);
@@ -525,22 +532,22 @@ BITVEC_CHECKED BITVEC_NONNULL(7) static inline uint8_t bitvec_c_previous_one_u64
 /* Writes to `index` the index of the last bit, of those before index `before`, that is zero.
  * Refuses with BITVEC_NO_ORDER, BITVEC_TOO_LONG or BITVEC_OUTSIDE. Costs by words, down to that
  * bit. */
-BITVEC_CHECKED BITVEC_NONNULL(7) static inline uint8_t bitvec_c_previous_zero_u8(
+BITVEC_CHECKED BITVEC_NONNULL(7) BITVEC_INLINE uint8_t bitvec_c_previous_zero_u8(
     uint8_t order, const uint8_t *memory, size_t words, size_t start, size_t count, size_t before,
     size_t *index) {
     return bitvec_c_previous_u8(order, memory, words, start, count, before, false, index);
 }
-BITVEC_CHECKED BITVEC_NONNULL(7) static inline uint8_t bitvec_c_previous_zero_u16(
+BITVEC_CHECKED BITVEC_NONNULL(7) BITVEC_INLINE uint8_t bitvec_c_previous_zero_u16(
     uint8_t order, const uint16_t *memory, size_t words, size_t start, size_t count, size_t before,
     size_t *index) {
     return bitvec_c_previous_u16(order, memory, words, start, count, before, false, index);
 }
-BITVEC_CHECKED BITVEC_NONNULL(7) static inline uint8_t bitvec_c_previous_zero_u32(
+BITVEC_CHECKED BITVEC_NONNULL(7) BITVEC_INLINE uint8_t bitvec_c_previous_zero_u32(
     uint8_t order, const uint32_t *memory, size_t words, size_t start, size_t count, size_t before,
     size_t *index) {
     return bitvec_c_previous_u32(order, memory, words, start, count, before, false, index);
 }
-BITVEC_CHECKED BITVEC_NONNULL(7) static inline uint8_t bitvec_c_previous_zero_u64(
+BITVEC_CHECKED BITVEC_NONNULL(7) BITVEC_INLINE uint8_t bitvec_c_previous_zero_u64(
     uint8_t order, const uint64_t *memory, size_t words, size_t start, size_t count, size_t before,
     size_t *index) {
     return bitvec_c_previous_u64(order, memory, words, start, count, before, false, index);
@@ -600,7 +607,7 @@ BITVEC_CHECKED uint8_t bitvec_c_count_ones_u64(
 
 /* Writes to `zeros` how many bits of a range are zero. Refuses with BITVEC_NO_ORDER,
  * BITVEC_TOO_LONG or BITVEC_OUTSIDE. Costs by words. */
-BITVEC_CHECKED BITVEC_NONNULL(6) static inline uint8_t bitvec_c_count_zeros_u8(
+BITVEC_CHECKED BITVEC_NONNULL(6) BITVEC_INLINE uint8_t bitvec_c_count_zeros_u8(
     uint8_t order, const uint8_t *memory, size_t words, size_t start, size_t count, size_t *zeros) {
     size_t ones = 0;
     uint8_t status = bitvec_c_count_ones_u8(order, memory, words, start, count, &ones);
@@ -608,7 +615,7 @@ BITVEC_CHECKED BITVEC_NONNULL(6) static inline uint8_t bitvec_c_count_zeros_u8(
         *zeros = count - ones;
     return status;
 }
-BITVEC_CHECKED BITVEC_NONNULL(6) static inline uint8_t bitvec_c_count_zeros_u16(
+BITVEC_CHECKED BITVEC_NONNULL(6) BITVEC_INLINE uint8_t bitvec_c_count_zeros_u16(
     uint8_t order, const uint16_t *memory, size_t words, size_t start, size_t count, size_t *zeros)
     {
     size_t ones = 0;
@@ -617,7 +624,7 @@ BITVEC_CHECKED BITVEC_NONNULL(6) static inline uint8_t bitvec_c_count_zeros_u16(
         *zeros = count - ones;
     return status;
 }
-BITVEC_CHECKED BITVEC_NONNULL(6) static inline uint8_t bitvec_c_count_zeros_u32(
+BITVEC_CHECKED BITVEC_NONNULL(6) BITVEC_INLINE uint8_t bitvec_c_count_zeros_u32(
     uint8_t order, const uint32_t *memory, size_t words, size_t start, size_t count, size_t *zeros)
     {
     size_t ones = 0;
@@ -626,7 +633,7 @@ BITVEC_CHECKED BITVEC_NONNULL(6) static inline uint8_t bitvec_c_count_zeros_u32(
         *zeros = count - ones;
     return status;
 }
-BITVEC_CHECKED BITVEC_NONNULL(6) static inline uint8_t bitvec_c_count_zeros_u64(
+BITVEC_CHECKED BITVEC_NONNULL(6) BITVEC_INLINE uint8_t bitvec_c_count_zeros_u64(
     uint8_t order, const uint64_t *memory, size_t words, size_t start, size_t count, size_t *zeros)
     {
     size_t ones = 0;
@@ -638,7 +645,7 @@ BITVEC_CHECKED BITVEC_NONNULL(6) static inline uint8_t bitvec_c_count_zeros_u64(
 
 /* Writes to `empty` whether no bit of a range is one. Refuses with BITVEC_NO_ORDER, BITVEC_TOO_LONG
  * or BITVEC_OUTSIDE. Costs by words, up to the first that is. */
-BITVEC_CHECKED BITVEC_NONNULL(6) static inline uint8_t bitvec_c_is_empty_u8(
+BITVEC_CHECKED BITVEC_NONNULL(6) BITVEC_INLINE uint8_t bitvec_c_is_empty_u8(
     uint8_t order, const uint8_t *memory, size_t words, size_t start, size_t count, bool *empty) {
     size_t index = 0;
     uint8_t status = bitvec_c_first_one_u8(order, memory, words, start, count, &index);
@@ -646,7 +653,7 @@ BITVEC_CHECKED BITVEC_NONNULL(6) static inline uint8_t bitvec_c_is_empty_u8(
         *empty = index == count;
     return status;
 }
-BITVEC_CHECKED BITVEC_NONNULL(6) static inline uint8_t bitvec_c_is_empty_u16(
+BITVEC_CHECKED BITVEC_NONNULL(6) BITVEC_INLINE uint8_t bitvec_c_is_empty_u16(
     uint8_t order, const uint16_t *memory, size_t words, size_t start, size_t count, bool *empty) {
     size_t index = 0;
     uint8_t status = bitvec_c_first_one_u16(order, memory, words, start, count, &index);
@@ -654,7 +661,7 @@ BITVEC_CHECKED BITVEC_NONNULL(6) static inline uint8_t bitvec_c_is_empty_u16(
         *empty = index == count;
     return status;
 }
-BITVEC_CHECKED BITVEC_NONNULL(6) static inline uint8_t bitvec_c_is_empty_u32(
+BITVEC_CHECKED BITVEC_NONNULL(6) BITVEC_INLINE uint8_t bitvec_c_is_empty_u32(
     uint8_t order, const uint32_t *memory, size_t words, size_t start, size_t count, bool *empty) {
     size_t index = 0;
     uint8_t status = bitvec_c_first_one_u32(order, memory, words, start, count, &index);
@@ -662,7 +669,7 @@ BITVEC_CHECKED BITVEC_NONNULL(6) static inline uint8_t bitvec_c_is_empty_u32(
         *empty = index == count;
     return status;
 }
-BITVEC_CHECKED BITVEC_NONNULL(6) static inline uint8_t bitvec_c_is_empty_u64(
+BITVEC_CHECKED BITVEC_NONNULL(6) BITVEC_INLINE uint8_t bitvec_c_is_empty_u64(
     uint8_t order, const uint64_t *memory, size_t words, size_t start, size_t count, bool *empty) {
     size_t index = 0;
     uint8_t status = bitvec_c_first_one_u64(order, memory, words, start, count, &index);
@@ -673,7 +680,7 @@ BITVEC_CHECKED BITVEC_NONNULL(6) static inline uint8_t bitvec_c_is_empty_u64(
 
 /* Writes to `full` whether each bit of a range is one. Refuses with BITVEC_NO_ORDER,
  * BITVEC_TOO_LONG or BITVEC_OUTSIDE. Costs by words, up to the first that is not. */
-BITVEC_CHECKED BITVEC_NONNULL(6) static inline uint8_t bitvec_c_is_full_u8(
+BITVEC_CHECKED BITVEC_NONNULL(6) BITVEC_INLINE uint8_t bitvec_c_is_full_u8(
     uint8_t order, const uint8_t *memory, size_t words, size_t start, size_t count, bool *full) {
     size_t index = 0;
     uint8_t status = bitvec_c_first_u8(order, memory, words, start, count, false, &index);
@@ -681,7 +688,7 @@ BITVEC_CHECKED BITVEC_NONNULL(6) static inline uint8_t bitvec_c_is_full_u8(
         *full = index == count;
     return status;
 }
-BITVEC_CHECKED BITVEC_NONNULL(6) static inline uint8_t bitvec_c_is_full_u16(
+BITVEC_CHECKED BITVEC_NONNULL(6) BITVEC_INLINE uint8_t bitvec_c_is_full_u16(
     uint8_t order, const uint16_t *memory, size_t words, size_t start, size_t count, bool *full) {
     size_t index = 0;
     uint8_t status = bitvec_c_first_u16(order, memory, words, start, count, false, &index);
@@ -689,7 +696,7 @@ BITVEC_CHECKED BITVEC_NONNULL(6) static inline uint8_t bitvec_c_is_full_u16(
         *full = index == count;
     return status;
 }
-BITVEC_CHECKED BITVEC_NONNULL(6) static inline uint8_t bitvec_c_is_full_u32(
+BITVEC_CHECKED BITVEC_NONNULL(6) BITVEC_INLINE uint8_t bitvec_c_is_full_u32(
     uint8_t order, const uint32_t *memory, size_t words, size_t start, size_t count, bool *full) {
     size_t index = 0;
     uint8_t status = bitvec_c_first_u32(order, memory, words, start, count, false, &index);
@@ -697,7 +704,7 @@ BITVEC_CHECKED BITVEC_NONNULL(6) static inline uint8_t bitvec_c_is_full_u32(
         *full = index == count;
     return status;
 }
-BITVEC_CHECKED BITVEC_NONNULL(6) static inline uint8_t bitvec_c_is_full_u64(
+BITVEC_CHECKED BITVEC_NONNULL(6) BITVEC_INLINE uint8_t bitvec_c_is_full_u64(
     uint8_t order, const uint64_t *memory, size_t words, size_t start, size_t count, bool *full) {
     size_t index = 0;
     uint8_t status = bitvec_c_first_u64(order, memory, words, start, count, false, &index);
@@ -958,7 +965,7 @@ BITVEC_CHECKED uint8_t bitvec_c_first_and_u64(
 /* Writes to `common` whether a bit of a range is one whose bit in the other range is one too.
  * Refuses with BITVEC_NO_ORDER, BITVEC_TOO_LONG or BITVEC_OUTSIDE. Costs by words where the orders
  * are the same, else by bits, up to the first such bit. */
-BITVEC_CHECKED BITVEC_NONNULL(10) static inline uint8_t bitvec_c_intersects_u8(
+BITVEC_CHECKED BITVEC_NONNULL(10) BITVEC_INLINE uint8_t bitvec_c_intersects_u8(
     uint8_t order, const uint8_t *memory, size_t words, size_t start, uint8_t other_order,
     const uint8_t *other, size_t other_words, size_t other_start, size_t count, bool *common) {
     size_t index = 0;
@@ -968,7 +975,7 @@ BITVEC_CHECKED BITVEC_NONNULL(10) static inline uint8_t bitvec_c_intersects_u8(
         *common = index != count;
     return status;
 }
-BITVEC_CHECKED BITVEC_NONNULL(10) static inline uint8_t bitvec_c_intersects_u16(
+BITVEC_CHECKED BITVEC_NONNULL(10) BITVEC_INLINE uint8_t bitvec_c_intersects_u16(
     uint8_t order, const uint16_t *memory, size_t words, size_t start, uint8_t other_order,
     const uint16_t *other, size_t other_words, size_t other_start, size_t count, bool *common) {
     size_t index = 0;
@@ -978,7 +985,7 @@ BITVEC_CHECKED BITVEC_NONNULL(10) static inline uint8_t bitvec_c_intersects_u16(
         *common = index != count;
     return status;
 }
-BITVEC_CHECKED BITVEC_NONNULL(10) static inline uint8_t bitvec_c_intersects_u32(
+BITVEC_CHECKED BITVEC_NONNULL(10) BITVEC_INLINE uint8_t bitvec_c_intersects_u32(
     uint8_t order, const uint32_t *memory, size_t words, size_t start, uint8_t other_order,
     const uint32_t *other, size_t other_words, size_t other_start, size_t count, bool *common) {
     size_t index = 0;
@@ -988,7 +995,7 @@ BITVEC_CHECKED BITVEC_NONNULL(10) static inline uint8_t bitvec_c_intersects_u32(
         *common = index != count;
     return status;
 }
-BITVEC_CHECKED BITVEC_NONNULL(10) static inline uint8_t bitvec_c_intersects_u64(
+BITVEC_CHECKED BITVEC_NONNULL(10) BITVEC_INLINE uint8_t bitvec_c_intersects_u64(
     uint8_t order, const uint64_t *memory, size_t words, size_t start, uint8_t other_order,
     const uint64_t *other, size_t other_words, size_t other_start, size_t count, bool *common) {
     size_t index = 0;
@@ -1022,7 +1029,7 @@ BITVEC_CHECKED uint8_t bitvec_c_first_and_not_u64(
 /* Writes to `subset` whether no bit of a range is one whose bit in the other range is zero. Refuses
  * with BITVEC_NO_ORDER, BITVEC_TOO_LONG or BITVEC_OUTSIDE. Costs by words where the orders are the
  * same, else by bits, up to the first such bit. */
-BITVEC_CHECKED BITVEC_NONNULL(10) static inline uint8_t bitvec_c_is_subset_u8(
+BITVEC_CHECKED BITVEC_NONNULL(10) BITVEC_INLINE uint8_t bitvec_c_is_subset_u8(
     uint8_t order, const uint8_t *memory, size_t words, size_t start, uint8_t other_order,
     const uint8_t *other, size_t other_words, size_t other_start, size_t count, bool *subset) {
     size_t index = 0;
@@ -1032,7 +1039,7 @@ BITVEC_CHECKED BITVEC_NONNULL(10) static inline uint8_t bitvec_c_is_subset_u8(
         *subset = index == count;
     return status;
 }
-BITVEC_CHECKED BITVEC_NONNULL(10) static inline uint8_t bitvec_c_is_subset_u16(
+BITVEC_CHECKED BITVEC_NONNULL(10) BITVEC_INLINE uint8_t bitvec_c_is_subset_u16(
     uint8_t order, const uint16_t *memory, size_t words, size_t start, uint8_t other_order,
     const uint16_t *other, size_t other_words, size_t other_start, size_t count, bool *subset) {
     size_t index = 0;
@@ -1042,7 +1049,7 @@ BITVEC_CHECKED BITVEC_NONNULL(10) static inline uint8_t bitvec_c_is_subset_u16(
         *subset = index == count;
     return status;
 }
-BITVEC_CHECKED BITVEC_NONNULL(10) static inline uint8_t bitvec_c_is_subset_u32(
+BITVEC_CHECKED BITVEC_NONNULL(10) BITVEC_INLINE uint8_t bitvec_c_is_subset_u32(
     uint8_t order, const uint32_t *memory, size_t words, size_t start, uint8_t other_order,
     const uint32_t *other, size_t other_words, size_t other_start, size_t count, bool *subset) {
     size_t index = 0;
@@ -1052,7 +1059,7 @@ BITVEC_CHECKED BITVEC_NONNULL(10) static inline uint8_t bitvec_c_is_subset_u32(
         *subset = index == count;
     return status;
 }
-BITVEC_CHECKED BITVEC_NONNULL(10) static inline uint8_t bitvec_c_is_subset_u64(
+BITVEC_CHECKED BITVEC_NONNULL(10) BITVEC_INLINE uint8_t bitvec_c_is_subset_u64(
     uint8_t order, const uint64_t *memory, size_t words, size_t start, uint8_t other_order,
     const uint64_t *other, size_t other_words, size_t other_start, size_t count, bool *subset) {
     size_t index = 0;
@@ -1655,6 +1662,7 @@ BITVEC_CHECKED uint8_t bitvec_c_run_in_u64(
 #endif
 
 #undef BITVEC_ENUM
+#undef BITVEC_INLINE
 #undef BITVEC_NONNULL
 #undef BITVEC_CHECKED
 
