@@ -31,6 +31,10 @@
 #ifndef BITVEC_HPP
 #define BITVEC_HPP
 
+#if __cplusplus < 202002L
+#error "this front is for C++20; bitvec.h is for C++11 and later"
+#endif
+
 #include "bitvec.h"
 
 #include <concepts>
