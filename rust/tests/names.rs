@@ -1,0 +1,125 @@
+//! The page "From `bitvec` to `worghulen`" (`rust/FROM_BITVEC.md`) names what is there: each name in
+//! its second column is one that `rust/src` declares, and where there is none, it has a reason.
+
+use std::collections::BTreeSet;
+use std::fs;
+use std::path::Path;
+
+fn read(path: &str) -> String {
+    fs::read_to_string(Path::new(env!("CARGO_MANIFEST_DIR")).join(path)).expect("it is here")
+}
+
+/// The names in a text: what letters, digits and `_` make of it.
+fn words(text: &str) -> impl Iterator<Item = &str> {
+    text.split(|c: char| !c.is_alphanumeric() && c != '_')
+        .filter(|word| word.starts_with(|c: char| c.is_alphabetic() || c == '_'))
+}
+
+/// Each name that the sources declare, also by a macro that makes `name by try_name(..)` a function.
+fn declared() -> BTreeSet<String> {
+    const BEFORE: [&str; 7] = [
+        "fn",
+        "macro_rules",
+        "struct",
+        "enum",
+        "trait",
+        "type",
+        "const",
+    ];
+    let mut names = BTreeSet::new();
+    for file in
+        fs::read_dir(Path::new(env!("CARGO_MANIFEST_DIR")).join("rust/src")).expect("it is here")
+    {
+        let path = file.expect("a file").path();
+        if path.extension().is_none_or(|it| it != "rs") {
+            continue;
+        }
+        for line in fs::read_to_string(path).expect("a text").lines() {
+            let line = line.trim_start();
+            if line.starts_with("//") {
+                continue;
+            }
+            let words: Vec<&str> = words(line).collect();
+            for pair in words.windows(2) {
+                if BEFORE.contains(&pair[0]) {
+                    names.insert(pair[1].to_owned());
+                } else if pair[1] == "by" {
+                    names.insert(pair[0].to_owned());
+                }
+            }
+        }
+    }
+    names
+}
+
+/// The parts of a line of a table.
+fn cells(line: &str) -> Vec<String> {
+    let line = line.replace("\\|", "\u{1}");
+    let inside = line.trim_matches('|').split('|');
+    inside
+        .map(|cell| cell.trim().replace('\u{1}', "|"))
+        .collect()
+}
+
+/// What stands in backticks.
+fn quoted(cell: &str) -> impl Iterator<Item = &str> {
+    cell.split('`').skip(1).step_by(2)
+}
+
+#[test]
+fn each_name_of_the_page_is_there() {
+    let (page, declared) = (read("rust/FROM_BITVEC.md"), declared());
+    assert!(
+        declared.contains("set")
+            && declared.contains("bitvec")
+            && !declared.contains("set_unchecked")
+    );
+    let reasons: BTreeSet<&str> = page
+        .lines()
+        .filter_map(|line| line.strip_prefix("- **")?.split("**").next())
+        .collect();
+    let (mut seen, mut given, mut rows) = (BTreeSet::new(), BTreeSet::new(), 0);
+    let mut part = String::new();
+    for line in page.lines() {
+        if let Some(title) = line.strip_prefix("## ") {
+            title.clone_into(&mut part);
+        }
+        if part.is_empty() || !line.starts_with("| `") {
+            continue;
+        }
+        let cells = cells(line);
+        assert_eq!(cells.len(), 3, "three columns: {line}");
+        assert!(
+            seen.insert((part.clone(), cells[0].clone())),
+            "a second time: {line}"
+        );
+        rows += 1;
+        let names: Vec<&str> = quoted(&cells[1]).flat_map(words).collect();
+        if names.is_empty() {
+            let reason = reasons.get(cells[1].as_str());
+            given.insert(*reason.unwrap_or_else(|| panic!("a name or a reason: {line}")));
+        }
+        for name in names {
+            assert!(declared.contains(name), "there is no {name}: {line}");
+        }
+    }
+    assert_eq!(given, reasons, "each reason is given for something");
+    assert!(rows >= 150, "{rows} rows");
+}
+
+#[test]
+fn each_name_of_the_prelude_is_told() {
+    let page = read("rust/FROM_BITVEC.md");
+    let told: BTreeSet<&str> = words(&page).collect();
+    let prelude = read("rust/src/prelude.rs");
+    let names = prelude
+        .lines()
+        .filter(|line| line.starts_with("pub use"))
+        .flat_map(words)
+        .filter(|name| name.starts_with(char::is_uppercase));
+    // (those that `bitvec` has no like of, or that its users do not type)
+    let others = ["AsBits", "AsMutBits", "BitView", "Refusal"];
+    for name in names {
+        assert!(told.contains(name) || others.contains(&name), "{name}");
+    }
+}
