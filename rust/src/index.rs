@@ -22,6 +22,20 @@ use core::ops::{RangeBounds, RangeToInclusive};
 /// assert_eq!(bits.get(3..6).unwrap().to_string(), "101");
 /// assert!(bits.get(6..9).is_none());
 /// ```
+///
+/// An index is a `usize`, and what is none does not compile:
+///
+/// ```compile_fail
+/// use worghulen::{BitView, Lsb0};
+///
+/// let word = 6_u8;
+/// word.view_bits::<Lsb0>().get(3_u32);
+/// ```
+#[diagnostic::on_unimplemented(
+    message = "`{Self}` names neither a bit nor a range of bits",
+    label = "an index is a `usize`, or a range of `usize`",
+    note = "convert it: `bits.get(usize::try_from(index)?)`, `bits.get(from as usize..to as usize)`"
+)]
 pub trait BitIndex<'a, T, O>: sealed::Sealed {
     /// A bit, or a slice of bits.
     type Output;
@@ -39,6 +53,45 @@ pub trait BitIndex<'a, T, O>: sealed::Sealed {
 mod sealed {
     /// Nothing outside this crate can name it.
     pub trait Sealed {}
+}
+
+/// What stands in the brackets of `bits[3]`: a `usize`, and nothing else.
+///
+/// A range of bits is no memory that a `&` could lend, so it does not stand there: it is
+/// `bits.part(2..4)?` or `bits.get(2..4).unwrap()`, as the compiler says too.
+///
+/// # Examples
+///
+/// ```
+/// use worghulen::{BitView, Lsb0};
+///
+/// let word = 0b0110_1000_u8;
+/// let bits = word.view_bits::<Lsb0>();
+/// assert!(bits[3] && bits.part(2..4)?[1]);
+/// # Ok::<(), worghulen::Refusal>(())
+/// ```
+///
+/// ```compile_fail
+/// use worghulen::{BitView, Lsb0};
+///
+/// let word = 0b0110_1000_u8;
+/// let bits = &word.view_bits::<Lsb0>()[2..4];
+/// ```
+#[diagnostic::on_unimplemented(
+    message = "a slice of bits is a value: `[]` has single bits, and a range is `bits.part(2..4)?` or `bits.get(2..4).unwrap()`",
+    label = "`{Self}` is no index of a bit, which is a `usize`",
+    note = "for writing, take `bits.part_mut(2..4)?` or `bits.get_mut(2..4).unwrap()`"
+)]
+pub trait BitPosition: sealed::Sealed {
+    /// The index.
+    fn position(self) -> usize;
+}
+
+impl BitPosition for usize {
+    #[inline]
+    fn position(self) -> usize {
+        self
+    }
 }
 
 impl sealed::Sealed for usize {}
@@ -96,7 +149,7 @@ ranges! {
 /// let bits = words.view_bits::<Lsb0>();
 /// assert!(bits[3] && !bits[4]);
 /// ```
-impl<T: Register, O: Order> Index<usize> for BitSlice<'_, T, O> {
+impl<T: Register, O: Order, I: BitPosition> Index<I> for BitSlice<'_, T, O> {
     type Output = bool;
 
     /// # Panics
@@ -104,7 +157,8 @@ impl<T: Register, O: Order> Index<usize> for BitSlice<'_, T, O> {
     /// Panics where there is no such bit.
     #[inline]
     #[track_caller]
-    fn index(&self, index: usize) -> &bool {
+    fn index(&self, index: I) -> &bool {
+        let index = index.position();
         match self.bit(index) {
             Some(true) => &true,
             Some(false) => &false,

@@ -49,7 +49,7 @@ pub use array::BitArray;
 pub use boxed::BitBox;
 pub use domain::Domain;
 pub use freemap::{FreeMap, FreeRuns};
-pub use index::BitIndex;
+pub use index::{BitIndex, BitPosition};
 pub use iter::{Chunks, Iter, Ones, Zeros};
 #[doc(hidden)]
 pub use macros::parts as __macros;

@@ -15,6 +15,17 @@ use crate::sys::Exports;
 /// assert_eq!(bits.get(..16).unwrap().load_be::<u16>(), 0x1234);
 /// assert_eq!(bits.get(16..).unwrap().load_be::<i64>(), -1);
 /// ```
+///
+/// A wider number is two:
+///
+/// ```compile_fail
+/// let number: u128 = worghulen::bits![1; 100].load_be();
+/// ```
+#[diagnostic::on_unimplemented(
+    message = "`{Self}` is no number of at most 64 bits",
+    label = "a number is a `u8` to `u64`, a `usize`, an `i8` to `i64` or an `isize`",
+    note = "a wider one is two: `split_at(64)`, and `load_be::<u64>()` of both"
+)]
 pub trait Number: digits::Digits + Copy {}
 
 pub(crate) mod digits {

@@ -6,6 +6,31 @@ use core::fmt::Debug;
 use core::hash::Hash;
 
 /// An order of the bits in a word: [`Lsb0`] or [`Msb0`], and no other.
+///
+/// # Examples
+///
+/// ```
+/// use worghulen::{BitView, Lsb0, Msb0, Order};
+///
+/// fn first<O: Order>(word: u8) -> bool {
+///     word.view_bits::<O>()[0]
+/// }
+///
+/// assert!(first::<Lsb0>(1) && !first::<Msb0>(1));
+/// ```
+///
+/// A word is none:
+///
+/// ```compile_fail
+/// use worghulen::BitReader;
+///
+/// let reader: Option<BitReader<'_, u8, u8>> = None;
+/// ```
+#[diagnostic::on_unimplemented(
+    message = "`{Self}` is no order of bits in a word",
+    label = "an order is `Lsb0` or `Msb0`",
+    note = "the order stands behind the word: `BitVec<u8, Msb0>`"
+)]
 pub trait Order: code::Code + Copy + Eq + Hash + Debug + Send + Sync + 'static {}
 
 /// The bit of index `i` of a word is its digit `i`: index 0 is least.

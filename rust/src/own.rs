@@ -98,6 +98,17 @@ impl<'a, T: Register, O: Order> BitSlice<'a, T, O> {
 /// assert_eq!(ones(words.view_bits::<Lsb0>()), 4);
 /// assert_eq!(ones(&words.view_bits_mut::<Lsb0>()), 4);
 /// ```
+///
+/// Words have no bits until an order is named:
+///
+/// ```compile_fail
+/// assert!(worghulen::bits![0, 1].contains([2_u8]));
+/// ```
+#[diagnostic::on_unimplemented(
+    message = "`{Self}` is no bits",
+    label = "bits are a `BitSlice`, `BitSliceMut`, `BitVec`, `BitBox` or `BitArray`, or a reference to one",
+    note = "of words take `words.view_bits::<Lsb0>()`; of `bool`s `bools.into_iter().collect::<BitVec>()`"
+)]
 pub trait AsBitSlice {
     /// The type of the words.
     type Word: Register;

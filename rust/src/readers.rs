@@ -5,7 +5,7 @@ use crate::array::BitArray;
 #[cfg(feature = "alloc")]
 use crate::boxed::BitBox;
 use crate::domain::Domain;
-use crate::index::BitIndex;
+use crate::index::{BitIndex, BitPosition};
 use crate::iter::{Chunks, Iter, Ones, Zeros};
 use crate::number::Number;
 use crate::order::Order;
@@ -174,7 +174,7 @@ macro_rules! readers {
         }
 
         /// As of a [`BitSlice`]: `bits[3]`. To write a bit, `set`.
-        impl<$($generics)*> Index<usize> for $type {
+        impl<$($generics)*, I: BitPosition> Index<I> for $type {
             type Output = bool;
 
             /// # Panics
@@ -182,8 +182,8 @@ macro_rules! readers {
             /// Panics where there is no such bit.
             #[inline]
             #[track_caller]
-            fn index(&self, index: usize) -> &bool {
-                if self.as_bitslice()[index] { &true } else { &false }
+            fn index(&self, index: I) -> &bool {
+                if self.as_bitslice()[index.position()] { &true } else { &false }
             }
         }
 
