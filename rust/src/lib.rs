@@ -19,6 +19,8 @@ mod edit;
 mod find;
 mod freemap;
 mod index;
+#[cfg(feature = "std")]
+mod io;
 mod iter;
 mod macros;
 mod number;
@@ -50,6 +52,8 @@ pub use boxed::BitBox;
 pub use domain::Domain;
 pub use freemap::{FreeMap, FreeRuns};
 pub use index::{BitIndex, BitPosition};
+#[cfg(feature = "std")]
+pub use io::{IoReader, IoWriter};
 pub use iter::{Chunks, Iter, Ones, Zeros};
 #[doc(hidden)]
 pub use macros::parts as __macros;

@@ -38,6 +38,21 @@ pub(crate) mod digits {
         /// How many digits a number of this type has.
         const WIDTH: usize;
 
+        /// Whether some are less than 0.
+        #[cfg(feature = "std")]
+        const HAS_SIGN: bool;
+
+        /// The number of so many digits, at most 64, where those above them are zero.
+        fn of_digits(digits: u64, count: usize) -> Self;
+
+        /// The number, of more digits.
+        #[cfg(feature = "std")]
+        fn wide(self) -> i128;
+
+        /// The number, where the type has it.
+        #[cfg(feature = "std")]
+        fn of_wide(number: i128) -> Result<Self, Refusal>;
+
         /// The number of so many bits, at most its width.
         fn load<T: Exports>(
             order: u8,
@@ -56,17 +71,6 @@ pub(crate) mod digits {
             start: usize,
             count: usize,
         ) -> Result<(), Refusal>;
-
-        /// The number of the next so many bits before an end, at most its width; the place moves
-        /// behind them.
-        fn read<T: Exports>(
-            order: u8,
-            big: bool,
-            words: &[T],
-            place: &mut usize,
-            end: usize,
-            count: usize,
-        ) -> Result<Self, Refusal>;
 
         /// The number of the Exp-Golomb code that stands there.
         fn read_code<T: Exports>(
@@ -101,7 +105,7 @@ pub(crate) mod digits {
 
 macro_rules! numbers {
     ($(
-        $t:ident: $wide:ident by $load:ident, $store:ident, $read:ident, $read_code:ident,
+        $t:ident: $wide:ident by $load:ident, $store:ident, $read_code:ident,
             $write:ident, $write_code:ident;
     )*) => { $(
         impl Number for $t {}
@@ -112,6 +116,31 @@ macro_rules! numbers {
         impl digits::Digits for $t {
             const WIDTH: usize = $t::BITS as usize;
 
+            #[cfg(feature = "std")]
+            const HAS_SIGN: bool = $t::MIN != 0;
+
+            #[inline]
+            #[allow(clippy::cast_possible_wrap)] // (the highest digit is the sign's)
+            fn of_digits(digits: u64, count: usize) -> Self {
+                if count == 0 {
+                    return 0;
+                }
+                let above = 64 - count;
+                ((digits << above) as $wide >> above) as Self
+            }
+
+            #[cfg(feature = "std")]
+            #[inline]
+            fn wide(self) -> i128 {
+                self as i128
+            }
+
+            #[cfg(feature = "std")]
+            #[inline]
+            fn of_wide(number: i128) -> Result<Self, Refusal> {
+                Self::try_from(number).map_err(|_| Refusal::TooLarge)
+            }
+
             #[inline]
             fn load<T: Exports>(order: u8, big: bool, words: &[T], start: usize, count: usize) -> Result<Self, Refusal> {
                 let wide = T::$load(order, big, words, start, count)?;
@@ -121,12 +150,6 @@ macro_rules! numbers {
             #[inline]
             fn store<T: Exports>(self, order: u8, big: bool, words: &mut [T], start: usize, count: usize) -> Result<(), Refusal> {
                 T::$store(order, big, words, start, count, self as $wide)
-            }
-
-            #[inline]
-            fn read<T: Exports>(order: u8, big: bool, words: &[T], place: &mut usize, end: usize, count: usize) -> Result<Self, Refusal> {
-                let wide = T::$read(order, big, words, place, end, count)?;
-                Ok(wide as Self)
             }
 
             #[inline]
@@ -166,19 +189,19 @@ macro_rules! numbers {
 }
 
 numbers! {
-    u8: u64 by load, store, read, read_exp_golomb, write, write_exp_golomb;
-    u16: u64 by load, store, read, read_exp_golomb, write, write_exp_golomb;
-    u32: u64 by load, store, read, read_exp_golomb, write, write_exp_golomb;
-    u64: u64 by load, store, read, read_exp_golomb, write, write_exp_golomb;
-    usize: u64 by load, store, read, read_exp_golomb, write, write_exp_golomb;
-    i8: i64 by load_signed, store_signed, read_signed, read_signed_exp_golomb,
+    u8: u64 by load, store, read_exp_golomb, write, write_exp_golomb;
+    u16: u64 by load, store, read_exp_golomb, write, write_exp_golomb;
+    u32: u64 by load, store, read_exp_golomb, write, write_exp_golomb;
+    u64: u64 by load, store, read_exp_golomb, write, write_exp_golomb;
+    usize: u64 by load, store, read_exp_golomb, write, write_exp_golomb;
+    i8: i64 by load_signed, store_signed, read_signed_exp_golomb,
         write_signed, write_signed_exp_golomb;
-    i16: i64 by load_signed, store_signed, read_signed, read_signed_exp_golomb,
+    i16: i64 by load_signed, store_signed, read_signed_exp_golomb,
         write_signed, write_signed_exp_golomb;
-    i32: i64 by load_signed, store_signed, read_signed, read_signed_exp_golomb,
+    i32: i64 by load_signed, store_signed, read_signed_exp_golomb,
         write_signed, write_signed_exp_golomb;
-    i64: i64 by load_signed, store_signed, read_signed, read_signed_exp_golomb,
+    i64: i64 by load_signed, store_signed, read_signed_exp_golomb,
         write_signed, write_signed_exp_golomb;
-    isize: i64 by load_signed, store_signed, read_signed, read_signed_exp_golomb,
+    isize: i64 by load_signed, store_signed, read_signed_exp_golomb,
         write_signed, write_signed_exp_golomb;
 }

@@ -21,3 +21,5 @@ pub use crate::{AsBitSlice, BitArray, BitReader, BitSlice, BitSliceMut, BitWrite
 pub use crate::{BitArr, bitarr, bits};
 #[cfg(feature = "alloc")]
 pub use crate::{BitBox, BitVec, bitbox, bitvec};
+#[cfg(feature = "std")]
+pub use crate::{IoReader, IoWriter};

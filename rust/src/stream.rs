@@ -4,7 +4,7 @@ use crate::number::Number;
 use crate::order::Order;
 use crate::refusal::Refusal;
 use crate::register::Register;
-use crate::slice::BitSlice;
+use crate::slice::{BitSlice, granted};
 
 /// The bits of a slice, and the place among them behind those that were read.
 ///
@@ -32,6 +32,19 @@ use crate::slice::BitSlice;
 pub struct BitReader<'a, T: Register, O: Order> {
     bits: BitSlice<'a, T, O>,
     position: usize,
+    /// The bits from the position on: the first is the highest digit where the order is `BIG`, and
+    /// the lowest else. The other digits are zero.
+    window: u64,
+    held: usize,
+}
+
+/// The first bits of a slice, at most 64, as the window of a reader has them, and how many they are.
+#[inline(never)]
+fn next_bits<T: Register, O: Order>(bits: BitSlice<'_, T, O>) -> (u64, usize) {
+    let ((words, start), len) = (bits.place(), bits.len().min(64));
+    let digits = granted(T::load(O::CODE, O::BIG, words, start, len));
+    let unused = if O::BIG && len > 0 { 64 - len } else { 0 };
+    (digits << unused, len)
 }
 
 impl<'a, T: Register, O: Order> BitReader<'a, T, O> {
@@ -48,7 +61,12 @@ impl<'a, T: Register, O: Order> BitReader<'a, T, O> {
     #[inline]
     #[must_use]
     pub fn new(bits: BitSlice<'a, T, O>) -> Self {
-        Self { bits, position: 0 }
+        Self {
+            bits,
+            position: 0,
+            window: 0,
+            held: 0,
+        }
     }
 
     /// How many bits were read or passed over. Constant time.
@@ -113,8 +131,52 @@ impl<'a, T: Register, O: Order> BitReader<'a, T, O> {
         let (words, start) = self.bits.place();
         let mut place = start + self.position;
         let answer = call(words, &mut place, start + self.bits.len())?;
-        self.position = place - start;
+        self.pass(place - start - self.position);
         Ok(answer)
+    }
+
+    /// Moves the place behind so many of the bits that are left.
+    #[inline]
+    fn pass(&mut self, count: usize) {
+        self.position += count;
+        if count < self.held {
+            self.held -= count;
+            self.window = if O::BIG {
+                self.window << count
+            } else {
+                self.window >> count
+            };
+        } else {
+            (self.window, self.held) = (0, 0);
+        }
+    }
+
+    /// Holds so many bits at least, of 64 at most.
+    #[inline]
+    fn hold(&mut self, count: usize) -> Result<(), Refusal> {
+        if count > self.held {
+            if count > self.remaining() {
+                return Err(Refusal::TooFew);
+            }
+            (self.window, self.held) = next_bits(self.rest());
+        }
+        Ok(())
+    }
+
+    /// The digits of the next so many bits, at most 64, as a number has them.
+    #[inline]
+    fn digits(&mut self, big: bool, count: usize) -> Result<u64, Refusal> {
+        self.hold(count)?;
+        if count == 0 {
+            return Ok(0);
+        }
+        let above = 64 - count;
+        Ok(match (O::BIG, big) {
+            (true, true) => self.window >> above,
+            (true, false) => (self.window >> above << above).reverse_bits(),
+            (false, true) => self.window.reverse_bits() >> above,
+            (false, false) => self.window << above >> above,
+        })
     }
 
     /// Passes over so many bits. Constant time.
@@ -140,8 +202,34 @@ impl<'a, T: Register, O: Order> BitReader<'a, T, O> {
         if count > self.remaining() {
             return Err(Refusal::TooFew);
         }
-        self.position += count;
+        self.pass(count);
         Ok(())
+    }
+
+    /// Passes over the bits before the next place that is a multiple of `of` bits, from the first
+    /// bit of the slice on: none where it stands at one. Constant time.
+    ///
+    /// # Errors
+    ///
+    /// [`Refusal::TooFew`] where the bits end before such a place, also where `of` is 0.
+    ///
+    /// # Examples
+    ///
+    /// ```
+    /// use worghulen::{BitReader, BitView, Msb0, Refusal};
+    ///
+    /// let bytes = [0xa0_u8, 7];
+    /// let mut reader = BitReader::new(bytes.view_bits::<Msb0>());
+    /// assert_eq!(reader.read::<u8>(3)?, 5);
+    /// reader.skip_to_multiple_of(8)?;
+    /// assert_eq!(reader.read::<u8>(8)?, 7);
+    /// assert_eq!(reader.skip_to_multiple_of(32), Err(Refusal::TooFew));
+    /// # Ok::<(), Refusal>(())
+    /// ```
+    #[inline]
+    pub fn skip_to_multiple_of(&mut self, of: usize) -> Result<(), Refusal> {
+        let to = self.position.checked_next_multiple_of(of);
+        self.skip(to.ok_or(Refusal::TooFew)? - self.position)
     }
 
     /// The next bit. Constant time.
@@ -162,8 +250,8 @@ impl<'a, T: Register, O: Order> BitReader<'a, T, O> {
     /// ```
     #[inline]
     pub fn read_bit(&mut self) -> Result<bool, Refusal> {
-        let bit = self.bits.get(self.position).ok_or(Refusal::TooFew)?;
-        self.position += 1;
+        let bit = self.digits(O::BIG, 1)? == 1;
+        self.pass(1);
         Ok(bit)
     }
 
@@ -188,8 +276,81 @@ impl<'a, T: Register, O: Order> BitReader<'a, T, O> {
     #[inline]
     pub fn read_slice(&mut self, count: usize) -> Result<BitSlice<'a, T, O>, Refusal> {
         let slice = self.rest().get(..count).ok_or(Refusal::TooFew)?;
-        self.position += count;
+        self.pass(count);
         Ok(slice)
+    }
+
+    /// The next bytes, each of 8 bits: the first bit of a byte is its highest digit of an `Msb0`
+    /// slice, and its lowest of an `Lsb0` one. Costs by words.
+    ///
+    /// # Errors
+    ///
+    /// [`Refusal::TooFew`] where fewer are left. The bytes stay then.
+    ///
+    /// # Examples
+    ///
+    /// ```
+    /// use worghulen::{BitReader, BitView, Msb0, Refusal};
+    ///
+    /// let words = [0x1234_5678_u32];
+    /// let (mut reader, mut bytes) = (BitReader::new(words.view_bits::<Msb0>()), [0; 2]);
+    /// reader.skip(4)?;
+    /// reader.read_bytes(&mut bytes)?;
+    /// assert_eq!(bytes, [0x23, 0x45]);
+    /// assert_eq!(reader.read_bytes(&mut bytes), Err(Refusal::TooFew));
+    /// # Ok::<(), Refusal>(())
+    /// ```
+    pub fn read_bytes(&mut self, bytes: &mut [u8]) -> Result<(), Refusal> {
+        let mut bytes = BitSlice::<u8, O>::from_slice_mut(bytes);
+        bytes.copy_from(self.read_slice(bytes.len())?)
+    }
+
+    /// The number of the next `count` bits, as the order has it: as [`read_be`](Self::read_be) of
+    /// an `Msb0` slice, and as [`read_le`](Self::read_le) of an `Lsb0` one. Constant time: up to 64
+    /// bits are read from the words at once, and kept.
+    ///
+    /// # Errors
+    ///
+    /// As [`read_be`](Self::read_be).
+    ///
+    /// # Examples
+    ///
+    /// ```
+    /// use worghulen::{BitReader, BitView, Lsb0, Msb0};
+    ///
+    /// let words = [0b0010_1101_u8];
+    /// assert_eq!(BitReader::new(words.view_bits::<Msb0>()).read::<u16>(4)?, 0b0010);
+    /// assert_eq!(BitReader::new(words.view_bits::<Lsb0>()).read::<u16>(4)?, 0b1101);
+    /// assert_eq!(BitReader::new(words.view_bits::<Lsb0>()).read::<i16>(4)?, -3);
+    /// # Ok::<(), worghulen::Refusal>(())
+    /// ```
+    #[inline]
+    pub fn read<N: Number>(&mut self, count: usize) -> Result<N, Refusal> {
+        self.number(O::BIG, count)
+    }
+
+    /// The number that [`read`](Self::read) would read, and the place stays. Constant time.
+    ///
+    /// # Errors
+    ///
+    /// As [`read_be`](Self::read_be).
+    ///
+    /// # Examples
+    ///
+    /// ```
+    /// use worghulen::{BitReader, BitView, Msb0};
+    ///
+    /// let words = [0b0010_1101_u8];
+    /// let mut reader = BitReader::new(words.view_bits::<Msb0>());
+    /// assert_eq!((reader.peek::<u8>(4)?, reader.read::<u8>(6)?), (2, 11));
+    /// # Ok::<(), worghulen::Refusal>(())
+    /// ```
+    #[inline]
+    pub fn peek<N: Number>(&mut self, count: usize) -> Result<N, Refusal> {
+        if count > N::WIDTH {
+            return Err(Refusal::TooWide);
+        }
+        Ok(N::of_digits(self.digits(O::BIG, count)?, count))
     }
 
     /// The number of the next `count` bits, the first the highest digit; a signed number is in
@@ -215,7 +376,7 @@ impl<'a, T: Register, O: Order> BitReader<'a, T, O> {
     /// ```
     #[inline]
     pub fn read_be<N: Number>(&mut self, count: usize) -> Result<N, Refusal> {
-        self.read(true, count)
+        self.number(true, count)
     }
 
     /// The number of the next `count` bits, the first the lowest digit; a signed number is in two's
@@ -238,15 +399,17 @@ impl<'a, T: Register, O: Order> BitReader<'a, T, O> {
     /// ```
     #[inline]
     pub fn read_le<N: Number>(&mut self, count: usize) -> Result<N, Refusal> {
-        self.read(false, count)
+        self.number(false, count)
     }
 
     #[inline]
-    fn read<N: Number>(&mut self, big: bool, count: usize) -> Result<N, Refusal> {
+    fn number<N: Number>(&mut self, big: bool, count: usize) -> Result<N, Refusal> {
         if count > N::WIDTH {
             return Err(Refusal::TooWide);
         }
-        self.ask(|words, place, end| N::read(O::CODE, big, words, place, end, count))
+        let digits = self.digits(big, count)?;
+        self.pass(count);
+        Ok(N::of_digits(digits, count))
     }
 
     /// How many bits are `bit` before the first that is not, which is read too. Costs by words.
@@ -269,6 +432,16 @@ impl<'a, T: Register, O: Order> BitReader<'a, T, O> {
     /// ```
     #[inline]
     pub fn read_unary(&mut self, bit: bool) -> Result<usize, Refusal> {
+        let zeros = if bit { !self.window } else { self.window };
+        let run = if O::BIG {
+            zeros.leading_zeros()
+        } else {
+            zeros.trailing_zeros()
+        } as usize;
+        if run < self.held {
+            self.pass(run + 1);
+            return Ok(run);
+        }
         self.ask(|words, place, end| T::read_unary(O::CODE, words, place, end, bit))
     }
 

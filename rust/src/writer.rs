@@ -173,6 +173,32 @@ impl<'a, T: Register, O: Order> BitWriter<'a, T, O> {
         Ok(())
     }
 
+    /// Passes over the bits before the next place that is a multiple of `of` bits, from the first
+    /// bit of the slice on: none where it stands at one. They stay as they are. Constant time.
+    ///
+    /// # Errors
+    ///
+    /// [`Refusal::TooFew`] where the bits end before such a place, also where `of` is 0.
+    ///
+    /// # Examples
+    ///
+    /// ```
+    /// use worghulen::{BitView, BitWriter, Msb0};
+    ///
+    /// let mut bytes = [0_u8; 2];
+    /// let mut writer = BitWriter::new(bytes.view_bits_mut::<Msb0>());
+    /// writer.write(3, 5_u8)?;
+    /// writer.skip_to_multiple_of(8)?;
+    /// writer.write(8, 7_u8)?;
+    /// assert_eq!(bytes, [0xa0, 7]);
+    /// # Ok::<(), worghulen::Refusal>(())
+    /// ```
+    #[inline]
+    pub fn skip_to_multiple_of(&mut self, of: usize) -> Result<(), Refusal> {
+        let to = self.position.checked_next_multiple_of(of);
+        self.skip(to.ok_or(Refusal::TooFew)? - self.position)
+    }
+
     /// Writes a bit. Constant time.
     ///
     /// # Errors
@@ -236,6 +262,54 @@ impl<'a, T: Register, O: Order> BitWriter<'a, T, O> {
         Ok(())
     }
 
+    /// Writes bytes, each in 8 bits: the first bit of a byte is its highest digit in an `Msb0`
+    /// slice, and its lowest in an `Lsb0` one. Costs by words.
+    ///
+    /// # Errors
+    ///
+    /// [`Refusal::TooFew`] where fewer bits are left.
+    ///
+    /// # Examples
+    ///
+    /// ```
+    /// use worghulen::{BitView, BitWriter, Msb0};
+    ///
+    /// let mut words = [0_u32];
+    /// let mut writer = BitWriter::new(words.view_bits_mut::<Msb0>());
+    /// writer.skip(4)?;
+    /// writer.write_bytes(&[0x23, 0x45])?;
+    /// assert_eq!(words, [0x0234_5000]);
+    /// # Ok::<(), worghulen::Refusal>(())
+    /// ```
+    pub fn write_bytes(&mut self, bytes: &[u8]) -> Result<(), Refusal> {
+        self.write_slice(&BitSlice::<u8, O>::from_slice(bytes))
+    }
+
+    /// Writes a number in the next `count` bits, as the order has it: as
+    /// [`write_be`](Self::write_be) in an `Msb0` slice, and as [`write_le`](Self::write_le) in an
+    /// `Lsb0` one. Costs by words.
+    ///
+    /// # Errors
+    ///
+    /// As [`write_be`](Self::write_be).
+    ///
+    /// # Examples
+    ///
+    /// ```
+    /// use worghulen::{BitView, BitWriter, Lsb0};
+    ///
+    /// let mut words = [0_u8];
+    /// let mut writer = BitWriter::new(words.view_bits_mut::<Lsb0>());
+    /// writer.write(4, 11_u16)?;
+    /// writer.write(4, -3_i8)?;
+    /// assert_eq!(words, [0b1101_1011]);
+    /// # Ok::<(), worghulen::Refusal>(())
+    /// ```
+    #[inline]
+    pub fn write<N: Number>(&mut self, count: usize, number: N) -> Result<(), Refusal> {
+        self.number(O::BIG, count, number)
+    }
+
     /// Writes a number in the next `count` bits, the first the highest digit; a signed number in
     /// two's complement of `count` digits. Costs by words.
     ///
@@ -263,7 +337,7 @@ impl<'a, T: Register, O: Order> BitWriter<'a, T, O> {
     /// ```
     #[inline]
     pub fn write_be<N: Number>(&mut self, count: usize, number: N) -> Result<(), Refusal> {
-        self.write(true, count, number)
+        self.number(true, count, number)
     }
 
     /// Writes a number in the next `count` bits, the first the lowest digit; a signed number in
@@ -287,11 +361,11 @@ impl<'a, T: Register, O: Order> BitWriter<'a, T, O> {
     /// ```
     #[inline]
     pub fn write_le<N: Number>(&mut self, count: usize, number: N) -> Result<(), Refusal> {
-        self.write(false, count, number)
+        self.number(false, count, number)
     }
 
     #[inline]
-    fn write<N: Number>(&mut self, big: bool, count: usize, number: N) -> Result<(), Refusal> {
+    fn number<N: Number>(&mut self, big: bool, count: usize, number: N) -> Result<(), Refusal> {
         if count > N::WIDTH {
             return Err(Refusal::TooWide);
         }

@@ -1212,7 +1212,7 @@ mod vectors_changed {
     #[test]
     fn capacity() {
         let bits = bitvec![u8, Lsb0; 0; 9];
-        assert!(bits.capacity() >= 9 && bits.capacity() % 8 == 0);
+        assert!(bits.capacity() >= 9 && bits.capacity().is_multiple_of(8));
     }
 
     #[test]
