@@ -1,13 +1,15 @@
 //! Times calls of this crate beside the loops that a person would write in plain Rust, in one
 //! process, and prints a line for each job: NAME OURS `BY_HAND` RATIO. The first two are nanoseconds,
 //! of a word where the job goes over a memory, each the median of three times; the ratio is that of
-//! by hand to ours. It wants a machine that does nothing else.
+//! by hand to ours. It wants a machine that does nothing else. Words that it is given are the names of
+//! those jobs that it is to time.
 // (times are printed with three digits, and the loops by hand are to be as fast as they can)
 #![allow(clippy::cast_precision_loss, clippy::inline_always)]
 
+use std::env;
 use std::hint::black_box;
 use std::time::{Duration, Instant};
-use worghulen::{BitSlice, BitSliceMut, Lsb0, Msb0, copy_bits};
+use worghulen::{BitReader, BitSlice, BitSliceMut, BitVec, BitWriter, Lsb0, Msb0, copy_bits};
 
 const WORDS: usize = 65536;
 /// All bits of the words but those of four.
@@ -38,6 +40,10 @@ fn median(mut times: [f64; 3]) -> f64 {
 
 /// Times both in turn, three times each, and prints their line.
 fn compare(name: &str, units: usize, mut ours: impl FnMut(), mut by_hand: impl FnMut()) {
+    let mut names = env::args().skip(1).peekable();
+    if names.peek().is_some() && !names.any(|it| it == name) {
+        return;
+    }
     let (mut our_times, mut their_times) = ([0.0; 3], [0.0; 3]);
     for (our_time, their_time) in our_times.iter_mut().zip(&mut their_times) {
         *our_time = time(units, &mut ours);
@@ -209,6 +215,85 @@ mod by_hand {
         }
         let tail = last & (!0 >> 4);
         (tail != 0).then(|| place(body.len() + 1, tail))
+    }
+
+    /// A list of bits that grows.
+    #[derive(Default)]
+    pub struct Bits {
+        pub words: Vec<u64>,
+        pub len: usize,
+    }
+
+    impl Bits {
+        /// Puts a bit behind the last.
+        pub fn push(&mut self, bit: bool) {
+            if self.len % 64 == 0 {
+                self.words.push(0);
+            }
+            let last = self.words.len() - 1;
+            self.words[last] |= u64::from(bit) << (self.len % 64);
+            self.len += 1;
+        }
+
+        /// Takes the last bit out.
+        pub fn pop(&mut self) -> Option<bool> {
+            let last = self.len.checked_sub(1)?;
+            let bit = self.words[last / 64] >> (last % 64) & 1 == 1;
+            self.len = last;
+            self.words.truncate(last.div_ceil(64));
+            Some(bit)
+        }
+    }
+
+    /// Numbers of a memory that are read one behind the other.
+    pub struct Reader<'a> {
+        pub words: &'a [u64],
+        pub window: u64,
+        pub held: usize,
+    }
+
+    impl Reader<'_> {
+        /// The next bits as a number, fewer than 64.
+        #[inline]
+        pub fn read(&mut self, count: usize) -> Option<u64> {
+            let mut number = self.window;
+            if count <= self.held {
+                self.window >>= count;
+                self.held -= count;
+            } else {
+                let (next, rest) = self.words.split_first()?;
+                self.words = rest;
+                number |= next << self.held;
+                self.window = next >> (count - self.held);
+                self.held += 64 - count;
+            }
+            Some(number & !(!0 << count))
+        }
+    }
+
+    /// Numbers that are written one behind the other.
+    pub struct Writer<'a> {
+        pub words: &'a mut [u64],
+        pub place: usize,
+    }
+
+    impl Writer<'_> {
+        /// Writes a number in the next bits, fewer than 64.
+        #[inline]
+        pub fn write(&mut self, count: usize, number: u64) -> Option<()> {
+            let (k, bit) = (self.place / 64, self.place % 64);
+            if number >> count != 0 || self.place + count > 64 * self.words.len() {
+                return None;
+            }
+            let mask = mask::<true>(0, count);
+            self.words[k] = self.words[k] & !(mask << bit) | number << bit;
+            if bit + count > 64 {
+                let up = 64 - bit;
+                self.words[k + 1] = self.words[k + 1] & !(mask >> up) | number >> up;
+            }
+            self.place += count;
+            Some(())
+        }
     }
 
     /// How many of the bits that are one have an even index.
@@ -484,8 +569,112 @@ fn compare_sets(source: &[u64]) {
     assert_eq!(target, other);
 }
 
+fn compare_vectors() {
+    const BITS: usize = WORDS * 4;
+    let (mut ours, mut theirs) = (BitVec::<u64, Lsb0>::new(), by_hand::Bits::default());
+    let bit = |i: usize| i.is_multiple_of(3);
+    compare(
+        "push",
+        BITS,
+        || {
+            let bits = black_box(&mut ours);
+            bits.clear();
+            (0..BITS).for_each(|i| bits.push(bit(i)));
+        },
+        || {
+            let bits = black_box(&mut theirs);
+            bits.words.clear();
+            bits.len = 0;
+            (0..BITS).for_each(|i| bits.push(bit(i)));
+        },
+    );
+    assert_eq!(
+        (ours.len(), ours.as_raw_slice()),
+        (theirs.len, &theirs.words[..])
+    );
+    compare(
+        "push-pop",
+        BITS,
+        || {
+            let bits = black_box(&mut ours);
+            (0..BITS).for_each(|i| {
+                bits.push(bit(i));
+                black_box(bits.pop());
+            });
+        },
+        || {
+            let bits = black_box(&mut theirs);
+            (0..BITS).for_each(|i| {
+                bits.push(bit(i));
+                black_box(bits.pop());
+            });
+        },
+    );
+    compare(
+        "extend",
+        BITS,
+        || {
+            let bits = black_box(&mut ours);
+            bits.clear();
+            bits.extend((0..BITS).map(bit));
+        },
+        || {
+            let bits = black_box(&mut theirs);
+            bits.words.clear();
+            bits.len = 0;
+            (0..BITS).for_each(|i| bits.push(bit(i)));
+        },
+    );
+    assert_eq!(
+        (ours.len(), ours.as_raw_slice()),
+        (theirs.len, &theirs.words[..])
+    );
+}
+
+fn compare_streams(source: &[u64]) {
+    const NUMBERS: usize = WORDS * 64 / 11;
+    let (mut target, mut other) = (words(), words());
+    compare(
+        "read-11",
+        NUMBERS,
+        || {
+            let words = black_box(source);
+            let mut reader = BitReader::new(BitSlice::<_, Lsb0>::from_slice(words));
+            let sum = (0..NUMBERS).map(|_| reader.read::<u64>(black_box(11)).unwrap());
+            black_box(sum.sum::<u64>());
+        },
+        || {
+            let words = black_box(source);
+            let mut reader = by_hand::Reader {
+                words,
+                window: 0,
+                held: 0,
+            };
+            let sum = (0..NUMBERS).map(|_| reader.read(black_box(11)).unwrap());
+            black_box(sum.sum::<u64>());
+        },
+    );
+    compare(
+        "write-11",
+        NUMBERS,
+        || {
+            let words = black_box(&mut target[..]);
+            let mut writer = BitWriter::new(BitSlice::<_, Lsb0>::from_slice_mut(words));
+            (0..NUMBERS as u64).for_each(|i| writer.write(black_box(11), i % 2048).unwrap());
+        },
+        || {
+            let words = black_box(&mut other[..]);
+            let mut writer = by_hand::Writer { words, place: 0 };
+            (0..NUMBERS as u64).for_each(|i| writer.write(black_box(11), i % 2048).unwrap());
+        },
+    );
+    assert_eq!(target, other);
+}
+
 fn main() {
     let source = words();
+    compare_vectors();
+    compare_streams(&source);
     compare_iterators(&source);
     compare_sets(&source);
     compare_copies(&source);

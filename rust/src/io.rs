@@ -638,16 +638,11 @@ impl<W: Write, O: Order> IoWriter<W, O> {
     }
 
     #[inline]
-    #[allow(clippy::cast_sign_loss)] // (of two's complement)
     fn number<N: Number>(&mut self, big: bool, count: usize, number: N) -> Result<()> {
         if count > N::WIDTH {
             return Err(Refusal::TooWide.into());
         }
-        let (wide, digits) = (number.wide(), u64::MAX.checked_shr(64 - count as u32));
-        let digits = wide as u64 & digits.unwrap_or(0);
-        if N::of_digits(digits, count).wide() != wide {
-            return Err(Refusal::TooLarge.into());
-        }
+        let digits = number.digits(count).ok_or(Refusal::TooLarge)?;
         self.put(big, digits, count)
     }
 

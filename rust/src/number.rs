@@ -45,6 +45,9 @@ pub(crate) mod digits {
         /// The number of so many digits, at most 64, where those above them are zero.
         fn of_digits(digits: u64, count: usize) -> Self;
 
+        /// Its lowest digits, so many, at most its width, where it is the number of these.
+        fn digits(self, count: usize) -> Option<u64>;
+
         /// The number, of more digits.
         #[cfg(feature = "std")]
         fn wide(self) -> i128;
@@ -80,18 +83,6 @@ pub(crate) mod digits {
             end: usize,
         ) -> Result<Self, Refusal>;
 
-        /// Writes it in the next so many bits before an end, at most its width; the place moves
-        /// behind them.
-        fn write<T: Exports>(
-            self,
-            order: u8,
-            big: bool,
-            words: &mut [T],
-            place: &mut usize,
-            end: usize,
-            count: usize,
-        ) -> Result<(), Refusal>;
-
         /// Writes its Exp-Golomb code there.
         fn write_code<T: Exports>(
             self,
@@ -106,7 +97,7 @@ pub(crate) mod digits {
 macro_rules! numbers {
     ($(
         $t:ident: $wide:ident by $load:ident, $store:ident, $read_code:ident,
-            $write:ident, $write_code:ident;
+            $write_code:ident;
     )*) => { $(
         impl Number for $t {}
 
@@ -127,6 +118,17 @@ macro_rules! numbers {
                 }
                 let above = 64 - count;
                 ((digits << above) as $wide >> above) as Self
+            }
+
+            #[inline]
+            #[allow(clippy::cast_sign_loss)] // (of two's complement)
+            fn digits(self, count: usize) -> Option<u64> {
+                let digits = if count == 0 {
+                    0
+                } else {
+                    (self as u64) << (64 - count) >> (64 - count)
+                };
+                (Self::of_digits(digits, count) == self).then_some(digits)
             }
 
             #[cfg(feature = "std")]
@@ -162,19 +164,6 @@ macro_rules! numbers {
             }
 
             #[inline]
-            fn write<T: Exports>(
-                self,
-                order: u8,
-                big: bool,
-                words: &mut [T],
-                place: &mut usize,
-                end: usize,
-                count: usize,
-            ) -> Result<(), Refusal> {
-                T::$write(order, big, words, place, end, count, self as $wide)
-            }
-
-            #[inline]
             fn write_code<T: Exports>(
                 self,
                 order: u8,
@@ -189,19 +178,14 @@ macro_rules! numbers {
 }
 
 numbers! {
-    u8: u64 by load, store, read_exp_golomb, write, write_exp_golomb;
-    u16: u64 by load, store, read_exp_golomb, write, write_exp_golomb;
-    u32: u64 by load, store, read_exp_golomb, write, write_exp_golomb;
-    u64: u64 by load, store, read_exp_golomb, write, write_exp_golomb;
-    usize: u64 by load, store, read_exp_golomb, write, write_exp_golomb;
-    i8: i64 by load_signed, store_signed, read_signed_exp_golomb,
-        write_signed, write_signed_exp_golomb;
-    i16: i64 by load_signed, store_signed, read_signed_exp_golomb,
-        write_signed, write_signed_exp_golomb;
-    i32: i64 by load_signed, store_signed, read_signed_exp_golomb,
-        write_signed, write_signed_exp_golomb;
-    i64: i64 by load_signed, store_signed, read_signed_exp_golomb,
-        write_signed, write_signed_exp_golomb;
-    isize: i64 by load_signed, store_signed, read_signed_exp_golomb,
-        write_signed, write_signed_exp_golomb;
+    u8: u64 by load, store, read_exp_golomb, write_exp_golomb;
+    u16: u64 by load, store, read_exp_golomb, write_exp_golomb;
+    u32: u64 by load, store, read_exp_golomb, write_exp_golomb;
+    u64: u64 by load, store, read_exp_golomb, write_exp_golomb;
+    usize: u64 by load, store, read_exp_golomb, write_exp_golomb;
+    i8: i64 by load_signed, store_signed, read_signed_exp_golomb, write_signed_exp_golomb;
+    i16: i64 by load_signed, store_signed, read_signed_exp_golomb, write_signed_exp_golomb;
+    i32: i64 by load_signed, store_signed, read_signed_exp_golomb, write_signed_exp_golomb;
+    i64: i64 by load_signed, store_signed, read_signed_exp_golomb, write_signed_exp_golomb;
+    isize: i64 by load_signed, store_signed, read_signed_exp_golomb, write_signed_exp_golomb;
 }

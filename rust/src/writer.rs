@@ -4,7 +4,7 @@ use crate::number::Number;
 use crate::order::Order;
 use crate::refusal::Refusal;
 use crate::register::Register;
-use crate::slice::BitSlice;
+use crate::slice::{BitSlice, granted};
 use crate::slice_mut::BitSliceMut;
 
 /// The bits of a slice, and the place among them behind those that were written.
@@ -369,7 +369,29 @@ impl<'a, T: Register, O: Order> BitWriter<'a, T, O> {
         if count > N::WIDTH {
             return Err(Refusal::TooWide);
         }
-        self.put(|words, place, end| number.write(O::CODE, big, words, place, end, count))
+        if count > self.remaining() {
+            return Err(Refusal::TooFew);
+        }
+        let digits = number.digits(count).ok_or(Refusal::TooLarge)?;
+        if count > 0 {
+            let digits = if O::BIG == big {
+                digits
+            } else {
+                digits.reverse_bits() >> (64 - count)
+            };
+            let place = self.position;
+            let (words, start) = self.bits.place_mut();
+            granted(T::store(
+                O::CODE,
+                O::BIG,
+                words,
+                start + place,
+                count,
+                digits,
+            ));
+            self.position += count;
+        }
+        Ok(())
     }
 
     /// Writes `count` bits that are `bit`, and one that is not. Costs by words.

@@ -16,6 +16,7 @@ pub struct Vec<T, A = Global> {
 }
 
 impl<T> From<Items<T>> for Vec<T> {
+    #[inline]
     fn from(items: Items<T>) -> Self {
         Self {
             items,
@@ -25,6 +26,7 @@ impl<T> From<Items<T>> for Vec<T> {
 }
 
 impl<T> From<Vec<T>> for Items<T> {
+    #[inline]
     fn from(all: Vec<T>) -> Self {
         all.items
     }
@@ -32,6 +34,7 @@ impl<T> From<Vec<T>> for Items<T> {
 
 impl<T, A: Allocator> Vec<T, A> {
     /// A vector of nothing.
+    #[inline]
     pub fn new(alloc: A) -> Self {
         Self {
             items: Items::new(),
@@ -40,11 +43,13 @@ impl<T, A: Allocator> Vec<T, A> {
     }
 
     /// Its allocator.
+    #[inline]
     pub fn allocator(&self) -> &A {
         &self.alloc
     }
 
     /// Takes room for so many more items, where the allocator gives leave.
+    #[inline]
     pub fn reserve(&mut self, more: usize) -> Result<(), AllocError> {
         let len = self.items.len().checked_add(more).ok_or(AllocError)?;
         if len <= self.items.capacity() {
@@ -56,6 +61,7 @@ impl<T, A: Allocator> Vec<T, A> {
     }
 
     /// Puts an item behind the last.
+    #[inline]
     pub fn push(&mut self, item: T) -> Result<(), AllocError> {
         self.reserve(1)?;
         self.items.push(item);
@@ -63,6 +69,7 @@ impl<T, A: Allocator> Vec<T, A> {
     }
 
     /// Puts copies of items behind the last.
+    #[inline]
     pub fn extend_from_slice(&mut self, items: &[T]) -> Result<(), AllocError>
     where
         T: Clone,
@@ -73,6 +80,7 @@ impl<T, A: Allocator> Vec<T, A> {
     }
 
     /// Puts an item before another.
+    #[inline]
     pub fn insert(&mut self, at: usize, item: T) -> Result<(), AllocError> {
         self.reserve(1)?;
         self.items.insert(at, item);
@@ -80,6 +88,7 @@ impl<T, A: Allocator> Vec<T, A> {
     }
 
     /// Puts copies of an item behind the last, or drops the last, until there are so many.
+    #[inline]
     pub fn resize(&mut self, len: usize, item: T) -> Result<(), AllocError>
     where
         T: Clone,
@@ -94,46 +103,55 @@ impl<T, A: Allocator> Vec<T, A> {
 /// vector.)
 impl<T, A> Vec<T, A> {
     /// How many items have room.
+    #[inline]
     pub fn capacity(&self) -> usize {
         self.items.capacity()
     }
 
     /// The items.
+    #[inline]
     pub fn as_slice(&self) -> &[T] {
         &self.items
     }
 
     /// The items, to be changed.
+    #[inline]
     pub fn as_mut_slice(&mut self) -> &mut [T] {
         &mut self.items
     }
 
     /// How many there are.
+    #[inline]
     pub fn len(&self) -> usize {
         self.items.len()
     }
 
     /// Takes the last out.
+    #[inline]
     pub fn pop(&mut self) -> Option<T> {
         self.items.pop()
     }
 
     /// Takes one out.
+    #[inline]
     pub fn remove(&mut self, at: usize) -> T {
         self.items.remove(at)
     }
 
     /// Takes one out, and puts the last in its place.
+    #[inline]
     pub fn swap_remove(&mut self, at: usize) -> T {
         self.items.swap_remove(at)
     }
 
     /// Puts the first behind the others.
+    #[inline]
     pub fn rotate_left(&mut self, by: usize) {
         self.items.rotate_left(by);
     }
 
     /// Drops the last, until there are so many.
+    #[inline]
     pub fn truncate(&mut self, len: usize) {
         self.items.truncate(len);
     }
@@ -142,12 +160,14 @@ impl<T, A> Vec<T, A> {
 impl<T, A> Deref for Vec<T, A> {
     type Target = [T];
 
+    #[inline]
     fn deref(&self) -> &[T] {
         &self.items
     }
 }
 
 impl<T, A> DerefMut for Vec<T, A> {
+    #[inline]
     fn deref_mut(&mut self) -> &mut [T] {
         &mut self.items
     }
