@@ -1,4 +1,8 @@
-#![doc = include_str!("../README.md")]
+#![cfg_attr(feature = "alloc", doc = include_str!("../README.md"))]
+#![cfg_attr(
+    not(feature = "alloc"),
+    doc = "Bits in slices of words, and in arrays of their own: see `rust/README.md`, whose examples want the feature `alloc`."
+)]
 #![no_std]
 #![deny(missing_docs)]
 #![forbid(unsafe_code)]
