@@ -227,7 +227,7 @@ mod by_hand {
     impl Bits {
         /// Puts a bit behind the last.
         pub fn push(&mut self, bit: bool) {
-            if self.len % 64 == 0 {
+            if self.len.is_multiple_of(64) {
                 self.words.push(0);
             }
             let last = self.words.len() - 1;
