@@ -8,7 +8,7 @@
  * The last lines are how many calls there were of each export, and a sum of all answers, by which
  * two archives are compared; the status is 1 where one is wrong. */
 #define _DEFAULT_SOURCE
-#include "bitvec.h"
+#include "model.h"
 
 #include <inttypes.h>
 #include <stdio.h>
@@ -67,6 +67,9 @@ enum { MEMORY, OTHER, SPANS, REQUESTS, REPLIES, NUMBERS, ANSWER, PLACE, ROOMS };
 
 static struct guarded rooms[ROOMS];
 
+/* (of no declared type, as words of any width are read and written there) */
+static uint8_t *model, *other_model, *old_model;
+
 static void map_rooms(void) {
     for (int i = 0; i < ROOMS; i++) {
         uint8_t *all = mmap(NULL, ROOM + 2 * PAGE, PROT_READ | PROT_WRITE,
@@ -78,6 +81,11 @@ static void map_rooms(void) {
         }
         rooms[i].first = all + PAGE;
     }
+    model = calloc(1, ROOM);
+    other_model = calloc(1, ROOM);
+    old_model = calloc(1, ROOM);
+    if (model == NULL || other_model == NULL || old_model == NULL)
+        exit(2);
 }
 
 /* The buffers of a call. */
@@ -235,7 +243,6 @@ static struct buffer any_memory(int room, unsigned width, uint8_t *model) {
     return buffer;
 }
 
-static uint8_t model[ROOM], other_model[ROOM], old_model[ROOM];
 
 /* Copies a stretch of the model, as it was before. */
 static void model_copy(unsigned width, uint8_t order, const uint8_t *source, size_t from,
@@ -401,7 +408,7 @@ static void sorted_room(struct buffer room, const struct bitvec_span *spans, uin
 
 /* For each width: a call of each export, of which the arguments are any. */
 #define CALLS(W, T)                                                                                \
-    static void copy_##W(uint8_t order, unsigned width) {                                          \
+    static void copy_##W(uint8_t order, unsigned width) {                                              \
         struct buffer source = any_memory(OTHER, width, other_model);                              \
         struct buffer target = any_memory(MEMORY, width, model);                                   \
         size_t words = source.size / sizeof(T), target_words = target.size / sizeof(T);            \
@@ -410,17 +417,14 @@ static void sorted_room(struct buffer room, const struct bitvec_span *spans, uin
                     : from.count < target_words * width                                            \
                         ? below(target_words * width - from.count + 1)                             \
                         : 0;                                                                       \
-        uint8_t expected = range_status(width, order, words, from.start, from.count);              \
-        if (expected == BITVEC_OK)                                                                 \
-            expected = range_status(width, order, target_words, to, from.count);                   \
         protect(source, PROT_READ);                                                                \
         uint8_t status = bitvec_c_copy_##W(order, (T *)(void *)target.at, target_words, to,        \
                                            (const T *)(void *)source.at, words, from.start,        \
                                            from.count);                                            \
         protect(source, PROT_READ | PROT_WRITE);                                                   \
-        same_status(status, expected);                                                             \
-        if (status == BITVEC_OK)                                                                   \
-            model_copy(width, order, other_model, from.start, model, to, from.count);              \
+        same_status(status, model_copy_##W(order, (T *)(void *)model, target_words, to,            \
+                                           (const T *)(void *)other_model, words,                  \
+                                           from.start, from.count));                               \
         same_bytes(target, model);                                                                 \
     }                                                                                              \
     static void copy_within_##W(uint8_t order, unsigned width) {                                   \
@@ -439,19 +443,18 @@ static void sorted_room(struct buffer room, const struct bitvec_span *spans, uin
             model_copy(width, order, old_model, from.start, model, to, from.count);                \
         same_bytes(memory, model);                                                                 \
     }                                                                                              \
-    static void fill_##W(uint8_t order, unsigned width) {                                          \
+    static void fill_##W(uint8_t order, unsigned width) {                                              \
         struct buffer memory = any_memory(MEMORY, width, model);                                   \
         size_t words = memory.size / sizeof(T);                                                    \
         struct range range = any_range(words * width);                                             \
         bool bit = one_in(2);                                                                      \
         uint8_t status = bitvec_c_fill_##W(order, (T *)(void *)memory.at, words, range.start,      \
                                            range.count, bit);                                      \
-        same_status(status, range_status(width, order, words, range.start, range.count));          \
-        for (size_t i = 0; status == BITVEC_OK && i < range.count; i++)                            \
-            put_bit(model, width, order, range.start + i, bit);                                    \
+        same_status(status, model_fill_##W(order, (T *)(void *)model, words, range.start,          \
+                                           range.count, bit));                                     \
         same_bytes(memory, model);                                                                 \
     }                                                                                              \
-    static void get_##W(uint8_t order, unsigned width) {                                           \
+    static void get_##W(uint8_t order, unsigned width) {                                               \
         struct buffer memory = any_memory(MEMORY, width, model), answer = take(ANSWER, 1);         \
         size_t words = memory.size / sizeof(T), place = mostly(words * width);                     \
         bool before = one_in(2);                                                                   \
@@ -460,20 +463,19 @@ static void sorted_room(struct buffer room, const struct bitvec_span *spans, uin
         uint8_t status = bitvec_c_get_##W(order, (const T *)(void *)memory.at, words, place,       \
                                           (bool *)answer.at);                                      \
         protect(memory, PROT_READ | PROT_WRITE);                                                   \
-        same_status(status, range_status(width, order, words, place, 1));                          \
-        bool expected = status == BITVEC_OK ? bit_at(model, width, order, place) : before;         \
+        bool expected = before;                                                                    \
+        same_status(status, model_get_##W(order, (const T *)(void *)model, words, place,           \
+                                          &expected));                                             \
         if (*answer.at != (uint8_t)expected)                                                       \
             wrong("the bit");                                                                      \
         same_bytes(memory, model);                                                                 \
     }                                                                                              \
-    static void set_##W(uint8_t order, unsigned width) {                                           \
+    static void set_##W(uint8_t order, unsigned width) {                                               \
         struct buffer memory = any_memory(MEMORY, width, model);                                   \
         size_t words = memory.size / sizeof(T), place = mostly(words * width);                     \
         bool bit = one_in(2);                                                                      \
         uint8_t status = bitvec_c_set_##W(order, (T *)(void *)memory.at, words, place, bit);       \
-        same_status(status, range_status(width, order, words, place, 1));                          \
-        if (status == BITVEC_OK)                                                                   \
-            put_bit(model, width, order, place, bit);                                              \
+        same_status(status, model_set_##W(order, (T *)(void *)model, words, place, bit));          \
         same_bytes(memory, model);                                                                 \
     }                                                                                              \
     static void load_##W(uint8_t order, unsigned width) {                                          \
@@ -513,9 +515,9 @@ static void sorted_room(struct buffer room, const struct bitvec_span *spans, uin
                     number >> i & 1);                                                              \
         same_bytes(memory, model);                                                                 \
     }                                                                                              \
-    static void count_ones_##W(uint8_t order, unsigned width) {                                    \
+    static void count_ones_##W(uint8_t order, unsigned width) {                                        \
         struct buffer memory = any_memory(MEMORY, width, model), answer = take(ANSWER, 8);         \
-        size_t words = memory.size / sizeof(T), before = any(), expected = 0, ones;                \
+        size_t words = memory.size / sizeof(T), before = any(), expected = before, ones;           \
         struct range range = any_range(words * width);                                             \
         memcpy(answer.at, &before, 8);                                                             \
         protect(memory, PROT_READ);                                                                \
@@ -523,17 +525,16 @@ static void sorted_room(struct buffer room, const struct bitvec_span *spans, uin
             bitvec_c_count_ones_##W(order, (const T *)(void *)memory.at, words, range.start,       \
                                     range.count, (size_t *)(void *)answer.at);                     \
         protect(memory, PROT_READ | PROT_WRITE);                                                   \
-        same_status(status, range_status(width, order, words, range.start, range.count));          \
-        for (size_t i = 0; status == BITVEC_OK && i < range.count; i++)                            \
-            expected += bit_at(model, width, order, range.start + i);                              \
+        same_status(status, model_count_ones_##W(order, (const T *)(void *)model, words,           \
+                                                 range.start, range.count, &expected));            \
         memcpy(&ones, answer.at, 8);                                                               \
-        if (ones != (status == BITVEC_OK ? expected : before))                                     \
+        if (ones != expected)                                                                      \
             wrong("the count");                                                                    \
         same_bytes(memory, model);                                                                 \
     }                                                                                              \
-    static void first_one_##W(uint8_t order, unsigned width) {                                     \
+    static void first_one_##W(uint8_t order, unsigned width) {                                         \
         struct buffer memory = any_memory(MEMORY, width, model), answer = take(ANSWER, 8);         \
-        size_t words = memory.size / sizeof(T), before = any(), expected = 0, index;               \
+        size_t words = memory.size / sizeof(T), before = any(), expected = before, index;          \
         struct range range = any_range(words * width);                                             \
         memcpy(answer.at, &before, 8);                                                             \
         protect(memory, PROT_READ);                                                                \
@@ -541,22 +542,20 @@ static void sorted_room(struct buffer room, const struct bitvec_span *spans, uin
             bitvec_c_first_one_##W(order, (const T *)(void *)memory.at, words, range.start,        \
                                    range.count, (size_t *)(void *)answer.at);                      \
         protect(memory, PROT_READ | PROT_WRITE);                                                   \
-        same_status(status, range_status(width, order, words, range.start, range.count));          \
-        while (status == BITVEC_OK && expected < range.count &&                                    \
-               !bit_at(model, width, order, range.start + expected))                               \
-            expected++;                                                                            \
+        same_status(status, model_first_one_##W(order, (const T *)(void *)model, words,            \
+                                                range.start, range.count, &expected));             \
         memcpy(&index, answer.at, 8);                                                              \
-        if (index != (status == BITVEC_OK ? expected : before))                                    \
+        if (index != expected)                                                                     \
             wrong("the index");                                                                    \
         same_bytes(memory, model);                                                                 \
     }                                                                                              \
-    static void equal_##W(uint8_t order, unsigned width) {                                         \
+    static void equal_##W(uint8_t order, unsigned width) {                                             \
         struct buffer memory = any_memory(MEMORY, width, model), answer = take(ANSWER, 1);         \
         struct buffer other = any_memory(OTHER, width, other_model);                               \
         size_t words = memory.size / sizeof(T), other_words = other.size / sizeof(T);              \
         struct range range = any_range(words * width);                                             \
         size_t there = mostly(other_words * width);                                                \
-        bool before = one_in(2), alike = one_in(2), expected = true;                               \
+        bool before = one_in(2), alike = one_in(2), expected = before;                             \
         if (alike) { /* mostly the same bits, but for one */                                       \
             other = memory;                                                                        \
             other_words = words;                                                                   \
@@ -571,17 +570,13 @@ static void sorted_room(struct buffer room, const struct bitvec_span *spans, uin
                                             there, range.count, (bool *)answer.at);                \
         protect(memory, PROT_READ | PROT_WRITE);                                                   \
         protect(other, PROT_READ | PROT_WRITE);                                                    \
-        uint8_t wanted = range_status(width, order, words, range.start, range.count);              \
-        if (wanted == BITVEC_OK)                                                                   \
-            wanted = range_status(width, order, other_words, there, range.count);                  \
-        same_status(status, wanted);                                                               \
-        for (size_t i = 0; status == BITVEC_OK && i < range.count; i++)                            \
-            expected = expected && bit_at(model, width, order, range.start + i) ==                 \
-                                       bit_at(other_model, width, order, there + i);               \
-        if (*answer.at != (uint8_t)(status == BITVEC_OK ? expected : before))                      \
+        same_status(status, model_equal_##W(order, (const T *)(void *)model, words, range.start,   \
+                                            (const T *)(void *)other_model, other_words, there,    \
+                                            range.count, &expected));                              \
+        if (*answer.at != (uint8_t)expected)                                                       \
             wrong("the answer");                                                                   \
         same_bytes(memory, model);                                                                 \
-    }
+    }                                                                                              \
 
 /* The runs, without room and with it: the ends of their names, and what else they are given. */
 #define RUNS(W, T, IN, ROOMY, TAIL)                                                                \
@@ -888,38 +883,27 @@ static size_t model_zeros(unsigned width, uint8_t order, struct range range) {
 
 /* The exports that replace a bit, or exchange two. */
 #define EXCHANGE(W, T)                                                                             \
-    static void replace_##W(uint8_t order, unsigned width) {                                       \
+    static void replace_##W(uint8_t order, unsigned width) {                                           \
         struct buffer memory = any_memory(MEMORY, width, model), answer = take(ANSWER, 1);         \
         size_t words = memory.size / sizeof(T), place = mostly(words * width);                     \
         bool before = one_in(2), bit = one_in(2), expected = before;                               \
         *(bool *)answer.at = before;                                                               \
         uint8_t status = bitvec_c_replace_##W(order, (T *)(void *)memory.at, words, place, bit,    \
                                               (bool *)answer.at);                                  \
-        same_status(status, range_status(width, order, words, place, 1));                          \
-        if (status == BITVEC_OK) {                                                                 \
-            expected = bit_at(model, width, order, place);                                         \
-            put_bit(model, width, order, place, bit);                                              \
-        }                                                                                          \
+        same_status(status, model_replace_##W(order, (T *)(void *)model, words, place, bit,        \
+                                              &expected));                                         \
         if (*answer.at != (uint8_t)expected)                                                       \
             wrong("the bit");                                                                      \
         same_bytes(memory, model);                                                                 \
     }                                                                                              \
-    static void swap_##W(uint8_t order, unsigned width) {                                          \
+    static void swap_##W(uint8_t order, unsigned width) {                                              \
         struct buffer memory = any_memory(MEMORY, width, model);                                   \
         size_t words = memory.size / sizeof(T), bits = words * width;                              \
         size_t place = mostly(bits), other = mostly(bits);                                         \
         uint8_t status = bitvec_c_swap_##W(order, (T *)(void *)memory.at, words, place, other);    \
-        uint8_t expected = range_status(width, order, words, place, 1);                            \
-        if (expected == BITVEC_OK)                                                                 \
-            expected = range_status(width, order, words, other, 1);                                \
-        same_status(status, expected);                                                             \
-        if (status == BITVEC_OK) {                                                                 \
-            bool bit = bit_at(model, width, order, place);                                         \
-            put_bit(model, width, order, place, bit_at(model, width, order, other));               \
-            put_bit(model, width, order, other, bit);                                              \
-        }                                                                                          \
+        same_status(status, model_swap_##W(order, (T *)(void *)model, words, place, other));       \
         same_bytes(memory, model);                                                                 \
-    }
+    }                                                                                              \
 
 /* The exports of signed numbers. */
 #define SIGNED_NUMBERS(W, T)                                                                       \
@@ -1005,16 +989,66 @@ static size_t model_zeros(unsigned width, uint8_t order, struct range range) {
         same_bytes(target, model);                                                                 \
     }
 
+/* Calls of which model.h has the model: one that looks for a bit, and one that combines two ranges. */
+#define SOUGHT(C, W, T, ...)                                                                       \
+    static void C##_##W(uint8_t order, unsigned width) {                                           \
+        struct buffer memory = any_memory(MEMORY, width, model), answer = take(ANSWER, 8);         \
+        size_t words = memory.size / sizeof(T), before = any(), expected = before, index;          \
+        struct range range = any_range(words * width);                                             \
+        size_t from = mostly(range.count);                                                         \
+        bool bit = one_in(2);                                                                      \
+        (void)from;                                                                                \
+        memcpy(answer.at, &before, 8);                                                             \
+        protect(memory, PROT_READ);                                                                \
+        uint8_t status =                                                                           \
+            bitvec_c_##C##_##W(order, (const T *)(void *)memory.at, words, range.start,            \
+                               range.count, __VA_ARGS__, (size_t *)(void *)answer.at);             \
+        protect(memory, PROT_READ | PROT_WRITE);                                                   \
+        same_status(status, model_##C##_##W(order, (const T *)(void *)model, words, range.start,   \
+                                            range.count, __VA_ARGS__, &expected));                 \
+        memcpy(&index, answer.at, 8);                                                              \
+        if (index != expected)                                                                     \
+            wrong("the index");                                                                    \
+        same_bytes(memory, model);                                                                 \
+    }
+
+#define COMBINED(C, W, T)                                                                          \
+    static void C##_##W(uint8_t order, unsigned width) {                                           \
+        uint8_t other_order = any_order();                                                         \
+        struct buffer source = any_memory(OTHER, width, other_model);                              \
+        struct buffer target = any_memory(MEMORY, width, model);                                   \
+        size_t words = source.size / sizeof(T), target_words = target.size / sizeof(T);            \
+        struct range from = any_range(words * width);                                              \
+        size_t to = any_start(target_words * width, from.count);                                   \
+        protect(source, PROT_READ);                                                                \
+        uint8_t status =                                                                           \
+            bitvec_c_##C##_##W(order, (T *)(void *)target.at, target_words, to, other_order,       \
+                               (const T *)(void *)source.at, words, from.start, from.count);       \
+        protect(source, PROT_READ | PROT_WRITE);                                                   \
+        same_status(status, model_##C##_##W(order, (T *)(void *)model, target_words, to, other_order,\
+                                            (const T *)(void *)other_model, words, from.start,     \
+                                            from.count));                                          \
+        same_bytes(target, model);                                                                 \
+    }
+
+/* What model.h answers in one. */
+#define BY_MODEL(C, T)                                                                             \
+    (model_##C(order, (const T *)(void *)model, words, range.start, other_order,                   \
+               (const T *)(void *)other_model, other_words, there, range.count, &told) == BITVEC_OK\
+         ? told                                                                                    \
+         : 0)
+
 /* A call that answers how many pairs of bits an operator makes one, or of the first such. */
-#define QUESTION(C, T, S, OPERATOR, COUNTS, A, ANSWERED)                                           \
+#define QUESTION(C, T, S, OPERATOR, A, ANSWERED)                                                   \
     static void C(uint8_t order, unsigned width) {                                                 \
         struct buffer memory = any_memory(MEMORY, width, model), answer = take(ANSWER, sizeof(A)); \
         unsigned other_width = 8 * sizeof(S);                                                      \
         struct buffer other = any_memory(OTHER, other_width, other_model);                         \
         uint8_t other_order = any_order();                                                         \
         size_t words = memory.size / sizeof(T), other_words = other.size / sizeof(S);              \
-        size_t found = 0, seen = 0;                                                                \
+        size_t told = 0, seen = 0;                                                                 \
         A before = (A)any(), answered;                                                             \
+        (void)told;                                                                                \
         struct range range = any_range(words * width);                                             \
         size_t there = any_start(other_words * other_width, range.count);                          \
         if (width == other_width && one_in(2)) { /* the same bits, so that they seldom differ */   \
@@ -1047,7 +1081,7 @@ static size_t model_zeros(unsigned width, uint8_t order, struct range range) {
         for (; status == BITVEC_OK && seen < range.count; seen++) {                                \
             bool here = bit_at(model, width, order, range.start + seen);                           \
             bool is = bit_at(other_model, other_width, other_order, there + seen);                 \
-            if (model_operator(OPERATOR, here, is) && ++found && !(COUNTS))                        \
+            if (model_operator(OPERATOR, here, is))                                                \
                 break;                                                                             \
         }                                                                                          \
         memcpy(&answered, answer.at, sizeof(A));                                                   \
@@ -1057,14 +1091,14 @@ static size_t model_zeros(unsigned width, uint8_t order, struct range range) {
     }
 
 #define MORE_CALLS(W, T)                                                                           \
-    SEEK(first, W, T, below(2))                                                                    \
-    SEEK(last, W, T, below(2))                                                                     \
+    SOUGHT(first, W, T, bit)                                                                       \
+    SOUGHT(last, W, T, bit)                                                                        \
     SEEK_NAMED(first_zero, W, T, model_first, 0)                                                   \
     SEEK_NAMED(last_one, W, T, model_last, 1)                                                      \
     SEEK_NAMED(last_zero, W, T, model_last, 0)                                                     \
     SEEK(find_zeros, W, T, one_in(2) ? below(9) : mostly(range.count < 600 ? range.count : 9))     \
-    SEEK_FROM(next, W, T, below(2), seek.from, seek.asked)                                         \
-    SEEK_FROM(previous, W, T, below(2), seek.from, seek.asked)                                     \
+    SOUGHT(next, W, T, from, bit)                                                                  \
+    SOUGHT(previous, W, T, from, bit)                                                              \
     SEEK_FROM_NAMED(next_one, W, T, model_next, 1)                                                 \
     SEEK_FROM_NAMED(next_zero, W, T, model_next, 0)                                                \
     SEEK_FROM_NAMED(previous_one, W, T, model_previous, 1)                                         \
@@ -1081,41 +1115,41 @@ static size_t model_zeros(unsigned width, uint8_t order, struct range range) {
     EDIT(shift_left, W, T, SHIFT_LEFT, mostly(range.count), range.count, moved)                    \
     EDIT(shift_right, W, T, SHIFT_RIGHT, mostly(range.count), range.count, moved)                  \
     EDIT(rotate_left, W, T, ROTATE_LEFT, mostly(range.count), range.count, moved)                  \
-    COMBINE(and_##W, and_##W, T, T, AND)                                                           \
-    COMBINE(or_##W, or_##W, T, T, OR)                                                              \
-    COMBINE(xor_##W, xor_##W, T, T, XOR)                                                           \
-    COMBINE(and_not_##W, and_not_##W, T, T, AND_NOT)                                               \
+    COMBINED(and, W, T)                                                                            \
+    COMBINED(or, W, T)                                                                             \
+    COMBINED(xor, W, T)                                                                            \
+    COMBINED(and_not, W, T)                                                                        \
     COMBINE(copy_u8_to_##W, copy_u8_to_##W, uint8_t, T, SOURCE)                                    \
     COMBINE(copy_u16_to_##W, copy_u16_to_##W, uint16_t, T, SOURCE)                                 \
     COMBINE(copy_u32_to_##W, copy_u32_to_##W, uint32_t, T, SOURCE)                                 \
     COMBINE(copy_u64_to_##W, copy_u64_to_##W, uint64_t, T, SOURCE)                                 \
-    QUESTION(count_and_##W, T, T, AND, true, size_t, found)                                        \
-    QUESTION(first_and_##W, T, T, AND, false, size_t, seen)                                        \
-    QUESTION(first_and_not_##W, T, T, AND_NOT, false, size_t, seen)                                \
-    QUESTION(first_difference_##W, T, T, XOR, false, size_t, seen)                                 \
-    QUESTION(is_subset_##W, T, T, AND_NOT, false, bool, seen == range.count)                       \
-    QUESTION(intersects_##W, T, T, AND, false, bool, seen != range.count)
+    QUESTION(count_and_##W, T, T, AND, size_t, BY_MODEL(count_and_##W, T))                         \
+    QUESTION(first_and_##W, T, T, AND, size_t, BY_MODEL(first_and_##W, T))                         \
+    QUESTION(first_and_not_##W, T, T, AND_NOT, size_t, BY_MODEL(first_and_not_##W, T))             \
+    QUESTION(first_difference_##W, T, T, XOR, size_t, BY_MODEL(first_difference_##W, T))           \
+    QUESTION(is_subset_##W, T, T, AND_NOT, bool, seen == range.count)                              \
+    QUESTION(intersects_##W, T, T, AND, bool, seen != range.count)
 
 MORE_CALLS(u8, uint8_t)
 MORE_CALLS(u16, uint16_t)
 MORE_CALLS(u32, uint32_t)
 MORE_CALLS(u64, uint64_t)
-QUESTION(first_difference_u8_with_u8, uint8_t, uint8_t, XOR, false, size_t, seen)
-QUESTION(first_difference_u8_with_u16, uint8_t, uint16_t, XOR, false, size_t, seen)
-QUESTION(first_difference_u8_with_u32, uint8_t, uint32_t, XOR, false, size_t, seen)
-QUESTION(first_difference_u8_with_u64, uint8_t, uint64_t, XOR, false, size_t, seen)
-QUESTION(first_difference_u16_with_u8, uint16_t, uint8_t, XOR, false, size_t, seen)
-QUESTION(first_difference_u16_with_u16, uint16_t, uint16_t, XOR, false, size_t, seen)
-QUESTION(first_difference_u16_with_u32, uint16_t, uint32_t, XOR, false, size_t, seen)
-QUESTION(first_difference_u16_with_u64, uint16_t, uint64_t, XOR, false, size_t, seen)
-QUESTION(first_difference_u32_with_u8, uint32_t, uint8_t, XOR, false, size_t, seen)
-QUESTION(first_difference_u32_with_u16, uint32_t, uint16_t, XOR, false, size_t, seen)
-QUESTION(first_difference_u32_with_u32, uint32_t, uint32_t, XOR, false, size_t, seen)
-QUESTION(first_difference_u32_with_u64, uint32_t, uint64_t, XOR, false, size_t, seen)
-QUESTION(first_difference_u64_with_u8, uint64_t, uint8_t, XOR, false, size_t, seen)
-QUESTION(first_difference_u64_with_u16, uint64_t, uint16_t, XOR, false, size_t, seen)
-QUESTION(first_difference_u64_with_u32, uint64_t, uint32_t, XOR, false, size_t, seen)
-QUESTION(first_difference_u64_with_u64, uint64_t, uint64_t, XOR, false, size_t, seen)
+QUESTION(first_difference_u8_with_u8, uint8_t, uint8_t, XOR, size_t, seen)
+QUESTION(first_difference_u8_with_u16, uint8_t, uint16_t, XOR, size_t, seen)
+QUESTION(first_difference_u8_with_u32, uint8_t, uint32_t, XOR, size_t, seen)
+QUESTION(first_difference_u8_with_u64, uint8_t, uint64_t, XOR, size_t, seen)
+QUESTION(first_difference_u16_with_u8, uint16_t, uint8_t, XOR, size_t, seen)
+QUESTION(first_difference_u16_with_u16, uint16_t, uint16_t, XOR, size_t, seen)
+QUESTION(first_difference_u16_with_u32, uint16_t, uint32_t, XOR, size_t, seen)
+QUESTION(first_difference_u16_with_u64, uint16_t, uint64_t, XOR, size_t, seen)
+QUESTION(first_difference_u32_with_u8, uint32_t, uint8_t, XOR, size_t, seen)
+QUESTION(first_difference_u32_with_u16, uint32_t, uint16_t, XOR, size_t, seen)
+QUESTION(first_difference_u32_with_u32, uint32_t, uint32_t, XOR, size_t, seen)
+QUESTION(first_difference_u32_with_u64, uint32_t, uint64_t, XOR, size_t, seen)
+QUESTION(first_difference_u64_with_u8, uint64_t, uint8_t, XOR, size_t, seen)
+QUESTION(first_difference_u64_with_u16, uint64_t, uint16_t, XOR, size_t, seen)
+QUESTION(first_difference_u64_with_u32, uint64_t, uint32_t, XOR, size_t, seen)
+QUESTION(first_difference_u64_with_u64, uint64_t, uint64_t, XOR, size_t, seen)
 
 /* A stream: its place and its end, which mostly lie in a memory, and what may be asked of it, or
  * written to it. */

@@ -219,6 +219,11 @@ struct bitvec_reply {
     uint8_t kind; /* an enum bitvec_reply_kind */
 };
 
+/* Frama-C reads what each call promises. */
+#if defined(__FRAMAC__) && !defined(BITVEC_NO_ACSL)
+#include "bitvec_acsl.h"
+#endif
+
 /* --------------------------------------- The version ---------------------------------------- */
 
 /* Returns the version of the archive, to be compared with that of the header, BITVEC_VERSION. */
