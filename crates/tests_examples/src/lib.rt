@@ -1,11 +1,15 @@
-//! The examples: packet headers, parameters of H.264 streams, and recipes of the README and the
-//! guide.
+//! The examples: packet headers, parameters of H.264 streams, pages and keys, and recipes of the
+//! README and the guide.
 #![tactic(auto)]
 
+#[cfg(test)]
+mod bloom;
 #[cfg(test)]
 mod numbers;
 #[cfg(test)]
 mod packet;
+#[cfg(test)]
+mod pages;
 #[cfg(test)]
 mod seats;
 #[cfg(test)]

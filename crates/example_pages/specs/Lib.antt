@@ -1,0 +1,3 @@
+pub mod Bloom
+pub mod Keys
+pub mod Pages

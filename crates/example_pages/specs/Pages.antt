@@ -1,0 +1,21 @@
+-- Which pages of a store are in use.
+use Rattle.std.specs.Prelude.{ℕ, ◌+◌, ◌≤◌, Bool, true, List, length}
+use Rattle.bitvec_slice.specs.BitSliceMut.{lent_bits, BecomesBits}
+use Rattle.bitvec_slice.specs.Bits.{zeros_in, AllBetween}
+use Rattle.example_pages.specs.declared.pages.Pages.{Pages}
+
+-- of each page whether it is in use
+abbrev pub used : {R O : Type 0} {a b c d e f g h i : _} → Pages R O a b c d e f g h i → List Bool
+used pages = lent_bits pages.bits
+
+-- how many pages are free
+abbrev pub free_count : {R O : Type 0} {a b c d e f g h i : _} → Pages R O a b c d e f g h i → ℕ
+free_count pages = zeros_in (used pages)
+
+-- there are `count` pages from page `at` on, and each is in use
+abbrev pub AreInUse : List Bool → ℕ → ℕ → Type 0
+AreInUse used at count = (at + count ≤ length used) × AllBetween true used at (at + count)
+
+-- the pages become those of a list, and every other bit of the words stays
+abbrev pub BecomesPages : {R O : Type 0} {a b c d e f g h i : _} → (old new : Pages R O a b c d e f g h i) → List Bool → Type 0
+BecomesPages old new pages = BecomesBits old.bits new.bits pages
