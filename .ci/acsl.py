@@ -351,6 +351,18 @@ class Maker:
         return made + text[at:]
 
 
+INNER = re.compile(r"\([^()]*\)")
+
+
+def is_clear(clause):
+    """Returns whether no `<==>` stands beside a `==>` without brackets, of which it would take the left side too."""
+    parts = []
+    while found := INNER.search(clause):
+        parts.append(found[0])
+        clause = clause.replace(found[0], "")
+    return not any("<==>" in it and "==>" in it.replace("<==>", "") for it in [*parts, clause])
+
+
 RECORD = re.compile(r"(?m)^([A-Z]\w*)((?: \w+)*)\n((?:    .*\n?)+)")
 FACT = re.compile(r"    (always )?(\w+): (.*)")
 
@@ -404,4 +416,6 @@ def clauses(maker, given, promises, result):
                 ensures.append(f"ensures {label.removeprefix('always').strip()}: {fact};")
             else:
                 ensures.append(f"ensures {label}: \\result == BITVEC_OK ==> {fact};")
+    if unclear := [it for it in ensures if not is_clear(it)]:
+        raise BadPromise(f"`{unclear[0]}` needs brackets")
     return [*requires, f"assigns {', '.join(assigned) or chr(92) + 'nothing'};", *ensures]

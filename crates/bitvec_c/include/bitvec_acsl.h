@@ -640,10 +640,10 @@ uint8_t bitvec_c_replace_u64(
   @ assigns memory[0 .. words - 1];
   @ ensures status: \result == then_status(range_status(8, order, words, place, 1), range_status(8,
   @   order, words, other_place, 1));
-  @ ensures first: \result == BITVEC_OK ==> bit_u8{Post}(order, memory, place) <==>
-  @   bit_u8{Pre}(order, memory, other_place);
-  @ ensures second: \result == BITVEC_OK ==> bit_u8{Post}(order, memory, other_place) <==>
-  @   bit_u8{Pre}(order, memory, place);
+  @ ensures first: \result == BITVEC_OK ==> (bit_u8{Post}(order, memory, place) <==>
+  @   bit_u8{Pre}(order, memory, other_place));
+  @ ensures second: \result == BITVEC_OK ==> (bit_u8{Post}(order, memory, other_place) <==>
+  @   bit_u8{Pre}(order, memory, place));
   @ ensures others: \result == BITVEC_OK ==> \forall integer p; 0 <= p < words * 8 && p != place &&
   @   p != other_place ==> (bit_u8{Post}(order, memory, p) <==> bit_u8{Pre}(order, memory, p));
   @ ensures refused: \result != BITVEC_OK ==> kept_u8{Pre, Post}(memory, words);
@@ -655,10 +655,10 @@ uint8_t bitvec_c_swap_u8(
   @ assigns memory[0 .. words - 1];
   @ ensures status: \result == then_status(range_status(16, order, words, place, 1),
   @   range_status(16, order, words, other_place, 1));
-  @ ensures first: \result == BITVEC_OK ==> bit_u16{Post}(order, memory, place) <==>
-  @   bit_u16{Pre}(order, memory, other_place);
-  @ ensures second: \result == BITVEC_OK ==> bit_u16{Post}(order, memory, other_place) <==>
-  @   bit_u16{Pre}(order, memory, place);
+  @ ensures first: \result == BITVEC_OK ==> (bit_u16{Post}(order, memory, place) <==>
+  @   bit_u16{Pre}(order, memory, other_place));
+  @ ensures second: \result == BITVEC_OK ==> (bit_u16{Post}(order, memory, other_place) <==>
+  @   bit_u16{Pre}(order, memory, place));
   @ ensures others: \result == BITVEC_OK ==> \forall integer p; 0 <= p < words * 16 && p != place &&
   @   p != other_place ==> (bit_u16{Post}(order, memory, p) <==> bit_u16{Pre}(order, memory, p));
   @ ensures refused: \result != BITVEC_OK ==> kept_u16{Pre, Post}(memory, words);
@@ -670,10 +670,10 @@ uint8_t bitvec_c_swap_u16(
   @ assigns memory[0 .. words - 1];
   @ ensures status: \result == then_status(range_status(32, order, words, place, 1),
   @   range_status(32, order, words, other_place, 1));
-  @ ensures first: \result == BITVEC_OK ==> bit_u32{Post}(order, memory, place) <==>
-  @   bit_u32{Pre}(order, memory, other_place);
-  @ ensures second: \result == BITVEC_OK ==> bit_u32{Post}(order, memory, other_place) <==>
-  @   bit_u32{Pre}(order, memory, place);
+  @ ensures first: \result == BITVEC_OK ==> (bit_u32{Post}(order, memory, place) <==>
+  @   bit_u32{Pre}(order, memory, other_place));
+  @ ensures second: \result == BITVEC_OK ==> (bit_u32{Post}(order, memory, other_place) <==>
+  @   bit_u32{Pre}(order, memory, place));
   @ ensures others: \result == BITVEC_OK ==> \forall integer p; 0 <= p < words * 32 && p != place &&
   @   p != other_place ==> (bit_u32{Post}(order, memory, p) <==> bit_u32{Pre}(order, memory, p));
   @ ensures refused: \result != BITVEC_OK ==> kept_u32{Pre, Post}(memory, words);
@@ -685,10 +685,10 @@ uint8_t bitvec_c_swap_u32(
   @ assigns memory[0 .. words - 1];
   @ ensures status: \result == then_status(range_status(64, order, words, place, 1),
   @   range_status(64, order, words, other_place, 1));
-  @ ensures first: \result == BITVEC_OK ==> bit_u64{Post}(order, memory, place) <==>
-  @   bit_u64{Pre}(order, memory, other_place);
-  @ ensures second: \result == BITVEC_OK ==> bit_u64{Post}(order, memory, other_place) <==>
-  @   bit_u64{Pre}(order, memory, place);
+  @ ensures first: \result == BITVEC_OK ==> (bit_u64{Post}(order, memory, place) <==>
+  @   bit_u64{Pre}(order, memory, other_place));
+  @ ensures second: \result == BITVEC_OK ==> (bit_u64{Post}(order, memory, other_place) <==>
+  @   bit_u64{Pre}(order, memory, place));
   @ ensures others: \result == BITVEC_OK ==> \forall integer p; 0 <= p < words * 64 && p != place &&
   @   p != other_place ==> (bit_u64{Post}(order, memory, p) <==> bit_u64{Pre}(order, memory, p));
   @ ensures refused: \result != BITVEC_OK ==> kept_u64{Pre, Post}(memory, words);
