@@ -553,7 +553,8 @@ fn lines_stay() {
     fn sources(folder: &std::path::Path, all: &mut Vec<std::path::PathBuf>) {
         for entry in std::fs::read_dir(folder).into_iter().flatten().flatten() {
             match entry.path() {
-                path if path.ends_with("bitvec_c") => {}
+                // (what the kit makes lies in `out`)
+                path if path.ends_with("bitvec_c") || path.ends_with("out") => {}
                 path if path.is_dir() => sources(&path, all),
                 path if path.extension().is_some_and(|it| it == "rt") => all.push(path),
                 _ => {}
