@@ -69,7 +69,7 @@ fn all_fit<R: BitRegister, O>(spans: &[BitSpan<R, O>], words: usize) -> bool
 
 // So few words that the number of each of their bits, and of a bit as far behind them as a span
 // is long, is a `usize` in each register. No memory of today has more.
-const FEW_WORDS: usize = 0x80_0000_0000_0000;
+const FEW_WORDS: usize = (usize::MAX >> 9) + 1;
 
 // Whether a span's first word is one of `words` words, or the edge behind them.
 #[inline(always)]

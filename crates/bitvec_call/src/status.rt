@@ -49,7 +49,7 @@ pub const LSB0: u8 = 0;
 pub const MSB0: u8 = 1;
 
 /// The greatest number of bits in a range.
-pub const MAX_BITS: usize = 2305843009213693951;
+pub const MAX_BITS: usize = usize::MAX >> 3;
 
 /// The greatest number of spans in a run.
 pub const MAX_SPANS: usize = 64;

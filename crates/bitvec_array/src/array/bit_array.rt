@@ -15,7 +15,7 @@ use std::alloc::AllocError;
 use std::marker::PhantomData;
 
 // The most bits that a span can have.
-const MOST: usize = 2305843009213693951;
+const MOST: usize = usize::MAX >> 3;
 
 // The span of all bits of `N` words.
 pub(crate) fn span_of_all<O, const N: usize>() -> BitSpan<usize, O>
@@ -23,7 +23,7 @@ pub(crate) fn span_of_all<O, const N: usize>() -> BitSpan<usize, O>
     ensures len { (span_of result).len ≡ array_len N }
     ensures fits { Fits 64 (span_of result) N }
 {
-    BitSpan::at_unchecked(0, N.saturating_mul(64).min(MOST))
+    BitSpan::at_unchecked(0, N.saturating_mul(usize::BITS as usize).min(MOST))
 }
 
 /// The bits of `N` words of `usize`, 64 in each, by value.
@@ -123,7 +123,7 @@ impl<O: BitOrder<usize>, const N: usize> BitArray<O, N> {
         ensures value { result ≡ array_len N }
         ensures list { result ≡ length (array_bits self.now) }
     {
-        N.saturating_mul(64).min(MOST)
+        N.saturating_mul(usize::BITS as usize).min(MOST)
     }
 
     /// Whether there are none, as there are in an array of no words. Constant time.

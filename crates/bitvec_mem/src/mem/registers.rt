@@ -423,11 +423,12 @@ impl BitRegister for u64 {
 
 #[tactic(auto, using(crate::proofs::Widths::digits_64))]
 impl BitRegister for usize {
-    const BITS: u8 = 64;
+    const BITS: u8 = usize::BITS as u8;
 
-    const INDX: u8 = 6;
+    // (4, 5 or 6, of 16, 32 or 64 digits)
+    const INDX: u8 = (usize::BITS / 32 + 4) as u8;
 
-    const MASK: u8 = 63;
+    const MASK: u8 = (usize::BITS - 1) as u8;
 
     const ZERO: usize = 0;
 

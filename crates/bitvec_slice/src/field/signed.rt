@@ -119,7 +119,7 @@ impl SignedNumber for i64 {
 }
 
 impl SignedNumber for isize {
-    const BITS: u8 = 64;
+    const BITS: u8 = isize::BITS as u8;
 
     ghost BITS = { 64 };
 

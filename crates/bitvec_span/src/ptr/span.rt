@@ -26,7 +26,7 @@ use std::alloc::AllocError;
 use std::marker::PhantomData;
 
 // The greatest length of a span, in bits.
-const MAX_BITS: usize = 2305843009213693951;
+const MAX_BITS: usize = usize::MAX >> 3;
 
 /// The interval of `len` places from the bit `head` of a word on.
 ///

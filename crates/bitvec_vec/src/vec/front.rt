@@ -13,7 +13,7 @@ use bitvec::ptr::span::BitSpan;
 use std::alloc::{AllocError, Allocator};
 
 // The most bits that a span can have.
-pub(crate) const MOST: usize = 2305843009213693951;
+pub(crate) const MOST: usize = usize::MAX >> 3;
 
 // The span of the first `len` bits.
 pub(crate) fn span_of_front<R: BitRegister, O>(len: usize) -> BitSpan<R, O>
