@@ -13,7 +13,7 @@ use mir.Val.{bits}
 use Rattle.bitvec_mem.specs.Digit.{digit, exclusive_or, count_below}
 use Rattle.bitvec_mem.specs.SameDigits.{bit_cases, two_bits, same_from_digits}
 
-not_same : (a b : ℕ) → (a ≡ b → ⊥) → (a == b) ≡ false
+pub not_same : (a b : ℕ) → (a ≡ b → ⊥) → (a == b) ≡ false
 not_same a b h = at (a == b) refl
   where
     at : (c : Bool) → (a == b) ≡ c → (a == b) ≡ false

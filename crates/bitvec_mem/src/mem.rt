@@ -11,7 +11,7 @@ ghost use Rattle.bitvec_mem.specs.Digit.{digit, exclusive_or, count_below};
 mod ones;
 mod registers;
 
-pub use self::ones::{highest_one, lowest_one};
+pub use self::ones::{highest_one, lowest_one, without_lowest_one};
 use std::alloc::AllocError;
 use std::fmt::Debug;
 use std::hash::Hash;

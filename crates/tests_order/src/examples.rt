@@ -3,7 +3,7 @@
 ghost use Rattle.std.specs.Prelude.{◌^◌, bit_xor};
 ghost use Rattle.bitvec_order.specs.Order.{mask_start, mask_end, plain_mask_of};
 
-use bitvec_mem::mem::{BitElement, BitRegister, highest_one, lowest_one};
+use bitvec_mem::mem::{BitElement, BitRegister, highest_one, lowest_one, without_lowest_one};
 use bitvec_order::index::{BitEnd, BitIdx, BitMask, BitPos, BitSel, Limits, MaskLimits};
 use bitvec_order::order::{
     BitAt, Direction, Lsb0, Msb0, OrderCandidate, direction_of, first_index, last_index,
@@ -246,6 +246,12 @@ fn a_verifier_at_one_register(rt: HostRuntime) {
 fn the_lowest_one(rt: HostRuntime) {
     assert_eq!(rt; lowest_one(0x28u8), Some(3));
     assert_eq!(rt; lowest_one(0x00u8), None);
+}
+
+#[test]
+fn a_word_without_its_lowest_one(rt: HostRuntime) {
+    assert_eq!(rt; without_lowest_one(0x28u8), 0x20);
+    assert_eq!(rt; without_lowest_one(0x00u8), 0x00);
 }
 
 #[test]

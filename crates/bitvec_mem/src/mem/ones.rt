@@ -1,7 +1,7 @@
-//! The lowest and the highest digit of a word that is one.
+//! The lowest and the highest digit of a word that is one, and the word without its lowest.
 
-ghost use Rattle.std.specs.Prelude.{MatchOption};
-ghost use Rattle.bitvec_mem.specs.Ones.{HasNoOne, IsLowestOne, IsHighestOne};
+ghost use Rattle.std.specs.Prelude.{◌^◌, ◌<◌, MatchOption};
+ghost use Rattle.bitvec_mem.specs.Ones.{HasNoOne, IsLowestOne, IsHighestOne, IsWithoutLowestOne};
 
 use crate::mem::BitRegister;
 
@@ -52,4 +52,24 @@ pub fn highest_one<R: BitRegister>(word: R) -> Option<u8>
         return Some((63 - low.leading_zeros()) as u8);
     }
     Some((127 - number.leading_zeros()) as u8)
+}
+
+/// A word with its lowest digit that is one made zero: every other digit stays. Zero stays zero.
+///
+/// Constant time, and no position is asked for: the digits that the word and the word less one have
+/// in common. Not in the Rust crate.
+///
+/// # Examples
+///
+/// ```
+/// assert_eq!(rt; without_lowest_one(0x28u8), 0x20);
+/// assert_eq!(rt; without_lowest_one(0x00u8), 0x00);
+/// ```
+#[inline(always)]
+pub fn without_lowest_one<R: BitRegister>(word: R) -> R
+    ensures below { R.number result < 2 ^ R.BITS }
+    ensures digits { IsWithoutLowestOne R.BITS (R.number word) (R.number result) }
+{
+    let number = word.to_u128();
+    R::from_u128(number & number.wrapping_sub(1)).unwrap_or(R::ZERO)
 }
