@@ -1,6 +1,6 @@
 -- Spans taken in another order: relations of each two of them, and the last one with bits in an order in which places rise.
 use Rattle.std.proofs.Common.{◌≡◌, ℕ, ℤ, ◌*◌, pos, negsuc, ◌+◌, ◌<◌, ◌≤◌, ◌≤ℤ◌, ◌⊎◌, List, length, get_or, [], ◌∷◌, zero-add, refl, sym, ◌∙◌, subst, ap, inl, inr, arith}
-use Rattle.std.specs.Prelude.{nat_abs, map, All, AllPairs, swap}
+use Rattle.std.specs.Prelude.{nat_abs, min, map, All, AllPairs, swap}
 use Rattle.std.specs.Int.{w64, cast_unsigned}
 use Rattle.std.specs.List.{range_with_len}
 use Rattle.std.specs.List.Sorted.{IsPermutation, IsNonDecreasingBy}
@@ -176,6 +176,34 @@ rises_from_sort bits view spans order small low heads inside sorted i j d below 
     (span_in-each (λ s. pos 0 ≤ℤ s.word) view spans m in_m low) (span_in-each (λ s. pos 0 ≤ℤ s.word) view spans n in_n low)
     (span_in-each (λ s. s.head < bits) view spans m in_m heads) (span_in-each (λ s. s.head < bits) view spans n in_n heads)
     (sorted i j d (omega (arith, below)) high)
+
+-- the number of a span's first bit, and the greatest of a word of 64 digits where it passes that
+abbrev pub near_key : ℕ → Span → ℕ
+near_key bits span = min (min (cast_unsigned w64 span.word * bits) 18446744073709551615 + span.head) 18446744073709551615
+
+-- in few words it passes none
+pub near_key-start : (bits : ℕ) (a : Span) → bits ≤ 128 → pos 0 ≤ℤ a.word → nat_abs a.word ≤ 36028797018963968 → a.head < bits
+    → near_key bits a ≡ nat_abs a.word * bits + a.head
+near_key-start bits a small low near in_a =
+    let word = unsigned-pos a.word low in
+    let product : nat_abs a.word * bits ≤ 36028797018963968 * 128 = mul-le (nat_abs a.word) bits 36028797018963968 128 near small in
+    let same : cast_unsigned w64 a.word * bits ≡ nat_abs a.word * bits = ap (λ n. n * bits) word in
+    omega (arith, same, product, in_a, small)
+
+-- an order of the numbers of spans in few words along which it does not fall
+pub rises_from_near_sort : {S : Type 0} (bits : ℕ) (view : S → Span) (spans : List S) (order : List ℕ) → bits ≤ 128
+    → All (λ s. pos 0 ≤ℤ (view s).word) spans → All (λ s. nat_abs (view s).word ≤ 36028797018963968) spans
+    → All (λ s. (view s).head < bits) spans → All (λ i. i < length spans) order
+    → IsNonDecreasingBy (λ i. near_key bits (span_in view spans i)) order → AllPairs (λ i j. start_in bits view spans i ≤ start_in bits view spans j) order
+rises_from_near_sort bits view spans order small low near heads inside sorted i j d below high =
+    let m = get_or order i d in
+    let n = get_or order j d in
+    let start = λ (k : ℕ) (in_k : k < length spans). near_key-start bits (span_in view spans k) small
+    (span_in-each (λ s. pos 0 ≤ℤ s.word) view spans k in_k low) (span_in-each (λ s. nat_abs s.word ≤ 36028797018963968) view spans k in_k near)
+    (span_in-each (λ s. s.head < bits) view spans k in_k heads) in
+    let in_m = inside i d (omega (arith, below, high)) in
+    let in_n = inside j d high in
+    omega (arith, start m in_m, start n in_n, sorted i j d (omega (arith, below)) high)
 
 -- Two spans have a place in common where the second has bits, and starts at the first's start or above, but below its end.
 pub meet_from_numbers : (bits : ℕ) (a b : Span) → pos 0 ≤ℤ a.word → pos 0 ≤ℤ b.word → 0 < b.len

@@ -4,7 +4,7 @@
 //! what they give on that list alone. None of it is in the Rust crate.
 
 ghost use Rattle.std.specs.Prelude.{◌≡◌, ℕ, pos, ◌≤ℤ◌, ◌<◌, ◌≤◌, ◌↔◌, IsTrue, IfSome, None, All};
-ghost use Rattle.std.specs.Prelude.{nat_abs, ◌+◌, ◌*◌};
+ghost use Rattle.std.specs.Prelude.{nat_abs, min, ◌+◌, ◌*◌};
 ghost use Rattle.std.specs.Prelude.{AllPairs, List, [], ◌∷◌, length, map};
 ghost use Rattle.std.specs.Int.{w64, cast_unsigned};
 ghost use Rattle.bitvec_span.specs.Span.{AreDisjoint, Fits};
@@ -161,6 +161,36 @@ fn key_of<R: BitRegister, O>(spans: &[BitSpan<R, O>], i: usize) -> u128
     if i < spans.len() { key(spans[i]) } else { 0 }
 }
 
+// The number of the first bit of a span of a list, and 0 where there is no such span. What passes a
+// `usize`, as a word before word 0 does, is its greatest.
+#[inline(always)]
+fn near_key_of<R: BitRegister, O>(spans: &[BitSpan<R, O>], i: usize) -> usize
+    ensures { result ≡ min (min (cast_unsigned w64 (span_in span_of spans.now i).word * R.BITS)
+        18446744073709551615 + (span_in span_of spans.now i).head) 18446744073709551615 }
+{
+    if i < spans.len() {
+        let word = spans[i].address().cast_unsigned();
+        let head = usize::from(spans[i].head().into_inner());
+        word.saturating_mul(usize::from(R::BITS))
+            .saturating_add(head)
+    } else {
+        0
+    }
+}
+
+// Puts the numbers of spans in few words in an order in which their first bits rise.
+fn sort_near_places<R: BitRegister, O>(spans: &[BitSpan<R, O>], order: &mut [usize])
+    requires room { length order.old ≡ length spans.now }
+    requires fit { All (λ span. pos 0 ≤ℤ (span_of span).word) spans.now }
+    requires near { All (λ span. nat_abs (span_of span).word ≤ 36028797018963968) spans.now }
+    ensures { IsRising R.BITS span_of spans.now order.new }
+{
+    for i in 0..order.len() {
+        order[i] = i;
+    }
+    order.sort_unstable_by_key(|i| near_key_of(spans, *i));
+}
+
 // Puts the numbers of the spans in an order in which their first bits rise.
 fn sort_places<R: BitRegister, O>(spans: &[BitSpan<R, O>], order: &mut [usize])
     requires room { length order.old ≡ length spans.now }
@@ -228,7 +258,11 @@ pub fn can_run_in<R: BitRegister, O>(
     if !all_fit(spans, words) {
         return false;
     }
-    sort_places(spans, order);
+    if words <= FEW_WORDS {
+        sort_near_places(spans, order);
+    } else {
+        sort_places(spans, order);
+    }
     sorted_apart(spans, order)
 }
 
