@@ -1,6 +1,9 @@
 -- What a combination through a writer of words has done.
-use Rattle.std.specs.Prelude.{ℕ, ◌≡◌, ◌+◌, Bool, true, false, List, length, map}
+use Rattle.std.specs.Prelude.{ℕ, ◌≡◌, ◌+◌, ◌*◌, ◌≤◌, slice_index, Bool, true, false, List, length, map}
+use Rattle.bitvec_ptr.specs.declared.ptr.cursor.Cursor.{Cursor}
 use Rattle.bitvec_ptr.specs.declared.ptr.writer.WordWriter.{WordWriter}
+use Rattle.bitvec_ptr.specs.Cursor.{cursor_place}
+use Rattle.bitvec_ptr.specs.Place.{words_met}
 use Rattle.bitvec_ptr.specs.Memory.{memory_bits, list_with}
 use Rattle.bitvec_ptr.specs.WordWriter.{writer_memory, writer_of}
 
@@ -25,3 +28,32 @@ abbrev pub HasCombinedWithin : {Y : Type 0} (f : Bool → Bool → Bool) (width 
     → Type 0
 HasCombinedWithin f width at number s older newer t count first met =
     HasCombined f width at number (writer_of older).words s width at number older newer t count first met
+
+-- The same with a source from a cursor on, whose words have the cursor's width and numbers.
+abbrev pub HasCombinedFrom : {R Y : Type 0} {a b c d e f g : _} → (Bool → Bool → Bool) → Cursor R a b c d e f g → (ℕ → ℕ) → List R → ℕ
+    → (ℕ → ℕ) → (Y → ℕ) → WordWriter Y → WordWriter Y → ℕ → ℕ → ℕ → ℕ → Type 0
+HasCombinedFrom {a = own} of from at source width2 at2 number2 older newer t count first met =
+    HasCombined of own.BITS at own.number source (cursor_place from) width2 at2 number2 older newer t count first met
+
+-- The same with a target from a cursor on too: the words put are those that the target meets.
+abbrev pub HasCombinedTo : {R R2 : Type 0} {a b c d e f g a2 b2 c2 d2 e2 f2 g2 : _} → (Bool → Bool → Bool) → Cursor R a b c d e f g
+    → (ℕ → ℕ) → List R → Cursor R2 a2 b2 c2 d2 e2 f2 g2 → (ℕ → ℕ) → WordWriter R2 → WordWriter R2 → ℕ → Type 0
+HasCombinedTo {a2 = its} of from at source to at2 older newer count =
+    HasCombinedFrom of from at source its.BITS at2 its.number older newer (cursor_place to) count to.word (words_met its.BITS to.bit count)
+
+-- The same inside one memory, from a cursor on to another.
+abbrev pub HasCombinedOver : {R : Type 0} {a b c d e f g : _} → (Bool → Bool → Bool) → Cursor R a b c d e f g → (ℕ → ℕ)
+    → Cursor R a b c d e f g → WordWriter R → WordWriter R → ℕ → Type 0
+HasCombinedOver of from at to older newer count = HasCombinedTo of from at (writer_of older).words to at older newer count
+
+-- From its older to its newer state, a writer has put its word `first`, and has so combined `count` bits, from index `shift`
+-- of a word on, with those of its memory from place t on: the word is number `low`'s in any list that holds that many bits
+-- from there on, and the next word is `high`'s where that one is read.
+abbrev pub HasCombinedPair : {R : Type 0} (f : Bool → Bool → Bool) (width : ℕ) (at : ℕ → ℕ) (number : R → ℕ) (low high : R) (reads_high : Type 0)
+    (shift : ℕ) (older newer : WordWriter R) (t count first : ℕ)
+    → Type 0
+HasCombinedPair {R = R} f width at number low high reads_high shift older newer t count first =
+    (source : List R) (word : ℕ) → word * width + shift + count ≤ length source * width
+    → number low ≡ slice_index (map number source) word
+    → (reads_high → number high ≡ slice_index (map number source) (word + 1))
+    → HasCombined f width at number source (word * width + shift) width at number older newer t count first 1

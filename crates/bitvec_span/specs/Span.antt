@@ -1,9 +1,11 @@
 -- Spans as intervals of places, and their lists in a memory. `bits` is the width of a word, and a memory is the list of
 -- its words' numbers.
-use Rattle.std.specs.Prelude.{◌≡◌, ℕ, ℤ, pos, nat_abs, ◌+◌, ◌-◌, ◌*◌, ◌/◌, ◌%◌, ◌≤◌, ◌+ℤ◌, ◌≤ℤ◌, ◌<ℤ◌, ◌==◌, ◌&&◌, if◌then◌else◌, Bool, false, List, ◌++◌, length, take, drop, replicate, slice_index_or, nat_le, nat_lt}
+use Rattle.std.specs.Prelude.{◌≡◌, ℕ, ℤ, pos, nat_abs, ◌+◌, ◌-◌, ◌*◌, ◌/◌, ◌%◌, ◌≤◌, ◌<◌, ◌+ℤ◌, ◌≤ℤ◌, ◌<ℤ◌, ◌==◌, ◌&&◌, if◌then◌else◌, Bool, false, List, ◌++◌, length, take, drop, replicate, slice_index_or, nat_le, nat_lt}
 use Rattle.bitvec_order.specs.Order.{number_of}
 use Rattle.bitvec_ptr.specs.Memory.{bit_of, tabulate}
-use Rattle.bitvec_ptr.specs.Place.{place_at, words_met}
+use Rattle.std.specs.Int.{int_div_euclid}
+use Rattle.bitvec_ptr.specs.Place.{Ptr, place_at, place_of, words_met}
+use Rattle.bitvec_ptr.specs.Steps.{IsIn}
 pub use Rattle.bitvec_ptr.specs.Place.{region_max_bits}
 
 -- a span by its numbers: the interval of `len` places from the bit `head` of a word on
@@ -16,6 +18,10 @@ pub record Span : Type 0 where
 abbrev pub span_at : ℕ → ℕ → ℕ → Span
 span_at bits place len = record { word = pos (place / bits); head = place % bits; len = len }
 
+-- the word of the place behind `len` bits from a pointer on
+abbrev pub word_behind : ℕ → Ptr → ℕ → ℤ
+word_behind bits ptr len = int_div_euclid (place_of bits ptr +ℤ pos len) (pos bits)
+
 -- the first `len` bits of a memory
 abbrev pub front_span : ℕ → Span
 front_span len = record { word = pos 0; head = 0; len = len }
@@ -24,6 +30,12 @@ front_span len = record { word = pos 0; head = 0; len = len }
 -- that the span meets are together at most `words`. So the word of an empty span is from 0 to `words`.
 abbrev pub Fits : ℕ → Span → ℕ → Type 0
 Fits bits span words = (pos 0 ≤ℤ span.word) × (nat_abs span.word + words_met bits span.head span.len ≤ words)
+
+-- every bit less than a span's length past a pointer lies in each memory that the span fits
+abbrev pub HoldsFrom : ℕ → Span → Ptr → Type 0
+HoldsFrom bits span ptr =
+    (index words bit : ℕ) (word : ℤ) → place_at bits word bit ≡ place_of bits ptr +ℤ pos index → index < span.len → bit ≤ bits - 1
+    → Fits bits span words → IsIn (record { word = word; bit = bit }) words
 
 -- the first `mid` bits of a span
 abbrev pub span_upto : Span → ℕ → Span
@@ -53,6 +65,16 @@ AreDisjoint bits a b = (place : ℤ) → Covers bits a place → Covers bits b p
 abbrev pub list_of : ℕ → (ℕ → ℕ) → Span → List ℕ → List Bool
 list_of bits at span words = tabulate span.len (λ j. bit_of bits at words (nat_abs span.word * bits + span.head + j))
 
+-- in each memory from whose first word on a span lies, the lists of two others, joined, are the span's
+abbrev pub ListsJoin : ℕ → Span → Span → Span → Type 0
+ListsJoin bits first second span =
+    (at : ℕ → ℕ) (words : List ℕ) → pos 0 ≤ℤ span.word → list_of bits at first words ++ list_of bits at second words ≡ list_of bits at span words
+
+-- in each memory that a span fits, the list of another is the elements of the span's from `from` to before `to`
+abbrev pub ListsRange : ℕ → Span → ℕ → ℕ → Span → Type 0
+ListsRange bits span from to part =
+    (at : ℕ → ℕ) (words : List ℕ) → Fits bits span (length words) → list_of bits at part words ≡ take (to - from) (drop from (list_of bits at span words))
+
 -- every bit of a memory outside a span is as before
 abbrev pub KeepsOthers : ℕ → (ℕ → ℕ) → Span → List ℕ → List ℕ → Type 0
 KeepsOthers bits at span old new = (place : ℕ) → ¬ Covers bits span (pos place) → bit_of bits at new place ≡ bit_of bits at old place
@@ -70,6 +92,13 @@ pub record BecomesList (bits : ℕ) (at : ℕ → ℕ) (span : Span) (old new : 
   pub others : KeepsOthers bits at span old new
   pub apart : KeepsLists bits at span old new
   pub words : length new ≡ length old
+
+-- In each memory that a span fits, an edit of another span's list is one of the span's: its elements from `from` to before
+-- `to` become those that the other's became.
+abbrev pub EditsRange : ℕ → Span → ℕ → ℕ → Span → Type 0
+EditsRange bits span from to part =
+    (at : ℕ → ℕ) (old new : List ℕ) (xs : List Bool) → Fits bits span (length old) → BecomesList bits at part old new xs
+    → BecomesList bits at span old new (take from (list_of bits at span old) ++ xs ++ drop to (list_of bits at span old))
 
 -- bit j of a list, and false past its end
 abbrev pub element : List Bool → ℕ → Bool

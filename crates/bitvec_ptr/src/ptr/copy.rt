@@ -8,8 +8,8 @@
 ghost use Rattle.std.specs.Prelude.{◌≡◌, ℕ, ℤ, pos, nat_abs, ◌+◌, ◌*◌, ◌<◌, ◌≤◌, ◌+ℤ◌, ◌≤ℤ◌, true};
 ghost use Rattle.std.specs.Prelude.{false, length, map};
 ghost use Rattle.std.specs.Int.{int_div_euclid};
-ghost use Rattle.bitvec_ptr.specs.BitPtr.{ptr_of, ptr_place, bits_by, far_edge};
-ghost use Rattle.bitvec_ptr.specs.Memory.{list_with_copy, list_with};
+ghost use Rattle.bitvec_ptr.specs.BitPtr.{ptr_of, ptr_place, bits_by, bits_with_copy, bits_with};
+ghost use Rattle.bitvec_ptr.specs.BitPtr.{far_edge};
 ghost use Rattle.bitvec_ptr.specs.Place.{place_of, words_met, region_max_bits};
 ghost use Rattle.bitvec_ptr.specs.Steps.{RangeIsIn, AreApart};
 ghost use Rattle.bitvec_ptr.specs.WordWriter.{writer_memory, writer_of};
@@ -63,9 +63,8 @@ impl<R: BitRegister, O: BitOrder<R>> BitPtr<R, O> {
             → (writer_of writer.new).mark ≡ far_edge dest count }
         ensures falling_mark { 0 < count → (writer_of writer.old).rising ≡ false
             → (writer_of writer.new).mark ≡ nat_abs (ptr_of dest).word }
-        ensures bits { bits_by dest O2.at_of (writer_of writer.new).words ≡ list_with_copy
-            (bits_by self O.at_of memory.now) (ptr_place self)
-            (bits_by dest O2.at_of (writer_of writer.old).words) (ptr_place dest) count }
+        ensures bits { bits_by dest O2.at_of (writer_of writer.new).words ≡ bits_with_copy self
+            O.at_of memory.now dest O2.at_of (writer_of writer.old).words count }
         ensures none { count ≡ 0 → writer_of writer.new ≡ writer_of writer.old }
     {
         self.combine_through::<Source, R2, O2>(memory, dest, writer, count);
@@ -118,8 +117,8 @@ impl<R: BitRegister, O: BitOrder<R>> BitPtr<R, O> {
         ensures falling_mark { 0 < count → (writer_of writer.old).rising ≡ false
             → (writer_of writer.new).mark ≡ nat_abs (ptr_of dest).word }
         ensures bits { bits_by dest O2.at_of (writer_of writer.new).words
-            ≡ list_with C.of (bits_by self O.at_of memory.now) (ptr_place self)
-            (bits_by dest O2.at_of (writer_of writer.old).words) (ptr_place dest) count }
+            ≡ bits_with C.of self O.at_of memory.now dest O2.at_of (writer_of writer.old).words
+            count }
         ensures none { count ≡ 0 → writer_of writer.new ≡ writer_of writer.old }
     {
         if count == 0 {
@@ -160,9 +159,9 @@ impl<R: BitRegister, O: BitOrder<R>> BitPtr<R, O> {
             → (writer_of writer.new).mark ≡ far_edge dest count }
         ensures falling_mark { 0 < count → (writer_of writer.old).rising ≡ false
             → (writer_of writer.new).mark ≡ nat_abs (ptr_of dest).word }
-        ensures bits { let old = bits_by self O.at_of (writer_of writer.old).words
+        ensures bits { let old = (writer_of writer.old).words
             in bits_by self O.at_of (writer_of writer.new).words
-            ≡ list_with_copy old (ptr_place self) old (ptr_place dest) count }
+            ≡ bits_with_copy self O.at_of old dest O.at_of old count }
         ensures none { count ≡ 0 → writer_of writer.new ≡ writer_of writer.old }
     {
         self.combine_within_through::<Source>(dest, writer, count);
@@ -217,9 +216,9 @@ impl<R: BitRegister, O: BitOrder<R>> BitPtr<R, O> {
             → (writer_of writer.new).mark ≡ far_edge dest count }
         ensures falling_mark { 0 < count → (writer_of writer.old).rising ≡ false
             → (writer_of writer.new).mark ≡ nat_abs (ptr_of dest).word }
-        ensures bits { let old = bits_by self O.at_of (writer_of writer.old).words
+        ensures bits { let old = (writer_of writer.old).words
             in bits_by self O.at_of (writer_of writer.new).words
-            ≡ list_with C.of old (ptr_place self) old (ptr_place dest) count }
+            ≡ bits_with C.of self O.at_of old dest O.at_of old count }
         ensures none { count ≡ 0 → writer_of writer.new ≡ writer_of writer.old }
     {
         if count == 0 {
@@ -256,8 +255,7 @@ impl<R: BitRegister, O: BitOrder<R>> BitPtr<R, O> {
         requires from_in { RangeIsIn R.BITS (ptr_of self) (length memory.now) count }
         requires to_in { RangeIsIn R2.BITS (ptr_of dest) (length target.old) count }
         ensures bits { bits_by dest O2.at_of target.new
-            ≡ list_with_copy (bits_by self O.at_of memory.now) (ptr_place self)
-            (bits_by dest O2.at_of target.old) (ptr_place dest) count }
+            ≡ bits_with_copy self O.at_of memory.now dest O2.at_of target.old count }
         ensures words { length target.new ≡ length target.old }
     {
         let to = Cursor::at(dest);
@@ -294,8 +292,7 @@ impl<R: BitRegister, O: BitOrder<R>> BitPtr<R, O> {
         requires from_in { RangeIsIn R.BITS (ptr_of self) (length memory.now) count }
         requires to_in { RangeIsIn R2.BITS (ptr_of dest) (length target.old) count }
         ensures bits { bits_by dest O2.at_of target.new
-            ≡ list_with C.of (bits_by self O.at_of memory.now) (ptr_place self)
-            (bits_by dest O2.at_of target.old) (ptr_place dest) count }
+            ≡ bits_with C.of self O.at_of memory.now dest O2.at_of target.old count }
         ensures words { length target.new ≡ length target.old }
     {
         let to = Cursor::at(dest);
@@ -317,8 +314,7 @@ impl<R: BitRegister, O: BitOrder<R>> BitPtr<R, O> {
         requires from_in { RangeIsIn R.BITS (ptr_of self) (length memory.now) count }
         requires to_in { RangeIsIn R2.BITS (ptr_of dest) (length target.old) count }
         ensures bits { bits_by dest O2.at_of target.new
-            ≡ list_with_copy (bits_by self O.at_of memory.now) (ptr_place self)
-            (bits_by dest O2.at_of target.old) (ptr_place dest) count }
+            ≡ bits_with_copy self O.at_of memory.now dest O2.at_of target.old count }
         ensures words { length target.new ≡ length target.old }
     {
         self.copy_to(memory, dest, target, count);
@@ -340,8 +336,7 @@ impl<R: BitRegister, O: BitOrder<R>> BitPtr<R, O> {
         requires from_in { RangeIsIn R2.BITS (ptr_of src) (length source.now) count }
         requires to_in { RangeIsIn R.BITS (ptr_of self) (length memory.old) count }
         ensures bits { bits_by self O.at_of memory.new
-            ≡ list_with_copy (bits_by src O2.at_of source.now) (ptr_place src)
-            (bits_by self O.at_of memory.old) (ptr_place self) count }
+            ≡ bits_with_copy src O2.at_of source.now self O.at_of memory.old count }
         ensures words { length memory.new ≡ length memory.old }
     {
         src.copy_to(source, self, memory, count);
@@ -360,8 +355,7 @@ impl<R: BitRegister, O: BitOrder<R>> BitPtr<R, O> {
         requires from_in { RangeIsIn R2.BITS (ptr_of src) (length source.now) count }
         requires to_in { RangeIsIn R.BITS (ptr_of self) (length memory.old) count }
         ensures bits { bits_by self O.at_of memory.new
-            ≡ list_with_copy (bits_by src O2.at_of source.now) (ptr_place src)
-            (bits_by self O.at_of memory.old) (ptr_place self) count }
+            ≡ bits_with_copy src O2.at_of source.now self O.at_of memory.old count }
         ensures words { length memory.new ≡ length memory.old }
     {
         self.copy_from(memory, src, source, count);
@@ -377,8 +371,8 @@ impl<R: BitRegister, O: BitOrder<R>> BitPtr<R, O> {
     pub fn copy_within(self, memory: &mut [R], dest: Self, count: usize)
         requires from_in { RangeIsIn R.BITS (ptr_of self) (length memory.old) count }
         requires to_in { RangeIsIn R.BITS (ptr_of dest) (length memory.old) count }
-        ensures bits { let old = bits_by self O.at_of memory.old in bits_by self O.at_of memory.new
-            ≡ list_with_copy old (ptr_place self) old (ptr_place dest) count }
+        ensures bits { bits_by self O.at_of memory.new
+            ≡ bits_with_copy self O.at_of memory.old dest O.at_of memory.old count }
         ensures words { length memory.new ≡ length memory.old }
     {
         self.combine_within::<Source>(memory, dest, count);
@@ -403,8 +397,8 @@ impl<R: BitRegister, O: BitOrder<R>> BitPtr<R, O> {
     pub fn combine_within<C: Combine>(self, memory: &mut [R], dest: Self, count: usize)
         requires from_in { RangeIsIn R.BITS (ptr_of self) (length memory.old) count }
         requires to_in { RangeIsIn R.BITS (ptr_of dest) (length memory.old) count }
-        ensures bits { let old = bits_by self O.at_of memory.old in bits_by self O.at_of memory.new
-            ≡ list_with C.of old (ptr_place self) old (ptr_place dest) count }
+        ensures bits { bits_by self O.at_of memory.new
+            ≡ bits_with C.of self O.at_of memory.old dest O.at_of memory.old count }
         ensures words { length memory.new ≡ length memory.old }
     {
         let to = Cursor::at(dest);
@@ -424,8 +418,8 @@ impl<R: BitRegister, O: BitOrder<R>> BitPtr<R, O> {
     pub fn copy_from_within(self, memory: &mut [R], src: Self, count: usize)
         requires from_in { RangeIsIn R.BITS (ptr_of src) (length memory.old) count }
         requires to_in { RangeIsIn R.BITS (ptr_of self) (length memory.old) count }
-        ensures bits { let old = bits_by self O.at_of memory.old in bits_by self O.at_of memory.new
-            ≡ list_with_copy old (ptr_place src) old (ptr_place self) count }
+        ensures bits { bits_by self O.at_of memory.new
+            ≡ bits_with_copy src O.at_of memory.old self O.at_of memory.old count }
         ensures words { length memory.new ≡ length memory.old }
     {
         src.copy_within(memory, self, count);
@@ -447,8 +441,8 @@ impl<R: BitRegister, O: BitOrder<R>> BitPtr<R, O> {
         requires to_low { int_div_euclid (place_of R.BITS (ptr_of dest) +ℤ pos count) (pos R.BITS)
             ≤ℤ isize.MAX }
         requires apart { AreApart R.BITS (ptr_of self) (ptr_of dest) count }
-        ensures bits { let old = bits_by self O.at_of memory.old in bits_by self O.at_of memory.new
-            ≡ list_with_copy old (ptr_place self) old (ptr_place dest) count }
+        ensures bits { bits_by self O.at_of memory.new
+            ≡ bits_with_copy self O.at_of memory.old dest O.at_of memory.old count }
         ensures words { length memory.new ≡ length memory.old }
     {
         self.copy_within(memory, dest, count);

@@ -77,7 +77,7 @@ impl<R: BitRegister, O> EmptyRange for BitPtrRange<R, O> {
 }
 
 impl<R: BitRegister, O> BitPtrRange<R, O> {
-    ghost use Rattle.bitvec_ptr.specs.BitPtrRange.{range_of};
+    ghost use Rattle.bitvec_ptr.specs.BitPtrRange.{range_of, TakesNth, TakesNthBack};
 
     /// Whether the start is not past the end, and their distance is an `isize`. Constant time. Not
     /// in the Rust crate.
@@ -164,12 +164,7 @@ impl<R: BitRegister, O> BitPtrRange<R, O> {
     /// Where there is none it returns `None` and leaves the range empty, at its end. Constant time.
     pub fn nth(&mut self, n: usize) -> Option<BitPtr<R, O>>
         ensures end { (range_of self.new).end ≡ (range_of self.old).end }
-        ensures item { let before = range_of self.old in
-            let after = range_of self.new in
-            MatchOption result ((count_of R.BITS before ≤ n) × (after.start ≡ before.end))
-            (λ p. (n < count_of R.BITS before)
-            × (place_of R.BITS (ptr_of p) ≡ place_of R.BITS before.start +ℤ pos n)
-            × (place_of R.BITS after.start ≡ place_of R.BITS (ptr_of p) +ℤ pos 1)) }
+        ensures item { TakesNth n self.old result self.new }
     {
         if n >= self.left() {
             self.start = self.end;
@@ -186,12 +181,7 @@ impl<R: BitRegister, O> BitPtrRange<R, O> {
     /// time.
     pub fn nth_back(&mut self, n: usize) -> Option<BitPtr<R, O>>
         ensures start { (range_of self.new).start ≡ (range_of self.old).start }
-        ensures item { let before = range_of self.old in
-            let after = range_of self.new in
-            MatchOption result ((count_of R.BITS before ≤ n) × (after.end ≡ before.start))
-            (λ p. (n < count_of R.BITS before)
-            × (place_of R.BITS before.end ≡ place_of R.BITS (ptr_of p) +ℤ pos (n + 1))
-            × (after.end ≡ ptr_of p)) }
+        ensures item { TakesNthBack n self.old result self.new }
     {
         let count = self.left();
         if n >= count {

@@ -5,7 +5,6 @@ ghost use Rattle.std.specs.Prelude.{Some, length, map, slice_get, slice_set, swa
 ghost use Rattle.std.specs.Prelude.{◌≤ℤ◌, ◌↔◌, ◌%◌, IsTrue, FitsSigned};
 ghost use Rattle.std.specs.Int.{w64, int_wrap};
 ghost use Rattle.bitvec_ptr.specs.Place.{place_of, words_met};
-ghost use Rattle.bitvec_ptr.specs.Memory.{bit_of};
 ghost use Rattle.bitvec_mem.specs.Digit.{digit};
 ghost use Rattle.bitvec_ptr.specs.Steps.{CanOffset, wrapped_ptr, distance, IsIn, RangeIsIn};
 
@@ -344,7 +343,7 @@ pub(crate) fn with_bit<R: BitRegister, O: BitOrder<R>>(word: R, index: BitIdx<R>
 }
 
 impl<R: BitRegister, O: BitOrder<R>> BitPtr<R, O> {
-    ghost use Rattle.bitvec_ptr.specs.BitPtr.{ptr_of, ptr_place, bits_by};
+    ghost use Rattle.bitvec_ptr.specs.BitPtr.{ptr_of, ptr_place, bits_by, pointed_bit};
 
     /// The pointer's bit in a memory that has its word: [`is_in`](BitPtr::is_in) is the test.
     /// Constant time.
@@ -412,10 +411,10 @@ impl<R: BitRegister, O: BitOrder<R>> BitPtr<R, O> {
         requires self_in { IsIn (ptr_of self) (length memory.old) }
         requires with_in { IsIn (ptr_of with) (length other.old) }
         ensures bits { bits_by self O.at_of memory.new ≡ slice_set (bits_by self O.at_of memory.old)
-            (ptr_place self) (bit_of R2.BITS O2.at_of (map R2.number other.old) (ptr_place with)) }
+            (ptr_place self) (pointed_bit with O2.at_of other.old) }
         ensures other_bits { bits_by with O2.at_of other.new ≡ slice_set
             (bits_by with O2.at_of other.old) (ptr_place with)
-            (bit_of R.BITS O.at_of (map R.number memory.old) (ptr_place self)) }
+            (pointed_bit self O.at_of memory.old) }
         ensures words { length memory.new ≡ length memory.old }
         ensures other_words { length other.new ≡ length other.old }
     {

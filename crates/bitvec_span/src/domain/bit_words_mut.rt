@@ -2,7 +2,6 @@
 
 ghost use Rattle.std.specs.Prelude.{◌≡◌, ℕ, ◌+◌, ◌-◌, ◌*◌, ◌<◌, ◌≤◌, ◌↔◌, IsTrue, Some, length};
 ghost use Rattle.std.specs.Prelude.{map, slice_get, slice_set};
-ghost use Rattle.bitvec_ptr.specs.Memory.{memory_bits};
 ghost use Rattle.bitvec_ptr.specs.Place.{words_met};
 ghost use Rattle.bitvec_span.specs.Span.{region_max_bits};
 ghost use Rattle.bitvec_span.specs.BitParts.{bits_list};
@@ -134,7 +133,7 @@ impl<'a, R: BitRegister, O> BitWordsMut<'a, R, O> {
 }
 
 impl<'a, R: BitRegister, O: BitOrder<R>> BitWordsMut<'a, R, O> {
-    ghost use Rattle.bitvec_span.specs.BitWordsMut.{words_memory, memory_numbers, stretch_in};
+    ghost use Rattle.bitvec_span.specs.BitWordsMut.{words_memory, all_bits, stretch_in};
     ghost use Rattle.bitvec_span.specs.BitWordsMut.{bit_number};
 
     /// Bit `i`. Requires that `i` is below the number of bits. Constant time.
@@ -158,9 +157,8 @@ impl<'a, R: BitRegister, O: BitOrder<R>> BitWordsMut<'a, R, O> {
             (bits_list R.BITS O.at_of
             (stretch_bits (stretch_in self.old) (map R.number (words_memory self.old).now))) i
             ≡ Some result }
-        ensures bits { memory_bits R.BITS O.at_of (memory_numbers R.number self.new)
-            ≡ slice_set (memory_bits R.BITS O.at_of (memory_numbers R.number self.old))
-            (bit_number R.BITS self.old i) bit }
+        ensures bits { all_bits self.new O.at_of
+            ≡ slice_set (all_bits self.old O.at_of) (bit_number R.BITS self.old i) bit }
         ensures words { length (words_memory self.new).now ≡ length (words_memory self.old).now }
     {
         let pointer = word_pointer::<R, O>(self.head, i);

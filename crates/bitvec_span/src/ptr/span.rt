@@ -2,13 +2,13 @@
 
 ghost use Rattle.std.specs.Prelude.{◌≡◌, ⊤, ℕ, ℤ, pos, ◌+◌, ◌-◌, ◌*◌, ◌/◌, ◌%◌, ◌==◌};
 ghost use Rattle.std.specs.Prelude.{if◌then◌else◌, ◌+ℤ◌, ◌≤ℤ◌, ◌<ℤ◌, ◌<◌, ◌≤◌, ◌↔◌, IsTrue, IsOk};
-ghost use Rattle.std.specs.Prelude.{IfOk, Bool, List, ◌++◌, length, take, drop};
+ghost use Rattle.std.specs.Prelude.{IfOk};
 ghost use Rattle.std.specs.Int.{int_div_euclid};
 ghost use Rattle.bitvec_ptr.specs.Place.{place_at, place_of, words_met, tail_of, greatest_isize};
 ghost use Rattle.bitvec_ptr.specs.Steps.{CanOffset, IsIn};
 ghost use Rattle.bitvec_span.specs.Span.{region_max_bits, Span, Fits, AreDisjoint};
 ghost use Rattle.bitvec_span.specs.Span.{span_at, span_places, span_upto, span_from, span_range};
-ghost use Rattle.bitvec_span.specs.Span.{list_of, BecomesList};
+ghost use Rattle.bitvec_span.specs.Span.{word_behind, HoldsFrom, ListsJoin, ListsRange, EditsRange};
 ghost use Rattle.bitvec_span.specs.Parts.{part_head, part_tail};
 
 mod combine;
@@ -131,14 +131,12 @@ impl<R: BitRegister, O> BitSpan<R, O> {
     pub fn new(word: isize, head: BitIdx<R>, bits: usize) -> Result<Self, BitSpanError<R>>
         ensures accepted { IsOk result
             ↔ ((bits ≤ region_max_bits)
-            × (int_div_euclid (place_at R.BITS word head +ℤ pos bits) (pos R.BITS)
-            ≤ℤ isize.MAX)) }
+            × (word_behind R.BITS (record { word = word; bit = head }) bits ≤ℤ isize.MAX)) }
         ensures too_long { (result ≡ Err (BitSpanError.TooLong bits))
             ↔ (region_max_bits < bits) }
         ensures too_high { (result ≡ Err (BitSpanError.TooHigh word (record {})))
             ↔ ((bits ≤ region_max_bits)
-            × (isize.MAX <ℤ int_div_euclid (place_at R.BITS word head +ℤ pos bits)
-            (pos R.BITS))) }
+            × (isize.MAX <ℤ word_behind R.BITS (record { word = word; bit = head }) bits)) }
         ensures span { IfOk result (λ s. span_of s
             ≡ record { word = word; head = head; len = bits }) }
     {
@@ -160,7 +158,7 @@ impl<R: BitRegister, O> BitSpan<R, O> {
     #[inline(always)]
     pub fn new_unchecked(word: isize, head: BitIdx<R>, bits: usize) -> Self
         requires short { bits ≤ region_max_bits }
-        requires low { int_div_euclid (place_at R.BITS word head +ℤ pos bits) (pos R.BITS)
+        requires low { word_behind R.BITS (record { word = word; bit = head }) bits
             ≤ℤ isize.MAX }
         ensures { span_of result ≡ record { word = word; head = head; len = bits } }
     {
@@ -179,14 +177,13 @@ impl<R: BitRegister, O> BitSpan<R, O> {
     pub fn from_bitptr(pointer: BitPtr<R, O>, bits: usize) -> Result<Self, BitSpanError<R>>
         ensures accepted { IsOk result
             ↔ ((bits ≤ region_max_bits)
-            × (int_div_euclid (place_of R.BITS (ptr_of pointer) +ℤ pos bits) (pos R.BITS)
+            × (word_behind R.BITS (ptr_of pointer) bits
             ≤ℤ isize.MAX)) }
         ensures too_long { (result ≡ Err (BitSpanError.TooLong bits))
             ↔ (region_max_bits < bits) }
         ensures too_high { (result ≡ Err (BitSpanError.TooHigh (ptr_of pointer).word (record {})))
             ↔ ((bits ≤ region_max_bits)
-            × (isize.MAX <ℤ int_div_euclid (place_of R.BITS (ptr_of pointer) +ℤ pos bits)
-            (pos R.BITS))) }
+            × (isize.MAX <ℤ word_behind R.BITS (ptr_of pointer) bits)) }
         ensures span { IfOk result (λ s. span_of s
             ≡ record { word = (ptr_of pointer).word; head = (ptr_of pointer).bit; len = bits }) }
     {
@@ -282,10 +279,7 @@ impl<R: BitRegister, O> BitSpan<R, O> {
             ≡ record { word = (span_of self).word; bit = (span_of self).head } }
         ensures steps { (index : ℕ) → index ≤ (span_of self).len
             → CanOffset R.BITS (ptr_of result) (pos index) }
-        ensures inside { (index words bit : ℕ) (word : ℤ) → place_at R.BITS word bit
-            ≡ place_of R.BITS (ptr_of result) +ℤ pos index → index < (span_of self).len
-            → bit ≤ R.BITS - 1 → Fits R.BITS (span_of self) words
-            → IsIn (record { word = word; bit = bit }) words }
+        ensures inside { HoldsFrom R.BITS (span_of self) (ptr_of result) }
     {
         BitPtr::new(self.word, self.head())
     }
@@ -357,10 +351,7 @@ impl<R: BitRegister, O> BitSpan<R, O> {
         ensures disjoint { AreDisjoint R.BITS (span_of result.0) (span_of result.1) }
         ensures fit { (words : ℕ) → Fits R.BITS (span_of self) words
             → Fits R.BITS (span_of result.0) words × Fits R.BITS (span_of result.1) words }
-        ensures lists { (at : ℕ → ℕ) (words : List ℕ) → pos 0 ≤ℤ (span_of self).word
-            → list_of R.BITS at (span_of result.0) words
-            ++ list_of R.BITS at (span_of result.1) words
-            ≡ list_of R.BITS at (span_of self) words }
+        ensures lists { ListsJoin R.BITS (span_of result.0) (span_of result.1) (span_of self) }
         ensures apart { (other : Span) → AreDisjoint R.BITS (span_of self) other
             → AreDisjoint R.BITS (span_of result.0) other
             × AreDisjoint R.BITS (span_of result.1) other }
@@ -390,16 +381,8 @@ impl<R: BitRegister, O> BitSpan<R, O> {
         ensures span { span_of result ≡ span_range R.BITS (span_of self) from to }
         ensures fit { (words : ℕ) → Fits R.BITS (span_of self) words
             → Fits R.BITS (span_of result) words }
-        ensures list { (at : ℕ → ℕ) (words : List ℕ)
-            → Fits R.BITS (span_of self) (length words)
-            → list_of R.BITS at (span_of result) words
-            ≡ take (to - from) (drop from (list_of R.BITS at (span_of self) words)) }
-        ensures edits { (at : ℕ → ℕ) (old new : List ℕ) (xs : List Bool)
-            → Fits R.BITS (span_of self) (length old)
-            → BecomesList R.BITS at (span_of result) old new xs
-            → BecomesList R.BITS at (span_of self) old new
-            (take from (list_of R.BITS at (span_of self) old) ++ xs
-            ++ drop to (list_of R.BITS at (span_of self) old)) }
+        ensures list { ListsRange R.BITS (span_of self) from to (span_of result) }
+        ensures edits { EditsRange R.BITS (span_of self) from to (span_of result) }
         ensures apart { (other : Span) → AreDisjoint R.BITS (span_of self) other
             → AreDisjoint R.BITS (span_of result) other }
     {

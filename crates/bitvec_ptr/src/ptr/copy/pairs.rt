@@ -2,11 +2,10 @@
 //! the other that are lined up with it, and neither range is copied.
 
 ghost use Rattle.std.specs.Prelude.{◌≡◌, ◌⊎◌, ℕ, ◌+◌, ◌*◌, ◌<◌, ◌≤◌, false, length, map};
-ghost use Rattle.std.specs.Prelude.{MatchOption};
 ghost use Rattle.bitvec_mem.specs.Digit.{digit, count_below};
 ghost use Rattle.bitvec_mem.specs.Ones.{HasNoOne};
 ghost use Rattle.bitvec_ptr.specs.Cursor.{cursor_place};
-ghost use Rattle.bitvec_ptr.specs.Pairs.{pair_of, NoneBelow, IsFirstBelow};
+ghost use Rattle.bitvec_ptr.specs.Pairs.{pair_from, NoneBelow, FindsFirst};
 ghost use Rattle.bitvec_ptr.specs.Place.{words_met};
 ghost use Rattle.bitvec_ptr.specs.Ways.{Allows};
 
@@ -38,8 +37,8 @@ fn question_word<C: Combine, R: BitRegister, O: BitOrder<R>, R2: BitRegister, O2
     requires to_in { to < length memory.now }
     requires from_in { cursor_place from + count ≤ length other.now * R2.BITS }
     ensures inside { (j : ℕ) → j < count → digit (R.number result) (O.at_of (bit + j))
-        ≡ pair_of C.of R.BITS O.at_of (map R.number memory.now) (to * R.BITS + bit) R2.BITS
-        O2.at_of (map R2.number other.now) (cursor_place from) j }
+        ≡ pair_from C.of R.BITS O.at_of (map R.number memory.now) (to * R.BITS + bit) from O2.at_of
+        other.now j }
     ensures outside { (j : ℕ) → j < R.BITS → (j < bit) ⊎ (bit + count ≤ j)
         → digit (R.number result) (O.at_of j) ≡ false }
 {
@@ -64,8 +63,8 @@ fn count_word<C: Combine, R: BitRegister, O: BitOrder<R>, R2: BitRegister, O2: B
     requires way { Allows way R2.BITS O2.at_of R.BITS O.at_of from.bit bit }
     requires to_in { to < length memory.now }
     requires from_in { cursor_place from + count ≤ length other.now * R2.BITS }
-    ensures { result ≡ count_below (pair_of C.of R.BITS O.at_of (map R.number memory.now)
-        (to * R.BITS + bit) R2.BITS O2.at_of (map R2.number other.now) (cursor_place from)) count }
+    ensures { result ≡ count_below (pair_from C.of R.BITS O.at_of (map R.number memory.now) (to *
+        R.BITS + bit) from O2.at_of other.now) count }
 {
     let both = question_word::<C, R, O, R2, O2>(way, memory, to, other, from, bit, count);
     both.count_ones() as usize
@@ -85,8 +84,8 @@ fn count_row<C: Combine, R: BitRegister, O: BitOrder<R>, R2: BitRegister, O2: Bi
     requires short { count * R.BITS ≤ usize.MAX }
     requires to_in { to + count ≤ length memory.now }
     requires from_in { cursor_place from + count * R.BITS ≤ length other.now * R2.BITS }
-    ensures { result ≡ count_below (pair_of C.of R.BITS O.at_of (map R.number memory.now) (to *
-        R.BITS) R2.BITS O2.at_of (map R2.number other.now) (cursor_place from)) (count * R.BITS) }
+    ensures { result ≡ count_below (pair_from C.of R.BITS O.at_of (map R.number memory.now) (to *
+        R.BITS) from O2.at_of other.now) (count * R.BITS) }
 {
     let mut total = 0;
     for k in 0..count {
@@ -110,8 +109,8 @@ fn count_one_way<C: Combine, R: BitRegister, O: BitOrder<R>, R2: BitRegister, O2
     requires way { Allows way R2.BITS O2.at_of R.BITS O.at_of from.bit to.bit }
     requires to_in { to.word + words_met R.BITS to.bit count ≤ length memory.now }
     requires from_in { cursor_place from + count ≤ length other.now * R2.BITS }
-    ensures { result ≡ count_below (pair_of C.of R.BITS O.at_of (map R.number memory.now)
-        (cursor_place to) R2.BITS O2.at_of (map R2.number other.now) (cursor_place from)) count }
+    ensures { result ≡ count_below (pair_from C.of R.BITS O.at_of (map R.number memory.now)
+        (cursor_place to) from O2.at_of other.now) count }
 {
     if is_in_one_word::<R>(to.bit, count) {
         let all = count as u8;
@@ -142,8 +141,8 @@ pub(super) fn count_pairs<
     requires some { 0 < count }
     requires to_in { to.word + words_met R.BITS to.bit count ≤ length memory.now }
     requires from_in { cursor_place from + count ≤ length other.now * R2.BITS }
-    ensures { result ≡ count_below (pair_of C.of R.BITS O.at_of (map R.number memory.now)
-        (cursor_place to) R2.BITS O2.at_of (map R2.number other.now) (cursor_place from)) count }
+    ensures { result ≡ count_below (pair_from C.of R.BITS O.at_of (map R.number memory.now)
+        (cursor_place to) from O2.at_of other.now) count }
 {
     match way_of::<R2, O2, R, O>(from.bit, to.bit) {
         Way::Whole => {
@@ -176,9 +175,8 @@ fn first_in_word<C: Combine, R: BitRegister, O: BitOrder<R>, R2: BitRegister, O2
     requires way { Allows way R2.BITS O2.at_of R.BITS O.at_of from.bit bit }
     requires to_in { to < length memory.now }
     requires from_in { cursor_place from + count ≤ length other.now * R2.BITS }
-    ensures { let both = pair_of C.of R.BITS O.at_of (map R.number memory.now) (to * R.BITS + bit)
-        R2.BITS O2.at_of (map R2.number other.now) (cursor_place from)
-        in MatchOption result (NoneBelow both count) (IsFirstBelow both count) }
+    ensures { FindsFirst (pair_from C.of R.BITS O.at_of (map R.number memory.now) (to * R.BITS +
+        bit) from O2.at_of other.now) count result }
 {
     let both = question_word::<C, R, O, R2, O2>(way, memory, to, other, from, bit, count);
     match first_index::<R, O>(both) {
@@ -201,9 +199,8 @@ fn joined_row<C: Combine, R: BitRegister, O: BitOrder<R>, R2: BitRegister, O2: B
     requires short { count * R.BITS ≤ usize.MAX }
     requires to_in { to + count ≤ length memory.now }
     requires from_in { cursor_place from + count * R.BITS ≤ length other.now * R2.BITS }
-    ensures { HasNoOne R.BITS (R.number result) → NoneBelow (pair_of C.of R.BITS O.at_of
-        (map R.number memory.now) (to * R.BITS) R2.BITS O2.at_of (map R2.number other.now)
-        (cursor_place from)) (count * R.BITS) }
+    ensures { HasNoOne R.BITS (R.number result) → NoneBelow (pair_from C.of R.BITS O.at_of (map
+        R.number memory.now) (to * R.BITS) from O2.at_of other.now) (count * R.BITS) }
 {
     let mut joined = R::ZERO;
     for k in 0..count {
@@ -227,10 +224,8 @@ fn first_by_words<C: Combine, R: BitRegister, O: BitOrder<R>, R2: BitRegister, O
     requires short { count * R.BITS ≤ usize.MAX }
     requires to_in { to + count ≤ length memory.now }
     requires from_in { cursor_place from + count * R.BITS ≤ length other.now * R2.BITS }
-    ensures { let both = pair_of C.of R.BITS O.at_of (map R.number memory.now) (to * R.BITS)
-        R2.BITS O2.at_of (map R2.number other.now) (cursor_place from)
-        in MatchOption result (NoneBelow both (count * R.BITS))
-        (IsFirstBelow both (count * R.BITS)) }
+    ensures { FindsFirst (pair_from C.of R.BITS O.at_of (map R.number memory.now) (to * R.BITS) from
+        O2.at_of other.now) (count * R.BITS) result }
 {
     for k in 0..count {
         let read = from.words_on::<R>(k);
@@ -257,10 +252,8 @@ fn first_in_block<C: Combine, R: BitRegister, O: BitOrder<R>, R2: BitRegister, O
     requires short { count * R.BITS ≤ usize.MAX }
     requires to_in { to + count ≤ length memory.now }
     requires from_in { cursor_place from + count * R.BITS ≤ length other.now * R2.BITS }
-    ensures { let both = pair_of C.of R.BITS O.at_of (map R.number memory.now) (to * R.BITS)
-        R2.BITS O2.at_of (map R2.number other.now) (cursor_place from)
-        in MatchOption result (NoneBelow both (count * R.BITS))
-        (IsFirstBelow both (count * R.BITS)) }
+    ensures { FindsFirst (pair_from C.of R.BITS O.at_of (map R.number memory.now) (to * R.BITS) from
+        O2.at_of other.now) (count * R.BITS) result }
 {
     let joined = joined_row::<C, R, O, R2, O2>(way, memory, to, other, from, count);
     if joined.to_u128() == 0 {
@@ -283,10 +276,8 @@ fn first_in_row<C: Combine, R: BitRegister, O: BitOrder<R>, R2: BitRegister, O2:
     requires short { count * R.BITS ≤ usize.MAX }
     requires to_in { to + count ≤ length memory.now }
     requires from_in { cursor_place from + count * R.BITS ≤ length other.now * R2.BITS }
-    ensures { let both = pair_of C.of R.BITS O.at_of (map R.number memory.now) (to * R.BITS)
-        R2.BITS O2.at_of (map R2.number other.now) (cursor_place from)
-        in MatchOption result (NoneBelow both (count * R.BITS))
-        (IsFirstBelow both (count * R.BITS)) }
+    ensures { FindsFirst (pair_from C.of R.BITS O.at_of (map R.number memory.now) (to * R.BITS) from
+        O2.at_of other.now) (count * R.BITS) result }
 {
     let mut done = 0;
     while done < count {
@@ -315,9 +306,8 @@ fn first_one_way<C: Combine, R: BitRegister, O: BitOrder<R>, R2: BitRegister, O2
     requires way { Allows way R2.BITS O2.at_of R.BITS O.at_of from.bit to.bit }
     requires to_in { to.word + words_met R.BITS to.bit count ≤ length memory.now }
     requires from_in { cursor_place from + count ≤ length other.now * R2.BITS }
-    ensures { let both = pair_of C.of R.BITS O.at_of (map R.number memory.now) (cursor_place to)
-        R2.BITS O2.at_of (map R2.number other.now) (cursor_place from) in MatchOption result
-        (NoneBelow both count) (IsFirstBelow both count) }
+    ensures { FindsFirst (pair_from C.of R.BITS O.at_of (map R.number memory.now) (cursor_place to)
+        from O2.at_of other.now) count result }
 {
     if is_in_one_word::<R>(to.bit, count) {
         let all = count as u8;
@@ -357,9 +347,8 @@ pub(super) fn first_pair<
     requires some { 0 < count }
     requires to_in { to.word + words_met R.BITS to.bit count ≤ length memory.now }
     requires from_in { cursor_place from + count ≤ length other.now * R2.BITS }
-    ensures { let both = pair_of C.of R.BITS O.at_of (map R.number memory.now) (cursor_place to)
-        R2.BITS O2.at_of (map R2.number other.now) (cursor_place from) in MatchOption result
-        (NoneBelow both count) (IsFirstBelow both count) }
+    ensures { FindsFirst (pair_from C.of R.BITS O.at_of (map R.number memory.now) (cursor_place to)
+        from O2.at_of other.now) count result }
 {
     match way_of::<R2, O2, R, O>(from.bit, to.bit) {
         Way::Whole => {

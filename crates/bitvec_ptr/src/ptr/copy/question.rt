@@ -1,9 +1,9 @@
 //! Questions of two ranges of bits: how many of their pairs are one, and which is the first.
 
-ghost use Rattle.std.specs.Prelude.{◌≡◌, length, MatchOption};
+ghost use Rattle.std.specs.Prelude.{◌≡◌, length};
 ghost use Rattle.bitvec_mem.specs.Digit.{count_below};
 ghost use Rattle.bitvec_ptr.specs.BitPtr.{ptr_of};
-ghost use Rattle.bitvec_ptr.specs.Pairs.{pair_by, NoneBelow, IsFirstBelow};
+ghost use Rattle.bitvec_ptr.specs.Pairs.{pair_by, FindsFirst};
 ghost use Rattle.bitvec_ptr.specs.Steps.{RangeIsIn};
 
 use crate::ptr::combine::Combine;
@@ -83,8 +83,8 @@ impl<R: BitRegister, O: BitOrder<R>> BitPtr<R, O> {
     ) -> Option<usize>
         requires here { RangeIsIn R.BITS (ptr_of self) (length memory.now) count }
         requires there { RangeIsIn R2.BITS (ptr_of other) (length other_memory.now) count }
-        ensures { let both = pair_by C.of self O.at_of memory.now other O2.at_of other_memory.now
-            in MatchOption result (NoneBelow both count) (IsFirstBelow both count) }
+        ensures { FindsFirst (pair_by C.of self O.at_of memory.now other O2.at_of other_memory.now)
+            count result }
     {
         if count == 0 {
             return None;

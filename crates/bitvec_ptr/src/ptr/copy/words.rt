@@ -7,7 +7,9 @@
 
 ghost use Rattle.std.specs.Prelude.{◌≡◌, ℕ, ◌+◌, ◌-◌, ◌*◌, ◌<◌, ◌≤◌, true, false, length, map};
 ghost use Rattle.std.specs.Prelude.{slice_index, List};
-ghost use Rattle.bitvec_ptr.specs.Combinations.{HasCombined, HasCombinedWithin};
+ghost use Rattle.bitvec_ptr.specs.Combinations.{HasCombinedWithin, HasCombinedFrom};
+ghost use Rattle.bitvec_ptr.specs.Combinations.{HasCombinedPair};
+ghost use Rattle.bitvec_ptr.specs.Combinations.{HasCombinedTo, HasCombinedOver};
 ghost use Rattle.bitvec_ptr.specs.Cursor.{cursor_place};
 ghost use Rattle.bitvec_ptr.specs.Place.{words_met};
 ghost use Rattle.bitvec_ptr.specs.Ways.{Allows};
@@ -41,8 +43,8 @@ fn combine_word<C: Combine, R: BitRegister, O: BitOrder<R>, R2: BitRegister, O2:
     requires to_in { to < length (writer_of writer.old).words }
     requires rising { (writer_of writer.old).rising ≡ true → (writer_of writer.old).mark ≤ to }
     requires falling { (writer_of writer.old).rising ≡ false → to < (writer_of writer.old).mark }
-    ensures { HasCombined C.of R.BITS O.at_of R.number source.now (cursor_place from) R2.BITS
-        O2.at_of R2.number writer.old writer.new (to * R2.BITS + bit) count to 1 }
+    ensures { HasCombinedFrom C.of from O.at_of source.now R2.BITS O2.at_of R2.number writer.old
+        writer.new (to * R2.BITS + bit) count to 1 }
 {
     let old = writer.get(to);
     let theirs = gathered_from::<R, O, R2, O2>(way, source, from, C::ground(old), bit, count);
@@ -69,13 +71,8 @@ fn combine_pair<C: Combine, R: BitRegister, O: BitOrder<R>>(
     requires to_in { to < length (writer_of writer.old).words }
     requires rising { (writer_of writer.old).rising ≡ true → (writer_of writer.old).mark ≤ to }
     requires falling { (writer_of writer.old).rising ≡ false → to < (writer_of writer.old).mark }
-    ensures { (source : List R) (word : ℕ)
-        → word * R.BITS + shift + count ≤ length source * R.BITS
-        → R.number low ≡ slice_index (map R.number source) word
-        → (R.BITS < shift + count → R.number high
-        ≡ slice_index (map R.number source) (word + 1))
-        → HasCombined C.of R.BITS O.at_of R.number source (word * R.BITS + shift) R.BITS O.at_of
-        R.number writer.old writer.new (to * R.BITS + bit) count to 1 }
+    ensures { HasCombinedPair C.of R.BITS O.at_of R.number low high (R.BITS < shift + count) shift
+        writer.old writer.new (to * R.BITS + bit) count to }
 {
     let old = writer.get(to);
     let ours = gathered_from_pair::<R, O, R, O>(way, low, high, shift, C::ground(old), bit, count);
@@ -122,8 +119,8 @@ fn combine_row_rising<
     requires to_in { to + count ≤ length (writer_of writer.old).words }
     requires direction { (writer_of writer.old).rising ≡ true }
     requires stands { (writer_of writer.old).mark ≡ to }
-    ensures { HasCombined C.of R.BITS O.at_of R.number source.now (cursor_place from) R2.BITS
-        O2.at_of R2.number writer.old writer.new (to * R2.BITS) (count * R2.BITS) to count }
+    ensures { HasCombinedFrom C.of from O.at_of source.now R2.BITS O2.at_of R2.number writer.old
+        writer.new (to * R2.BITS) (count * R2.BITS) to count }
 {
     for k in 0..count {
         let read = from.words_on::<R2>(k);
@@ -146,8 +143,8 @@ fn combine_row_falling<
     requires to_in { to + count ≤ length (writer_of writer.old).words }
     requires direction { (writer_of writer.old).rising ≡ false }
     requires stands { (writer_of writer.old).mark ≡ to + count }
-    ensures { HasCombined C.of R.BITS O.at_of R.number source.now (cursor_place from) R2.BITS
-        O2.at_of R2.number writer.old writer.new (to * R2.BITS) (count * R2.BITS) to count }
+    ensures { HasCombinedFrom C.of from O.at_of source.now R2.BITS O2.at_of R2.number writer.old
+        writer.new (to * R2.BITS) (count * R2.BITS) to count }
 {
     for done in 0..count {
         let k = count - 1 - done;
@@ -174,12 +171,8 @@ fn combine_whole<C: Combine, R: BitRegister, O: BitOrder<R>>(
     requires to_in { to < length (writer_of writer.old).words }
     requires rising { (writer_of writer.old).rising ≡ true → (writer_of writer.old).mark ≤ to }
     requires falling { (writer_of writer.old).rising ≡ false → to < (writer_of writer.old).mark }
-    ensures { (source : List R) (word : ℕ)
-        → word * R.BITS + shift + R.BITS ≤ length source * R.BITS
-        → R.number low ≡ slice_index (map R.number source) word
-        → (0 < shift → R.number high ≡ slice_index (map R.number source) (word + 1))
-        → HasCombined C.of R.BITS O.at_of R.number source (word * R.BITS + shift) R.BITS O.at_of
-        R.number writer.old writer.new (to * R.BITS) R.BITS to 1 }
+    ensures { HasCombinedPair C.of R.BITS O.at_of R.number low high (0 < shift) shift writer.old
+        writer.new (to * R.BITS) R.BITS to }
 {
     let old = writer.get(to);
     let ours = gathered_whole::<R, O>(way, low, high, shift);
@@ -502,9 +495,7 @@ pub(super) fn combine_rising<
         (writer_of writer.old).words }
     requires direction { (writer_of writer.old).rising ≡ true }
     requires stands { (writer_of writer.old).mark ≡ to.word }
-    ensures { HasCombined C.of R.BITS O.at_of R.number source.now (cursor_place from) R2.BITS
-        O2.at_of R2.number writer.old writer.new (cursor_place to) count to.word (words_met R2.BITS
-        to.bit count) }
+    ensures { HasCombinedTo C.of from O.at_of source.now to O2.at_of writer.old writer.new count }
 {
     if is_in_one_word::<R2>(to.bit, count) {
         combine_word::<C, R, O, R2, O2>(way, source, from, writer, to.word, to.bit, count as u8);
@@ -548,9 +539,7 @@ pub(super) fn combine_falling<
         (writer_of writer.old).words }
     requires direction { (writer_of writer.old).rising ≡ false }
     requires stands { (writer_of writer.old).mark ≡ to.word + words_met R2.BITS to.bit count }
-    ensures { HasCombined C.of R.BITS O.at_of R.number source.now (cursor_place from) R2.BITS
-        O2.at_of R2.number writer.old writer.new (cursor_place to) count to.word (words_met R2.BITS
-        to.bit count) }
+    ensures { HasCombinedTo C.of from O.at_of source.now to O2.at_of writer.old writer.new count }
 {
     if is_in_one_word::<R2>(to.bit, count) {
         combine_word::<C, R, O, R2, O2>(way, source, from, writer, to.word, to.bit, count as u8);
@@ -588,8 +577,7 @@ pub(super) fn combine_rising_within<C: Combine, R: BitRegister, O: BitOrder<R>>(
     requires before { cursor_place to ≤ cursor_place from }
     requires direction { (writer_of writer.old).rising ≡ true }
     requires stands { (writer_of writer.old).mark ≡ to.word }
-    ensures { HasCombinedWithin C.of R.BITS O.at_of R.number (cursor_place from) writer.old
-        writer.new (cursor_place to) count to.word (words_met R.BITS to.bit count) }
+    ensures { HasCombinedOver C.of from O.at_of to writer.old writer.new count }
 {
     if is_in_one_word::<R>(to.bit, count) {
         combine_word_within::<C, R, O>(way, from, writer, to.word, to.bit, count as u8);
@@ -620,8 +608,7 @@ pub(super) fn combine_falling_within<C: Combine, R: BitRegister, O: BitOrder<R>>
     requires behind { cursor_place from ≤ cursor_place to }
     requires direction { (writer_of writer.old).rising ≡ false }
     requires stands { (writer_of writer.old).mark ≡ to.word + words_met R.BITS to.bit count }
-    ensures { HasCombinedWithin C.of R.BITS O.at_of R.number (cursor_place from) writer.old
-        writer.new (cursor_place to) count to.word (words_met R.BITS to.bit count) }
+    ensures { HasCombinedOver C.of from O.at_of to writer.old writer.new count }
 {
     if is_in_one_word::<R>(to.bit, count) {
         combine_word_within::<C, R, O>(way, from, writer, to.word, to.bit, count as u8);
@@ -653,9 +640,7 @@ fn combine_one_way<C: Combine, R: BitRegister, O: BitOrder<R>, R2: BitRegister, 
     requires rising { (writer_of writer.old).rising ≡ true → (writer_of writer.old).mark ≡ to.word }
     requires falling { (writer_of writer.old).rising ≡ false → (writer_of writer.old).mark
         ≡ to.word + words_met R2.BITS to.bit count }
-    ensures { HasCombined C.of R.BITS O.at_of R.number source.now (cursor_place from) R2.BITS
-        O2.at_of R2.number writer.old writer.new (cursor_place to) count to.word (words_met R2.BITS
-        to.bit count) }
+    ensures { HasCombinedTo C.of from O.at_of source.now to O2.at_of writer.old writer.new count }
 {
     if writer.is_rising() {
         combine_rising::<C, R, O, R2, O2>(way, source, from, writer, to, count);
@@ -682,9 +667,7 @@ pub(super) fn combine_bits<
     requires rising { (writer_of writer.old).rising ≡ true → (writer_of writer.old).mark ≡ to.word }
     requires falling { (writer_of writer.old).rising ≡ false → (writer_of writer.old).mark
         ≡ to.word + words_met R2.BITS to.bit count }
-    ensures { HasCombined C.of R.BITS O.at_of R.number source.now (cursor_place from) R2.BITS
-        O2.at_of R2.number writer.old writer.new (cursor_place to) count to.word (words_met R2.BITS
-        to.bit count) }
+    ensures { HasCombinedTo C.of from O.at_of source.now to O2.at_of writer.old writer.new count }
 {
     match way_of::<R, O, R2, O2>(from.bit, to.bit) {
         Way::Whole => {
@@ -723,8 +706,7 @@ fn combine_one_way_within<C: Combine, R: BitRegister, O: BitOrder<R>>(
     requires rising { (writer_of writer.old).rising ≡ true → (writer_of writer.old).mark ≡ to.word }
     requires falling { (writer_of writer.old).rising ≡ false → (writer_of writer.old).mark
         ≡ to.word + words_met R.BITS to.bit count }
-    ensures { HasCombinedWithin C.of R.BITS O.at_of R.number (cursor_place from) writer.old
-        writer.new (cursor_place to) count to.word (words_met R.BITS to.bit count) }
+    ensures { HasCombinedOver C.of from O.at_of to writer.old writer.new count }
 {
     if writer.is_rising() {
         combine_rising_within::<C, R, O>(way, from, writer, to, count);
@@ -751,8 +733,7 @@ pub(super) fn combine_bits_within<C: Combine, R: BitRegister, O: BitOrder<R>>(
     requires rising { (writer_of writer.old).rising ≡ true → (writer_of writer.old).mark ≡ to.word }
     requires falling { (writer_of writer.old).rising ≡ false → (writer_of writer.old).mark
         ≡ to.word + words_met R.BITS to.bit count }
-    ensures { HasCombinedWithin C.of R.BITS O.at_of R.number (cursor_place from) writer.old
-        writer.new (cursor_place to) count to.word (words_met R.BITS to.bit count) }
+    ensures { HasCombinedOver C.of from O.at_of to writer.old writer.new count }
 {
     match way_of::<R, O, R, O>(from.bit, to.bit) {
         Way::Whole => {
