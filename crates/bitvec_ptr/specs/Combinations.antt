@@ -46,9 +46,9 @@ abbrev pub HasCombinedOver : {R : Type 0} {a b c d e f g : _} → (Bool → Bool
     → Cursor R a b c d e f g → WordWriter R → WordWriter R → ℕ → Type 0
 HasCombinedOver of from at to older newer count = HasCombinedTo of from at (writer_of older).words to at older newer count
 
--- From its older to its newer state, a writer has put its word `first`, and has so combined `count` bits, from index `shift`
--- of a word on, with those of its memory from place t on: the word is number `low`'s in any list that holds that many bits
--- from there on, and the next word is `high`'s where that one is read.
+-- From its older to its newer state, a writer has put its word `first`, and has so combined `count` bits of two words, from
+-- index `shift` of the first on, with those of its memory from place t on. The two may stand side by side in any list of
+-- words: `low` is its word `word`, and `high`, which counts only where `reads_high`, is the next.
 abbrev pub HasCombinedPair : {R : Type 0} (f : Bool → Bool → Bool) (width : ℕ) (at : ℕ → ℕ) (number : R → ℕ) (low high : R) (reads_high : Type 0)
     (shift : ℕ) (older newer : WordWriter R) (t count first : ℕ)
     → Type 0

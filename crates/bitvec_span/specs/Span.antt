@@ -4,7 +4,7 @@ use Rattle.std.specs.Prelude.{◌≡◌, ℕ, ℤ, pos, nat_abs, ◌+◌, ◌-�
 use Rattle.bitvec_order.specs.Order.{number_of}
 use Rattle.bitvec_ptr.specs.Memory.{bit_of, tabulate}
 use Rattle.std.specs.Int.{int_div_euclid}
-use Rattle.bitvec_ptr.specs.Place.{Ptr, place_at, place_of, words_met}
+use Rattle.bitvec_ptr.specs.Place.{Ptr, place_at, place_of, greatest_isize, words_met}
 use Rattle.bitvec_ptr.specs.Steps.{IsIn}
 pub use Rattle.bitvec_ptr.specs.Place.{region_max_bits}
 
@@ -21,6 +21,10 @@ span_at bits place len = record { word = pos (place / bits); head = place % bits
 -- the word of the place behind `len` bits from a pointer on
 abbrev pub word_behind : ℕ → Ptr → ℕ → ℤ
 word_behind bits ptr len = int_div_euclid (place_of bits ptr +ℤ pos len) (pos bits)
+
+-- a length is one that a span may have, but from a pointer on it ends too high: the word behind it passes the greatest `isize`
+abbrev pub EndsTooHigh : ℕ → Ptr → ℕ → Type 0
+EndsTooHigh bits ptr len = (len ≤ region_max_bits) × (greatest_isize <ℤ word_behind bits ptr len)
 
 -- the first `len` bits of a memory
 abbrev pub front_span : ℕ → Span

@@ -8,7 +8,8 @@ ghost use Rattle.bitvec_ptr.specs.Place.{place_at, place_of, words_met, tail_of,
 ghost use Rattle.bitvec_ptr.specs.Steps.{CanOffset, IsIn};
 ghost use Rattle.bitvec_span.specs.Span.{region_max_bits, Span, Fits, AreDisjoint};
 ghost use Rattle.bitvec_span.specs.Span.{span_at, span_places, span_upto, span_from, span_range};
-ghost use Rattle.bitvec_span.specs.Span.{word_behind, HoldsFrom, ListsJoin, ListsRange, EditsRange};
+ghost use Rattle.bitvec_span.specs.Span.{word_behind, EndsTooHigh, HoldsFrom, ListsJoin, ListsRange};
+ghost use Rattle.bitvec_span.specs.Span.{EditsRange};
 ghost use Rattle.bitvec_span.specs.Parts.{part_head, part_tail};
 
 mod combine;
@@ -135,8 +136,7 @@ impl<R: BitRegister, O> BitSpan<R, O> {
         ensures too_long { (result ≡ Err (BitSpanError.TooLong bits))
             ↔ (region_max_bits < bits) }
         ensures too_high { (result ≡ Err (BitSpanError.TooHigh word (record {})))
-            ↔ ((bits ≤ region_max_bits)
-            × (isize.MAX <ℤ word_behind R.BITS (record { word = word; bit = head }) bits)) }
+            ↔ EndsTooHigh R.BITS (record { word = word; bit = head }) bits }
         ensures span { IfOk result (λ s. span_of s
             ≡ record { word = word; head = head; len = bits }) }
     {
@@ -158,8 +158,7 @@ impl<R: BitRegister, O> BitSpan<R, O> {
     #[inline(always)]
     pub fn new_unchecked(word: isize, head: BitIdx<R>, bits: usize) -> Self
         requires short { bits ≤ region_max_bits }
-        requires low { word_behind R.BITS (record { word = word; bit = head }) bits
-            ≤ℤ isize.MAX }
+        requires low { word_behind R.BITS (record { word = word; bit = head }) bits ≤ℤ isize.MAX }
         ensures { span_of result ≡ record { word = word; head = head; len = bits } }
     {
         BitSpan {
@@ -177,13 +176,11 @@ impl<R: BitRegister, O> BitSpan<R, O> {
     pub fn from_bitptr(pointer: BitPtr<R, O>, bits: usize) -> Result<Self, BitSpanError<R>>
         ensures accepted { IsOk result
             ↔ ((bits ≤ region_max_bits)
-            × (word_behind R.BITS (ptr_of pointer) bits
-            ≤ℤ isize.MAX)) }
+            × (word_behind R.BITS (ptr_of pointer) bits ≤ℤ isize.MAX)) }
         ensures too_long { (result ≡ Err (BitSpanError.TooLong bits))
             ↔ (region_max_bits < bits) }
         ensures too_high { (result ≡ Err (BitSpanError.TooHigh (ptr_of pointer).word (record {})))
-            ↔ ((bits ≤ region_max_bits)
-            × (isize.MAX <ℤ word_behind R.BITS (ptr_of pointer) bits)) }
+            ↔ EndsTooHigh R.BITS (ptr_of pointer) bits }
         ensures span { IfOk result (λ s. span_of s
             ≡ record { word = (ptr_of pointer).word; head = (ptr_of pointer).bit; len = bits }) }
     {
