@@ -8,8 +8,8 @@ ghost use Rattle.bitvec_ptr.specs.Place.{place_at, place_of, words_met, tail_of,
 ghost use Rattle.bitvec_ptr.specs.Steps.{CanOffset, IsIn};
 ghost use Rattle.bitvec_span.specs.Span.{region_max_bits, Span, Fits, AreDisjoint};
 ghost use Rattle.bitvec_span.specs.Span.{span_at, span_places, span_upto, span_from, span_range};
-ghost use Rattle.bitvec_span.specs.Span.{word_behind, EndsTooHigh, HoldsFrom, ListsJoin, ListsRange};
-ghost use Rattle.bitvec_span.specs.Span.{EditsRange};
+ghost use Rattle.bitvec_span.specs.Span.{word_behind, EndsTooHigh, HoldsFrom, ListsJoin};
+ghost use Rattle.bitvec_span.specs.Span.{ListsRange, EditsRange};
 ghost use Rattle.bitvec_span.specs.Parts.{part_head, part_tail};
 
 mod combine;
