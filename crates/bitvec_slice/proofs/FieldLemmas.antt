@@ -15,7 +15,7 @@ use Rattle.bitvec.proofs.DigitLemmas.{digit-mod, digit_above}
 use Rattle.bitvec.proofs.IndexLemmas.{digit-number_of_at, number_of-from_digits}
 use Rattle.bitvec.proofs.PlaceLemmas.{words_met-some}
 use Rattle.bitvec.proofs.PartLemmas.{some_len}
-use Rattle.bitvec_slice.specs.Field.{IsSequential, position_of, stretch_start, stretch_end, mirrored, digit_place, field_number}
+use Rattle.bitvec_slice.specs.Field.{IsSequential, position_of, stretch_start, stretch_end, mirrored, digit_place, field_number, part_place, part_step, part_shift, IsWordPart, IsPlacedPart}
 
 -- a number with no digit from n on is below two to the n
 pub small_from_digits : (w k n : ℕ) → w < 2 ^ k → ((p : ℕ) → n ≤ p → digit w p ≡ false) → w < 2 ^ n
@@ -65,18 +65,6 @@ met_word bits head len j some h =
     omega (arith, count, up)
 
 -- ---- the digit that an element is
-
--- where word k's part begins in the number
-abbrev pub part_place : Bool → ℕ → ℕ → ℕ → ℕ → ℕ
-part_place big bits head len k = if big then len - stretch_end bits head len k else stretch_start bits head k
-
--- how far up in its word's part an element lies
-abbrev pub part_step : Bool → ℕ → ℕ → ℕ → ℕ → ℕ → ℕ
-part_step rises bits head len k j = if rises then j - stretch_start bits head k else stretch_end bits head len k - 1 - j
-
--- where word k's part begins in the word
-abbrev pub part_shift : Bool → ℕ → ℕ → ℕ → ℕ → ℕ
-part_shift rises bits head len k = if rises then stretch_start bits head k + head - k * bits else k * bits + bits - (head + stretch_end bits head len k)
 
 module _ (bits head len : ℕ) (some : 0 < bits) (in_head : head < bits) where
   -- an element's digit lies in its word's part of the number, and its position in the word's part of the word
@@ -171,16 +159,6 @@ module _ (bits head len : ℕ) (some : 0 < bits) (in_head : head < bits) where
 
 -- ---- a word's part as a number
 
--- a number has the elements of word k as its digits, from the lowest position on, and no digit past them
-pub record IsPart (rises : Bool) (bits head len k : ℕ) (bit : ℕ → Bool) (v : ℕ) : Type 0 where
-  pub digits : (j : ℕ) → j < len → (head + j) / bits ≡ k → digit v (part_step rises bits head len k j) ≡ bit j
-  pub past : (p : ℕ) → stretch_end bits head len k - stretch_start bits head k ≤ p → digit v p ≡ false
-
--- a number has the elements of word k as those of its digits that they are in the number of the whole list, and no other
-pub record IsPlaced (big : Bool) (bits : ℕ) (rises : Bool) (head len k : ℕ) (bit : ℕ → Bool) (r : ℕ) : Type 0 where
-  pub digits : (j : ℕ) → j < len → digit r (digit_place big bits rises head len j) ≡ (((head + j) / bits == k) && bit j)
-  pub past : (q : ℕ) → len ≤ q → digit r q ≡ false
-
 -- the digits of v moved up in r, a number of at most `most` digits
 pub record IsMovedUp (up most v r : ℕ) : Type 0 where
   pub below : r < 2 ^ most
@@ -198,7 +176,7 @@ module _ (bits head len k : ℕ) (bit : ℕ → Bool) (some : 0 < bits) (in_head
   pub part_cut : (at : ℕ → ℕ) (w v r : ℕ) (rises : Bool) → IsSequential bits rises at
       → ((j : ℕ) → j < len → (head + j) / bits ≡ k → digit w (at ((head + j) % bits)) ≡ bit j)
       → IsMovedDown (part_shift rises bits head len k) bits w v → r < 2 ^ bits
-      → ((p : ℕ) → p < bits → digit r p ≡ (nat_lt p (stretch_end bits head len k - stretch_start bits head k) && digit v p)) → IsPart rises bits head len k bit r
+      → ((p : ℕ) → p < bits → digit r p ≡ (nat_lt p (stretch_end bits head len k - stretch_start bits head k) && digit v p)) → IsWordPart rises bits head len k bit r
   part_cut at w v r rises law is_word down small cut = record {
     digits = λ j h word.
         let lies = position_in_part bits head len some in_head j k h word rises in
@@ -232,7 +210,7 @@ module _ (bits head len k : ℕ) (bit : ℕ → Bool) (some : 0 < bits) (in_head
       there true = named true (stretch_start bits head k + (q - part_place big bits head len k)) (omega arith) (omega (arith, near)) (omega (arith, from))
       there false = named false (stretch_end bits head len k - 1 - (q - part_place big bits head len k)) (omega (arith, near)) (omega (arith, near)) (omega (arith, from, near))
 
-  pub part_placed : (big rises : Bool) (most v r : ℕ) → len ≤ most → IsPart rises bits head len k bit v → IsMovedUp (part_place big bits head len k) most v r → IsPlaced big bits rises head len k bit r
+  pub part_placed : (big rises : Bool) (most v r : ℕ) → len ≤ most → IsWordPart rises bits head len k bit v → IsMovedUp (part_place big bits head len k) most v r → IsPlacedPart big bits rises head len k bit r
   part_placed big rises most v r long part up = record {
     digits = λ j h. elim (cases_eq ((head + j) / bits) k) [
       | inl same ↦ (
@@ -302,17 +280,17 @@ all_words big rises bits head xs n most some in_head small digits past =
 
 -- the number of a list that meets one word or two
 module _ (big rises : Bool) (bits head : ℕ) (xs : List Bool) (most : ℕ) (some : 0 < bits) (in_head : head < bits) where
-  first_word : (a j : ℕ) → j < length xs → IsPlaced big bits rises head (length xs) 0 (element xs) a
+  first_word : (a j : ℕ) → j < length xs → IsPlacedPart big bits rises head (length xs) 0 (element xs) a
       → digit a (digit_place big bits rises head (length xs) j) ≡ (nat_lt ((head + j) / bits) 1 && element xs j)
   first_word a j h placed = more_words ((head + j) / bits) 0 (element xs j) false _ _ (no_words ((head + j) / bits) (element xs j)) (placed.digits j h) refl
 
-  pub one_word : (n : ℕ) → n < 2 ^ most → words_met bits head (length xs) ≡ 1 → IsPlaced big bits rises head (length xs) 0 (element xs) n → n ≡ field_number big bits rises head xs
+  pub one_word : (n : ℕ) → n < 2 ^ most → words_met bits head (length xs) ≡ 1 → IsPlacedPart big bits rises head (length xs) 0 (element xs) n → n ≡ field_number big bits rises head xs
   one_word n small one placed =
       all_words big rises bits head xs n most some in_head small
       (λ j h. first_word n j h placed ∙ ap (λ m. nat_lt ((head + j) / bits) m && element xs j) (sym one)) placed.past
 
   pub two_words : (a b n : ℕ) → n < 2 ^ most → length xs ≤ most → ((q : ℕ) → q < most → digit n q ≡ (digit a q || digit b q)) → words_met bits head (length xs) ≡ 2
-      → IsPlaced big bits rises head (length xs) 0 (element xs) a → IsPlaced big bits rises head (length xs) 1 (element xs) b → n ≡ field_number big bits rises head xs
+      → IsPlacedPart big bits rises head (length xs) 0 (element xs) a → IsPlacedPart big bits rises head (length xs) 1 (element xs) b → n ≡ field_number big bits rises head xs
   two_words a b n small long joined two first second =
       let law = digit_places bits head (length xs) some in_head big rises in
       all_words big rises bits head xs n most some in_head small

@@ -11,8 +11,8 @@ use Rattle.bitvec.specs.Span.{element, with_word}
 use Rattle.bitvec.proofs.DigitLemmas.{digit-and, digit_all, digit-mod}
 use Rattle.bitvec.proofs.IndexLemmas.{number_of-from_digits}
 use Rattle.bitvec.proofs.MemoryLemmas.{length-tabulate, get_or-tabulate, tabulate-from_elements, tabulate_same}
-use Rattle.bitvec_slice.specs.Field.{IsSequential, stretch_start, stretch_end, digit_place, field_number, field_list}
-use Rattle.bitvec_slice.proofs.FieldLemmas.{met_word, met_bounds, part_place, part_step, part_shift, place_in_part, position_in_part, step_within, digit_places}
+use Rattle.bitvec_slice.specs.Field.{IsSequential, stretch_start, stretch_end, digit_place, field_number, field_list, part_place, part_step, part_shift}
+use Rattle.bitvec_slice.proofs.FieldLemmas.{met_word, met_bounds, place_in_part, position_in_part, step_within, digit_places}
 
 -- the low digits of a number
 pub masked : (bits a mask p : ℕ) → mask ≡ 2 ^ bits - 1 → p < bits → digit (bit_and a mask) p ≡ digit a p

@@ -1,7 +1,8 @@
 -- What a `BitSliceMut` shows.
-use Rattle.std.specs.Prelude.{◌≡◌, ℕ, Bool, List, map}
+use Rattle.std.specs.Prelude.{◌≡◌, ℕ, ◌+◌, ◌%◌, Bool, List, map}
 use Rattle.std.specs.Borrow.{MutBor}
 use Rattle.bitvec.specs.Span.{Span, BecomesList, list_of}
+use Rattle.bitvec_slice.specs.Ranges.{with_range}
 use Rattle.bitvec_slice.specs.declared.slice.bit_slice_mut.BitSliceMut.{BitSliceMut}
 
 -- the memory that it borrows
@@ -30,3 +31,11 @@ abbrev pub BecomesBits : {R O : Type 0} {a b c d e f g h i : _} → (old new : B
 BecomesBits {a = own} {i = order} old new bits =
     (lent_bits new ≡ bits) × (lent_span new ≡ lent_span old) × ((lent_memory new).ghost_name ≡ (lent_memory old).ghost_name)
     × BecomesList own.BITS order.at_of (lent_span old) (lent_words old) (lent_words new) bits
+
+-- the same where the elements of a list take the place of the slice's bits from number `from` to before number `to`
+abbrev pub BecomesRange : {R O : Type 0} {a b c d e f g h i : _} → (old new : BitSliceMut R O a b c d e f g h i) → ℕ → ℕ → List Bool → Type 0
+BecomesRange old new from to bits = BecomesBits old new (with_range (lent_bits old) from to bits)
+
+-- the index in its word of a slice's bit of number `from`
+abbrev pub lent_head : {R O : Type 0} {a b c d e f g h i : _} → BitSliceMut R O a b c d e f g h i → ℕ → ℕ
+lent_head {a = own} slice from = ((lent_span slice).head + from) % own.BITS

@@ -45,6 +45,16 @@ abbrev pub IsFirstFree : List Bool → ℕ → Option ℕ → Type 0
 IsFirstFree xs count result =
     MatchOption result ((i : ℕ) → ¬ AreFree xs i count) (λ i. AreFree xs i count × ((k : ℕ) → k < i → ¬ AreFree xs k count))
 
+-- the same from index `from` on
+abbrev pub IsFirstFreeFrom : List Bool → ℕ → ℕ → Option ℕ → Type 0
+IsFirstFreeFrom xs from count result =
+    MatchOption result ((i : ℕ) → from ≤ i → ¬ AreFree xs i count)
+    (λ i. (from ≤ i) × AreFree xs i count × ((k : ℕ) → from ≤ k → k < i → ¬ AreFree xs k count))
+
+-- the first element from index `from` to before index `upto` that is `bit`, if there is one
+abbrev pub FindsBetween : Bool → List Bool → ℕ → ℕ → Option ℕ → Type 0
+FindsBetween bit xs from upto result = MatchOption result (AllBetween (not bit) xs from upto) (IsFirstBetween bit xs from upto)
+
 -- the indices of the elements of a list that are true, from index `from` to before index `upto`, in rising order
 abbrev pub ones_between : List Bool → ℕ → ℕ → List ℕ
 ones_between xs from upto = filter (element xs) (range_with_len from (upto - from))

@@ -1,10 +1,13 @@
 -- Elements of a list that are the ones of a word. `bits` is the width of a word, and `at` takes an index to its position.
-use Rattle.std.specs.Prelude.{◌≡◌, ℕ, ◌+◌, ◌-◌, ◌*◌, ◌<◌, ◌≤◌, ◌&&◌, Bool, not, List, nat_le, nat_lt}
+use Rattle.std.specs.Prelude.{◌≡◌, ℕ, ◌+◌, ◌-◌, ◌*◌, ◌<◌, ◌≤◌, ◌&&◌, Bool, not, List, Option, MatchOption, nat_le, nat_lt}
 use Rattle.std.specs.Bool.{beq}
 use Rattle.bitvec.specs.Digit.{digit}
 use Rattle.bitvec.specs.Span.{element}
 use Rattle.bitvec.specs.WordEnds.{IsFirstIndex}
+use Rattle.bitvec_slice.specs.BitSlice.{slice_span, slice_len, slice_bits}
 use Rattle.bitvec_slice.specs.Bits.{AllBetween}
+use Rattle.bitvec_slice.specs.Field.{stretch_end}
+use Rattle.bitvec_slice.specs.declared.slice.bit_slice.BitSlice.{BitSlice}
 
 -- The ones of a word are the elements of a list from index `from` to before index `upto` that are `bit`, each at the index
 -- that it has in word k of those that the list meets under a head.
@@ -22,3 +25,11 @@ pub record IsFound (bits : ℕ) (at : ℕ → ℕ) (head : ℕ) (xs : List Bool)
   pub passed : AllBetween (not bit) xs from begin
   pub chosen : IsChosen bits at head xs k begin upto bit w
   pub first : IsFirstIndex bits at w i
+
+-- The first word behind those before index `from` that has a slice's bit which is `bit`, with such bits of it and the index
+-- of the first: as `IsFound` says. None where no bit before index `end` is such a one.
+abbrev pub FindsWord : {R O : Type 0} {a b c d e f g h i : _} → BitSlice R O a b c d e f g h i → Bool → ℕ → ℕ → Option (ℕ × R × ℕ) → Type 0
+FindsWord {a = own} {i = order} slice bit from end result =
+    let found = IsFound own.BITS order.at_of (slice_span slice).head (slice_bits slice) bit from in
+    let upto = stretch_end own.BITS (slice_span slice).head (slice_len slice) in
+    MatchOption result (AllBetween (not bit) (slice_bits slice) from end) (λ it. found (upto it.0) it.0 (own.number it.1) it.2)

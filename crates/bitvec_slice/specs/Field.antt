@@ -1,6 +1,6 @@
 -- Numbers in lists of bits that lie in the words of a memory. `bits` is the width of a word, `head` the index in a word
 -- of a list's first element, `len` the list's length, and `rises` whether positions rise with the index.
-use Rattle.std.specs.Prelude.{◌≡◌, ℕ, ◌+◌, ◌-◌, ◌*◌, ◌/◌, ◌<◌, min, Bool, not, List, length, if◌then◌else◌}
+use Rattle.std.specs.Prelude.{◌≡◌, ℕ, ◌+◌, ◌-◌, ◌*◌, ◌/◌, ◌<◌, ◌≤◌, ◌==◌, ◌&&◌, min, Bool, false, not, List, length, if◌then◌else◌}
 use Rattle.bitvec.specs.Digit.{digit}
 use Rattle.bitvec.specs.Memory.{tabulate}
 use Rattle.bitvec.specs.Order.{number_of}
@@ -33,6 +33,28 @@ abbrev pub digit_place : Bool → ℕ → Bool → ℕ → ℕ → ℕ → ℕ
 digit_place big bits rises head len j =
     let m = if (if big then rises else not rises) then mirrored bits head len j else j in
     if big then len - 1 - m else m
+
+-- where word k's part begins in the number: it has the part's digits from this place on
+abbrev pub part_place : Bool → ℕ → ℕ → ℕ → ℕ → ℕ
+part_place big bits head len k = if big then len - stretch_end bits head len k else stretch_start bits head k
+
+-- how far up in its word's part element j lies
+abbrev pub part_step : Bool → ℕ → ℕ → ℕ → ℕ → ℕ → ℕ
+part_step rises bits head len k j = if rises then j - stretch_start bits head k else stretch_end bits head len k - 1 - j
+
+-- where word k's part begins in the word
+abbrev pub part_shift : Bool → ℕ → ℕ → ℕ → ℕ → ℕ
+part_shift rises bits head len k = if rises then stretch_start bits head k + head - k * bits else k * bits + bits - (head + stretch_end bits head len k)
+
+-- A number has the elements of word k as its digits, from the lowest on, and no digit past them. `bit` of j is element j.
+pub record IsWordPart (rises : Bool) (bits head len k : ℕ) (bit : ℕ → Bool) (v : ℕ) : Type 0 where
+  pub digits : (j : ℕ) → j < len → (head + j) / bits ≡ k → digit v (part_step rises bits head len k j) ≡ bit j
+  pub past : (p : ℕ) → stretch_end bits head len k - stretch_start bits head k ≤ p → digit v p ≡ false
+
+-- A number has the elements of word k as those of its digits that they are in the number of the whole list, and no other.
+pub record IsPlacedPart (big : Bool) (bits : ℕ) (rises : Bool) (head len k : ℕ) (bit : ℕ → Bool) (r : ℕ) : Type 0 where
+  pub digits : (j : ℕ) → j < len → digit r (digit_place big bits rises head len j) ≡ (((head + j) / bits == k) && bit j)
+  pub past : (q : ℕ) → len ≤ q → digit r q ≡ false
 
 -- the number of a list: its digit at `digit_place` of j is element j
 abbrev pub field_number : Bool → ℕ → Bool → ℕ → List Bool → ℕ

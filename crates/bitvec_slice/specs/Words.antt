@@ -1,11 +1,18 @@
 -- Words of a memory that have the digits of a number, and words merged of two.
-use Rattle.std.specs.Prelude.{◌≡◌, ℕ, ◌+◌, ◌-◌, ◌*◌, ◌/◌, ◌%◌, ◌<◌, ◌≤◌, ◌&&◌, Bool, nat_le, nat_lt, if◌then◌else◌, List, slice_index}
+use Rattle.std.specs.Prelude.{◌≡◌, ℕ, ◌+◌, ◌-◌, ◌*◌, ◌/◌, ◌%◌, ◌<◌, ◌≤◌, ◌&&◌, Bool, nat_le, nat_lt, if◌then◌else◌, List, map, nat_abs, slice_index}
 use Rattle.bitvec.specs.Digit.{digit}
 use Rattle.bitvec.specs.Span.{Span, with_word}
+use Rattle.bitvec_slice.specs.BitSlice.{slice_memory, slice_span}
+use Rattle.bitvec_slice.specs.declared.slice.bit_slice.BitSlice.{BitSlice}
 
 -- the words of a memory from word `from` to before word `upto` have the `bits` lowest digits of a number
 abbrev pub HaveDigits : ℕ → ℕ → List ℕ → ℕ → ℕ → Type 0
 HaveDigits bits number words from upto = (w p : ℕ) → from ≤ w → w < upto → p < bits → digit (slice_index words w) p ≡ digit number p
+
+-- the same of the words that a slice lies in, counted from its first
+abbrev pub SliceHasDigits : {R O : Type 0} {a b c d e f g h i : _} → BitSlice R O a b c d e f g h i → R → ℕ → ℕ → Type 0
+SliceHasDigits {a = own} slice word from upto =
+    let first = nat_abs (slice_span slice).word in HaveDigits own.BITS (own.number word) (map own.number (slice_memory slice)) (first + from) (first + upto)
 
 -- digit p of the word that has the digits of one word from digit `by` on, and above them those of another
 abbrev pub merged_digit : ℕ → ℕ → ℕ → ℕ → ℕ → Bool

@@ -5,15 +5,16 @@
 //! of the word, in the same order. Little-endian has those of the first word lowest, big-endian
 //! highest.
 
-ghost use Rattle.std.specs.Prelude.{◌≡◌, ℕ, ◌+◌, ◌-◌, ◌*◌, ◌/◌, ◌<◌, ◌≤◌, ◌==◌, ◌&&◌, ◌^◌, ◌%◌};
-ghost use Rattle.std.specs.Prelude.{Bool, true, false, not, nat_lt, if◌then◌else◌};
-ghost use Rattle.std.specs.Prelude.{length, map, refl};
+ghost use Rattle.std.specs.Prelude.{◌≡◌, ℕ, ◌+◌, ◌-◌, ◌*◌, ◌<◌, ◌≤◌, ◌==◌, ◌&&◌, ◌^◌, ◌%◌};
+ghost use Rattle.std.specs.Prelude.{Bool, true, false, not, nat_lt};
+ghost use Rattle.std.specs.Prelude.{length, refl};
 ghost use Rattle.bitvec.specs.BitSpan.{span_of, list_by, Becomes};
 ghost use Rattle.bitvec.specs.Digit.{digit};
 ghost use Rattle.bitvec.specs.Place.{words_met};
 ghost use Rattle.bitvec.specs.Span.{Fits, element, with_word};
 ghost use Rattle.bitvec_slice.specs.Field.{IsSequential, stretch_start, stretch_end};
 ghost use Rattle.bitvec_slice.specs.Field.{digit_place, field_number, field_list, HasFieldDigits};
+ghost use Rattle.bitvec_slice.specs.Field.{part_place, part_shift, IsWordPart, IsPlacedPart};
 ghost use Rattle.bitvec_slice.specs.Words.{merged_digit, digit_from, HasElements, IsPartMask};
 
 mod digits;
@@ -85,10 +86,7 @@ fn stretch<R: BitRegister, O>(span: BitSpan<R, O>, k: usize) -> (usize, usize)
 #[inline(always)]
 fn shift<R: BitRegister, O: Sequential<R>>(span: BitSpan<R, O>, k: usize) -> u8
     requires { k < words_met R.BITS (span_of span).head (span_of span).len }
-    ensures value { result ≡ (if O.RISES
-        then stretch_start R.BITS (span_of span).head k + (span_of span).head - k * R.BITS
-        else k * R.BITS + R.BITS - ((span_of span).head
-        + stretch_end R.BITS (span_of span).head (span_of span).len k)) }
+    ensures value { result ≡ part_shift O.RISES R.BITS (span_of span).head (span_of span).len k }
     ensures below { result < R.BITS }
 {
     if O::RISES {
@@ -106,9 +104,7 @@ fn shift<R: BitRegister, O: Sequential<R>>(span: BitSpan<R, O>, k: usize) -> u8
 fn place<R: BitRegister, O, N: BitRegister>(span: BitSpan<R, O>, k: usize, big: bool) -> u8
     requires met { k < words_met R.BITS (span_of span).head (span_of span).len }
     requires small { (span_of span).len ≤ N.BITS }
-    ensures value { result ≡ (if big
-        then (span_of span).len - stretch_end R.BITS (span_of span).head (span_of span).len k
-        else stretch_start R.BITS (span_of span).head k) }
+    ensures value { result ≡ part_place big R.BITS (span_of span).head (span_of span).len k }
     ensures below { result < N.BITS }
 {
     let (start, end) = stretch(span, k);
@@ -151,13 +147,8 @@ pub(crate) fn word_met<R: BitRegister, O: BitOrder<R>>(
 fn load_part<R: BitRegister, O: Sequential<R>>(span: BitSpan<R, O>, memory: &[R], k: usize) -> R
     requires fits { Fits R.BITS (span_of span) (length memory.now) }
     requires met { k < words_met R.BITS (span_of span).head (span_of span).len }
-    ensures digits { (j : ℕ) → j < (span_of span).len → ((span_of span).head + j) / R.BITS ≡ k
-        → digit (R.number result) (if O.RISES
-        then j - stretch_start R.BITS (span_of span).head k
-        else stretch_end R.BITS (span_of span).head (span_of span).len k - 1 - j)
-        ≡ element (list_by span O.at_of memory.now) j }
-    ensures past { (p : ℕ) → stretch_end R.BITS (span_of span).head (span_of span).len k
-        - stretch_start R.BITS (span_of span).head k ≤ p → digit (R.number result) p ≡ false }
+    ensures { IsWordPart O.RISES R.BITS (span_of span).head (span_of span).len k (element (list_by
+        span O.at_of memory.now)) (R.number result) }
 {
     let (start, end) = stretch(span, k);
     let word = word_met(span, memory, k);
@@ -175,11 +166,8 @@ fn load_digits<R: BitRegister, O: Sequential<R>, N: BitRegister>(
     requires fits { Fits R.BITS (span_of span) (length memory.now) }
     requires met { k < words_met R.BITS (span_of span).head (span_of span).len }
     requires small { (span_of span).len ≤ N.BITS }
-    ensures digits { (j : ℕ) → j < (span_of span).len → digit (N.number result)
-        (digit_place big R.BITS O.RISES (span_of span).head (span_of span).len j)
-        ≡ ((((span_of span).head + j) / R.BITS == k)
-        && element (list_by span O.at_of memory.now) j) }
-    ensures past { (q : ℕ) → (span_of span).len ≤ q → digit (N.number result) q ≡ false }
+    ensures part { IsPlacedPart big R.BITS O.RISES (span_of span).head (span_of span).len k (element
+        (list_by span O.at_of memory.now)) (N.number result) }
     ensures below { N.number result < 2 ^ N.BITS }
 {
     let part = load_part(span, memory, k).to_u128();
@@ -518,7 +506,7 @@ pub(crate) fn store<R: BitRegister, O: Sequential<R>, N: BitRegister>(
 }
 
 impl<'a, R: BitRegister, O: Sequential<R>> BitSlice<'a, R, O> {
-    ghost use Rattle.bitvec_slice.specs.BitSlice.{slice_memory, slice_span, slice_len, slice_bits};
+    ghost use Rattle.bitvec_slice.specs.BitSlice.{slice_span, slice_len, slice_bits};
 
     /// The number whose digits the bits are: those of one word in the word's own order, and those
     /// of the first word lowest. Requires no more bits than the number type has digits; the digits
@@ -584,7 +572,7 @@ impl<'a, R: BitRegister, O: Sequential<R>> BitSlice<'a, R, O> {
 }
 
 impl<'a, R: BitRegister, O: Sequential<R>> BitSliceMut<'a, R, O> {
-    ghost use Rattle.bitvec_slice.specs.BitSliceMut.{lent_span, lent_words, lent_len, lent_bits};
+    ghost use Rattle.bitvec_slice.specs.BitSliceMut.{lent_span, lent_len, lent_bits};
     ghost use Rattle.bitvec_slice.specs.BitSliceMut.{BecomesBits};
 
     /// The number that [`load_le`](BitSlice::load_le) of [`as_bitslice`](BitSliceMut::as_bitslice)

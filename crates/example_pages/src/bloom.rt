@@ -1,12 +1,13 @@
 //! A Bloom filter: a set of keys that may say of a key that it has it though it was never inserted,
 //! and never the other way round.
 
-ghost use Rattle.std.specs.Prelude.{◌≡◌, ◌↔◌, ◌+◌, ◌<◌, ◌≤◌, ◌⊎◌, ℕ, true, false, length, replicate};
-ghost use Rattle.std.specs.Prelude.{IsTrue, IsSome, IfSome};
+ghost use Rattle.std.specs.Prelude.{◌≡◌, ◌↔◌, ◌+◌, ◌<◌, ◌≤◌, ◌⊎◌, ◌||◌, ℕ, true, false, length};
+ghost use Rattle.std.specs.Prelude.{replicate, slice_set, IsTrue, IsSome, IfSome};
+ghost use Rattle.bitvec.specs.Memory.{zip_with};
 ghost use Rattle.bitvec.specs.Span.{element};
 ghost use Rattle.bitvec.specs.Truths.{ones_in};
 ghost use Rattle.bitvec_slice.specs.BitSliceMut.{lent_bits};
-ghost use Rattle.example_pages.specs.Keys.{probe_of, HasKey};
+ghost use Rattle.example_pages.specs.Keys.{probe_of, HasKey, IsProbe};
 
 use bitvec_slice::prelude::{BitOrder, BitRegister, BitSliceMut};
 
@@ -32,7 +33,7 @@ pub struct Bloom<'a, R: BitRegister, O: BitOrder<R>> {
 }
 
 impl<'a, R: BitRegister, O: BitOrder<R>> Bloom<'a, R, O> {
-    ghost use Rattle.example_pages.specs.Bloom.{filter_bits};
+    ghost use Rattle.example_pages.specs.Bloom.{filter_bits, BecomesFilter};
 
     /// A filter with no key, and `None` where there are no bits. All bits become zero.
     pub fn new(mut bits: BitSliceMut<'a, R, O>) -> Option<Self>
@@ -65,10 +66,13 @@ impl<'a, R: BitRegister, O: BitOrder<R>> Bloom<'a, R, O> {
     #[tactic(auto, using(bitvec_slice::proofs::OneCountLemmas::counts))]
     fn set(&mut self, i: usize)
         requires { i < length (filter_bits self.old) }
+        ensures whole { BecomesFilter self.old self.new (slice_set (filter_bits self.old) i true) }
         ensures long { length (filter_bits self.new) ≡ length (filter_bits self.old) }
         ensures set { element (filter_bits self.new) i ≡ true }
         ensures kept { (j : ℕ) → element (filter_bits self.old) j ≡ true
             → element (filter_bits self.new) j ≡ true }
+        ensures only { (j : ℕ) → element (filter_bits self.new) j ≡ true
+            → (j ≡ i) ⊎ (element (filter_bits self.old) j ≡ true) }
         ensures counted { ones_in (filter_bits self.new) ≤ ones_in (filter_bits self.old) + 1 }
     {
         self.bits.set(i, true);
@@ -79,6 +83,11 @@ impl<'a, R: BitRegister, O: BitOrder<R>> Bloom<'a, R, O> {
         ensures inserted { HasKey (filter_bits self.new) key }
         ensures kept { (other : ℕ) → HasKey (filter_bits self.old) other
             → HasKey (filter_bits self.new) other }
+        ensures set { (j : ℕ) → element (filter_bits self.old) j ≡ true
+            → element (filter_bits self.new) j ≡ true }
+        ensures only { (j : ℕ) → element (filter_bits self.new) j ≡ true
+            → (element (filter_bits self.old) j ≡ true)
+            ⊎ IsProbe (length (filter_bits self.old)) key j }
         ensures long { length (filter_bits self.new) ≡ length (filter_bits self.old) }
         ensures counted { ones_in (filter_bits self.new) ≤ ones_in (filter_bits self.old) + 4 }
     {
@@ -106,6 +115,8 @@ impl<'a, R: BitRegister, O: BitOrder<R>> Bloom<'a, R, O> {
     #[tactic(auto, using(bitvec_slice::proofs::OneCountLemmas::counts), unfolding(crate::specs::Keys::probe_of))]
     pub fn unite<R2: BitRegister, O2: BitOrder<R2>>(&mut self, other: &Bloom<'_, R2, O2>)
         requires { length (filter_bits other.now) ≡ length (filter_bits self.old) }
+        ensures whole { BecomesFilter self.old self.new
+            (zip_with (λ a b. a || b) (filter_bits self.old) (filter_bits other.now)) }
         ensures both { (key : ℕ)
             → HasKey (filter_bits self.old) key ⊎ HasKey (filter_bits other.now) key
             → HasKey (filter_bits self.new) key }

@@ -2,7 +2,7 @@
 //! its page is in use.
 
 ghost use Rattle.std.specs.Prelude.{◌≡◌, ◌↔◌, ◌+◌, true, false, length, map, take, slice_set};
-ghost use Rattle.std.specs.Prelude.{IsTrue, IsOk, IfOk, IfSome, MatchOption};
+ghost use Rattle.std.specs.Prelude.{IsTrue, IsOk, IfOk, IfErr, IfSome, MatchOption};
 ghost use Rattle.bitvec.specs.Memory.{memory_bits};
 ghost use Rattle.bitvec.specs.Span.{with_filled};
 ghost use Rattle.bitvec.specs.Truths.{AllAre, IsFirst};
@@ -27,6 +27,8 @@ impl<'a, R: BitRegister, O: BitOrder<R>> Pages<'a, R, O> {
         ensures accepted { IsOk result ↔ IsFront R.BITS pages (length words.old) }
         ensures map { IfOk result (λ it. used it
             ≡ take pages (memory_bits R.BITS O.at_of (map R.number words.old))) }
+        ensures back { IfErr result (λ it. it.ghost_name ≡ words.entry.ghost_name) }
+        ensures kept { IfErr result (λ it. it.now ≡ words.old) }
         ensures many { IfOk result (λ it. length (used it) ≡ pages) }
     {
         let bits = BitSliceMut::front(words, pages)?;

@@ -1,12 +1,11 @@
 //! What is still to come of a slice's ones, or of its zeros, from the front.
 
-ghost use Rattle.std.specs.Prelude.{◌≡◌, ℕ, ◌+◌, ◌^◌, ◌<◌, ◌≤◌, MatchOption, not};
+ghost use Rattle.std.specs.Prelude.{◌≡◌, ℕ, ◌+◌, ◌^◌, ◌<◌, ◌≤◌, MatchOption};
 ghost use Rattle.bitvec.specs.Digit.{digit, exclusive_or};
-ghost use Rattle.bitvec.specs.Span.{element};
 ghost use Rattle.bitvec_slice.specs.BitSlice.{slice_span, slice_len, slice_bits};
-ghost use Rattle.bitvec_slice.specs.Bits.{AllBetween, IsFirstBetween};
+ghost use Rattle.bitvec_slice.specs.Bits.{FindsBetween};
 ghost use Rattle.bitvec_slice.specs.Field.{stretch_end};
-ghost use Rattle.bitvec_slice.specs.Chosen.{IsChosen, IsFound};
+ghost use Rattle.bitvec_slice.specs.Chosen.{IsChosen, FindsWord};
 
 use crate::slice::BitSlice;
 use bitvec::index::BitIdx;
@@ -79,11 +78,7 @@ impl<'a, R: BitRegister, O: BitOrder<R>> Ahead<'a, R, O> {
     #[inline(always)]
     fn found(&self, end: usize) -> Option<(usize, R, u8)>
         requires { end ≤ slice_len self.now.slice }
-        ensures { let upto = stretch_end R.BITS (slice_span self.now.slice).head (slice_len
-            self.now.slice) in MatchOption result (AllBetween (not self.now.bit) (slice_bits
-            self.now.slice) self.now.next end) (λ it. IsFound R.BITS O.at_of (slice_span
-            self.now.slice).head (slice_bits self.now.slice) self.now.bit self.now.next (upto it.0)
-            it.0 (R.number it.1) it.2) }
+        ensures { FindsWord self.now.slice self.now.bit self.now.next end result }
     {
         match first_index::<R, O>(self.left) {
             Some(index) => Some((self.word, self.left, index)),
@@ -97,9 +92,8 @@ impl<'a, R: BitRegister, O: BitOrder<R>> Ahead<'a, R, O> {
         requires { end ≤ slice_len self.old.slice }
         ensures slice { self.new.slice ≡ self.old.slice }
         ensures bit { self.new.bit ≡ self.old.bit }
-        ensures first { MatchOption result
-            (AllBetween (not self.old.bit) (slice_bits self.old.slice) self.old.next end)
-            (IsFirstBetween self.old.bit (slice_bits self.old.slice) self.old.next end) }
+        ensures first { FindsBetween self.old.bit (slice_bits self.old.slice) self.old.next end
+            result }
         ensures next { MatchOption result (self.new.next ≡ self.old.next)
             (λ i. self.new.next ≡ i + 1) }
     {

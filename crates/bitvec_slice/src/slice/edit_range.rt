@@ -1,13 +1,13 @@
 //! Edits of a part of a `BitSliceMut`: each says what the slice's list becomes, and that each
 //! stretch beside the part is as before.
 
-ghost use Rattle.std.specs.Prelude.{◌≡◌, ◌+◌, ◌-◌, ◌≤◌, ◌%◌, ◌^◌, ℕ, Bool, List, length, map, not};
+ghost use Rattle.std.specs.Prelude.{◌≡◌, ◌+◌, ◌-◌, ◌≤◌, ◌%◌, ◌^◌, length, map, not};
 ghost use Rattle.std.specs.Prelude.{true, false, reverse, slice_range};
 ghost use Rattle.bitvec.specs.BitSpan.{span_of};
 ghost use Rattle.bitvec.specs.Memory.{zip_with};
-ghost use Rattle.bitvec.specs.Span.{Fits, BecomesList, list_of};
+ghost use Rattle.bitvec.specs.Span.{Fits, list_of};
 ghost use Rattle.bitvec_slice.specs.Field.{field_number, field_list};
-ghost use Rattle.bitvec_slice.specs.Ranges.{with_range, KeepsStretches};
+ghost use Rattle.bitvec_slice.specs.Ranges.{with_range, EditsRangeIn, KeepsStretches};
 
 use crate::field::{Sequential, store};
 use crate::slice::moves::reverse_bits;
@@ -20,7 +20,7 @@ use bitvec::ptr::span::BitSpan;
 impl<'a, R: BitRegister, O: BitOrder<R>> BitSliceMut<'a, R, O> {
     ghost use Rattle.bitvec_slice.specs.BitSlice.{slice_len, slice_bits};
     ghost use Rattle.bitvec_slice.specs.BitSliceMut.{lent_memory, lent_span, lent_words, lent_len};
-    ghost use Rattle.bitvec_slice.specs.BitSliceMut.{lent_bits, BecomesBits};
+    ghost use Rattle.bitvec_slice.specs.BitSliceMut.{lent_bits, BecomesBits, BecomesRange};
 
     // The span of the bits from number `from` to before number `to`. An edit of its list is an edit
     // of that stretch of the slice's.
@@ -32,10 +32,8 @@ impl<'a, R: BitRegister, O: BitOrder<R>> BitSliceMut<'a, R, O> {
         ensures head { (span_of result).head ≡ ((lent_span self.now).head + from) % R.BITS }
         ensures list { list_of R.BITS O.at_of (span_of result) (lent_words self.now)
             ≡ slice_range (lent_bits self.now) from to }
-        ensures edits { (new : List ℕ) (ys : List Bool)
-            → BecomesList R.BITS O.at_of (span_of result) (lent_words self.now) new ys
-            → BecomesList R.BITS O.at_of (lent_span self.now) (lent_words self.now) new
-            (with_range (lent_bits self.now) from to ys) }
+        ensures edits { EditsRangeIn R.BITS O.at_of (span_of result) (lent_span self.now) (lent_words
+            self.now) (lent_bits self.now) from to }
     {
         self.span().range(from, to)
     }
@@ -133,9 +131,8 @@ impl<'a, R: BitRegister, O: BitOrder<R>> BitSliceMut<'a, R, O> {
         source: BitSlice<'_, R2, O2>,
     )
         requires { from + slice_len source ≤ lent_len self.old }
-        ensures bits { let xs = lent_bits self.old in let to = from + slice_len source.entry
-            in BecomesBits self.old self.new (with_range xs from to
-            (zip_with C.of (slice_range xs from to) (slice_bits source.entry))) }
+        ensures bits { let to = from + slice_len source.entry in BecomesRange self.old self.new from
+            to (zip_with C.of (slice_range (lent_bits self.old) from to) (slice_bits source.entry)) }
         ensures beside { KeepsStretches from (from + slice_len source.entry) (lent_bits self.old)
             (lent_bits self.new) }
     {
@@ -146,8 +143,7 @@ impl<'a, R: BitRegister, O: BitOrder<R>> BitSliceMut<'a, R, O> {
 }
 
 impl<'a, R: BitRegister, O: Sequential<R>> BitSliceMut<'a, R, O> {
-    ghost use Rattle.bitvec_slice.specs.BitSliceMut.{lent_span, lent_words, lent_len, lent_bits};
-    ghost use Rattle.bitvec_slice.specs.BitSliceMut.{BecomesBits};
+    ghost use Rattle.bitvec_slice.specs.BitSliceMut.{lent_head, lent_len, lent_bits, BecomesRange};
 
     /// Makes the bits from number `from` to before number `to` the lowest `to - from` digits of a
     /// number. [`load_le`](BitSlice::load_le) of that part gives these digits back. Costs by words.
@@ -158,12 +154,10 @@ impl<'a, R: BitRegister, O: Sequential<R>> BitSliceMut<'a, R, O> {
         requires ordered { from ≤ to }
         requires inside { to ≤ lent_len self.old }
         requires small { to - from ≤ N.BITS }
-        ensures stored { let head = ((lent_span self.old).head + from) % R.BITS
-            in BecomesBits self.old self.new (with_range (lent_bits self.old) from to
-            (field_list false R.BITS O.RISES head (to - from) (N.number value))) }
-        ensures loaded { let head = ((lent_span self.old).head + from) % R.BITS
-            in field_number false R.BITS O.RISES head (slice_range (lent_bits self.new) from to)
-            ≡ N.number value % 2 ^ (to - from) }
+        ensures stored { BecomesRange self.old self.new from to (field_list false R.BITS O.RISES
+            (lent_head self.old from) (to - from) (N.number value)) }
+        ensures loaded { field_number false R.BITS O.RISES (lent_head self.old from) (slice_range
+            (lent_bits self.new) from to) ≡ N.number value % 2 ^ (to - from) }
         ensures beside { KeepsStretches from to (lent_bits self.old) (lent_bits self.new) }
     {
         let part = self.part(from, to);
@@ -194,12 +188,10 @@ impl<'a, R: BitRegister, O: Sequential<R>> BitSliceMut<'a, R, O> {
         requires ordered { from ≤ to }
         requires inside { to ≤ lent_len self.old }
         requires small { to - from ≤ N.BITS }
-        ensures stored { let head = ((lent_span self.old).head + from) % R.BITS
-            in BecomesBits self.old self.new (with_range (lent_bits self.old) from to
-            (field_list true R.BITS O.RISES head (to - from) (N.number value))) }
-        ensures loaded { let head = ((lent_span self.old).head + from) % R.BITS
-            in field_number true R.BITS O.RISES head (slice_range (lent_bits self.new) from to)
-            ≡ N.number value % 2 ^ (to - from) }
+        ensures stored { BecomesRange self.old self.new from to (field_list true R.BITS O.RISES
+            (lent_head self.old from) (to - from) (N.number value)) }
+        ensures loaded { field_number true R.BITS O.RISES (lent_head self.old from) (slice_range
+            (lent_bits self.new) from to) ≡ N.number value % 2 ^ (to - from) }
         ensures beside { KeepsStretches from to (lent_bits self.old) (lent_bits self.new) }
     {
         let part = self.part(from, to);

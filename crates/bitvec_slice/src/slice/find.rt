@@ -20,8 +20,8 @@ impl<'a, R: BitRegister, O: BitOrder<R>> BitSlice<'a, R, O> {
     ghost use Rattle.bitvec_slice.specs.Bits.{BeginsWith, EndsWith};
     ghost use Rattle.bitvec_slice.specs.Bits.{AllBetween, IsFirstBetween, IsLastBetween};
     ghost use Rattle.bitvec_slice.specs.Field.{stretch_end};
-    ghost use Rattle.bitvec_slice.specs.Chosen.{IsChosen, IsFound};
-    ghost use Rattle.bitvec_slice.specs.Words.{HaveDigits};
+    ghost use Rattle.bitvec_slice.specs.Chosen.{IsChosen, FindsWord};
+    ghost use Rattle.bitvec_slice.specs.Words.{SliceHasDigits};
 
     // How many bits of the slice in word `k`, counted from its first word, are one.
     fn ones_in_word(&self, k: usize) -> usize
@@ -76,9 +76,7 @@ impl<'a, R: BitRegister, O: BitOrder<R>> BitSlice<'a, R, O> {
     fn has_digits(&self, k: usize, lacking: R) -> bool
         requires met { k < words_met R.BITS (slice_span self.now).head (slice_span self.now).len }
         requires below { R.number lacking < 2 ^ R.BITS }
-        ensures { result ≡ true → HaveDigits R.BITS (R.number lacking)
-            (map R.number (slice_memory self.now)) (nat_abs (slice_span self.now).word + k)
-            (nat_abs (slice_span self.now).word + (k + 1)) }
+        ensures { result ≡ true → SliceHasDigits self.now lacking k (k + 1) }
     {
         self.memory[self.span.address() as usize + k].or(R::ZERO) == lacking
     }
@@ -90,9 +88,7 @@ impl<'a, R: BitRegister, O: BitOrder<R>> BitSlice<'a, R, O> {
         requires met { k + 4 ≤ words_met R.BITS (slice_span self.now).head
             (slice_span self.now).len }
         requires below { R.number lacking < 2 ^ R.BITS }
-        ensures { result ≡ true → HaveDigits R.BITS (R.number lacking)
-            (map R.number (slice_memory self.now)) (nat_abs (slice_span self.now).word + k)
-            (nat_abs (slice_span self.now).word + (k + 4)) }
+        ensures { result ≡ true → SliceHasDigits self.now lacking k (k + 4) }
     {
         let first = self.has_digits(k, lacking) & self.has_digits(k + 1, lacking);
         first & self.has_digits(k + 2, lacking) & self.has_digits(k + 3, lacking)
@@ -107,8 +103,7 @@ impl<'a, R: BitRegister, O: BitOrder<R>> BitSlice<'a, R, O> {
         requires below { R.number lacking < 2 ^ R.BITS }
         ensures start { k ≤ result }
         ensures end { result ≤ end }
-        ensures words { HaveDigits R.BITS (R.number lacking) (map R.number (slice_memory self.now))
-            (nat_abs (slice_span self.now).word + k) (nat_abs (slice_span self.now).word + result) }
+        ensures words { SliceHasDigits self.now lacking k result }
     {
         let mut at = k;
         while end - at >= 8
@@ -128,8 +123,7 @@ impl<'a, R: BitRegister, O: BitOrder<R>> BitSlice<'a, R, O> {
         requires below { R.number lacking < 2 ^ R.BITS }
         ensures start { k ≤ result }
         ensures end { result ≤ end }
-        ensures words { HaveDigits R.BITS (R.number lacking) (map R.number (slice_memory self.now))
-            (nat_abs (slice_span self.now).word + k) (nat_abs (slice_span self.now).word + result) }
+        ensures words { SliceHasDigits self.now lacking k result }
     {
         let mut at = self.pass_eights(k, end, lacking);
         while at < end && self.has_digits(at, lacking) {
@@ -147,9 +141,7 @@ impl<'a, R: BitRegister, O: BitOrder<R>> BitSlice<'a, R, O> {
         requires below { R.number lacking < 2 ^ R.BITS }
         ensures start { start ≤ result }
         ensures end { result ≤ end }
-        ensures words { HaveDigits R.BITS (R.number lacking) (map R.number (slice_memory self.now))
-            (nat_abs (slice_span self.now).word + result)
-            (nat_abs (slice_span self.now).word + end) }
+        ensures words { SliceHasDigits self.now lacking result end }
     {
         let mut at = end;
         while start < at && self.has_digits(at - 1, lacking) {
@@ -217,10 +209,8 @@ impl<'a, R: BitRegister, O: BitOrder<R>> BitSlice<'a, R, O> {
     #[inline(always)]
     pub(super) fn chosen_later(&self, word: usize, end: usize, bit: bool) -> Option<(usize, R, u8)>
         requires { end ≤ slice_len self.now }
-        ensures { let upto = stretch_end R.BITS (slice_span self.now).head (slice_len self.now)
-            in MatchOption result (AllBetween (not bit) (slice_bits self.now) (upto word) end)
-            (λ it. IsFound R.BITS O.at_of (slice_span self.now).head (slice_bits self.now) bit
-            (upto word) (upto it.0) it.0 (R.number it.1) it.2) }
+        ensures { FindsWord self.now bit (stretch_end R.BITS (slice_span self.now).head (slice_len
+            self.now) word) end result }
     {
         let head = self.head();
         let width = mem::bits_of::<R>();

@@ -1,7 +1,7 @@
 //! The first run of zeros from an index on that begins at a multiple of a number.
 
 ghost use Rattle.std.specs.Prelude.{◌<◌, ◌≤◌, ℕ, MatchOption};
-ghost use Rattle.bitvec_slice.specs.Bits.{AreFree};
+ghost use Rattle.bitvec_slice.specs.Bits.{IsFirstFreeFrom};
 ghost use Rattle.bitvec_slice.specs.Patterns.{AreFreeFrom, IsLeast};
 
 use crate::slice::BitSlice;
@@ -14,10 +14,7 @@ impl<'a, R: BitRegister, O: BitOrder<R>> BitSlice<'a, R, O> {
     // The first index from index `from` on from which on `count` bits are zero.
     fn zeros_after(&self, from: usize, count: usize) -> Option<usize>
         requires { from ≤ slice_len self.now }
-        ensures { let xs = slice_bits self.now
-            in MatchOption result ((i : ℕ) → from ≤ i → ¬ AreFree xs i count)
-            (λ i. (from ≤ i) × AreFree xs i count
-            × ((k : ℕ) → from ≤ k → k < i → ¬ AreFree xs k count)) }
+        ensures { IsFirstFreeFrom (slice_bits self.now) from count result }
     {
         let (_, rest) = self.split_at(from);
         match rest.find_zeros(count) {

@@ -8,7 +8,8 @@ ghost use Rattle.std.specs.Prelude.{◌≡◌, ℕ, ◌+◌, ◌-◌, ◌*◌, �
 ghost use Rattle.bitvec.specs.Digit.{digit};
 ghost use Rattle.bitvec.specs.Pairs.{IsFirstBelow};
 ghost use Rattle.bitvec.specs.Place.{words_met};
-ghost use Rattle.bitvec_slice.specs.FreeRuns.{digit_of, behind, AreStarts, AllPass, IsFirstRun};
+ghost use Rattle.bitvec_slice.specs.FreeRuns.{digit_of, behind, AreStarts, FindsFirstRun};
+ghost use Rattle.bitvec_slice.specs.FreeRuns.{IsLastBelow};
 
 use crate::slice::BitSlice;
 use bitvec::mem;
@@ -33,9 +34,7 @@ fn first_digit<R: BitRegister>(word: R, rises: bool) -> Option<u8>
 // The greatest index of a digit that is one.
 #[inline(always)]
 fn last_digit<R: BitRegister>(word: R, rises: bool) -> Option<u8>
-    ensures { let test = digit_of R.BITS rises (R.number word)
-        in MatchOption result ((i : ℕ) → test i ≡ false)
-        (λ i. (i < R.BITS) × (test i ≡ true) × ((j : ℕ) → i < j → test j ≡ false)) }
+    ensures { IsLastBelow (digit_of R.BITS rises (R.number word)) R.BITS result }
 {
     if rises {
         return mem::highest_one(word);
@@ -114,9 +113,8 @@ fn first_run<R: BitRegister>(word: R, before: u8, count: u8, rises: bool) -> Opt
     requires before { before < count }
     requires most { count ≤ R.BITS }
     requires below { R.number word < 2 ^ R.BITS }
-    ensures { let test = behind before (digit_of R.BITS rises (R.number word))
-        in MatchOption result ((s : ℕ) → ¬ AllPass test s count)
-        (λ s. (s < R.BITS + before) × IsFirstRun test count s) }
+    ensures { FindsFirstRun (behind before (digit_of R.BITS rises (R.number word))) count (R.BITS +
+        before) result }
 {
     if before + low_run(word, rises) >= count {
         return Some(0);

@@ -1,9 +1,10 @@
 //! Moves of all bits of a span in a memory that it fits: a reversal, a rotation and the shifts.
 
-ghost use Rattle.std.specs.Prelude.{◌≡◌, ◌≤◌, ◌-◌, ◌++◌, false, length, take, drop, replicate};
-ghost use Rattle.std.specs.Prelude.{reverse};
+ghost use Rattle.std.specs.Prelude.{◌≤◌, ◌-◌, ◌++◌, false, length, take, drop, replicate};
+ghost use Rattle.std.specs.Prelude.{reverse, slice_range};
 ghost use Rattle.bitvec.specs.BitSpan.{span_of, list_by, Becomes};
 ghost use Rattle.bitvec.specs.Span.{Fits};
+ghost use Rattle.bitvec_slice.specs.Ranges.{with_range};
 
 use crate::slice::turn::reverse_by_words;
 use bitvec::mem::BitRegister;
@@ -46,9 +47,8 @@ pub(super) fn reverse_range<R: BitRegister, O: BitOrder<R>>(
     requires fits { Fits R.BITS (span_of span) (length memory.old) }
     requires ordered { from ≤ to }
     requires inside { to ≤ (span_of span).len }
-    ensures { let old = list_by span O.at_of memory.old
-        in Becomes span O.at_of memory.old memory.new
-        (take from old ++ reverse (take (to - from) (drop from old)) ++ drop to old) }
+    ensures { let old = list_by span O.at_of memory.old in Becomes span O.at_of memory.old
+        memory.new (with_range old from to (reverse (slice_range old from to))) }
 {
     reverse_bits(span.range(from, to), memory);
 }

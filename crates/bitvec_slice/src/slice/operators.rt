@@ -1,12 +1,11 @@
 //! The operators `&=`, `|=`, `^=` and `!` of a `BitSliceMut`.
 
-ghost use Rattle.std.specs.Prelude.{◌-◌, ◌++◌, ◌&&◌, ◌||◌, false, not, map, length, drop};
-ghost use Rattle.std.specs.Prelude.{replicate};
+ghost use Rattle.std.specs.Prelude.{◌-◌, ◌||◌, false, not, map, length};
 ghost use Rattle.bitvec.specs.BitSpan.{span_of, list_by, Becomes};
 ghost use Rattle.bitvec.specs.Digit.{exclusive_or};
-ghost use Rattle.bitvec.specs.Memory.{zip_with};
 ghost use Rattle.bitvec.specs.Span.{Fits};
 ghost use Rattle.bitvec_slice.specs.BitSlice.{slice_bits};
+ghost use Rattle.bitvec_slice.specs.Ranges.{with_common, only_common};
 
 use crate::slice::{BitSlice, BitSliceMut};
 use bitvec::mem::BitRegister;
@@ -22,8 +21,8 @@ fn combine_common<C: Combine, R: BitRegister, O: BitOrder<R>, R2: BitRegister, O
     source: BitSlice<'_, R2, O2>,
 )
     requires fits { Fits R.BITS (span_of span) (length memory.old) }
-    ensures { let xs = list_by span O.at_of memory.old in let ys = slice_bits source.entry
-        in Becomes span O.at_of memory.old memory.new (zip_with C.of xs ys ++ drop (length ys) xs) }
+    ensures { Becomes span O.at_of memory.old memory.new (with_common C.of (list_by span O.at_of
+        memory.old) (slice_bits source.entry)) }
 {
     let count = span.len().min(source.len());
     let target = span.range(0, count);
@@ -38,9 +37,8 @@ fn and_common<R: BitRegister, O: BitOrder<R>, R2: BitRegister, O2: BitOrder<R2>>
     source: BitSlice<'_, R2, O2>,
 )
     requires fits { Fits R.BITS (span_of span) (length memory.old) }
-    ensures { let xs = list_by span O.at_of memory.old in let ys = slice_bits source.entry
-        in Becomes span O.at_of memory.old memory.new
-        (zip_with (λ t s. t && s) xs ys ++ replicate (length xs - length ys) false) }
+    ensures { Becomes span O.at_of memory.old memory.new (only_common (list_by span O.at_of
+        memory.old) (slice_bits source.entry)) }
 {
     combine_common::<And, R, O, R2, O2>(span, memory, source);
     let (common, len) = (source.len(), span.len());
@@ -57,8 +55,8 @@ impl<'a, R: BitRegister, O: BitOrder<R>> BitSliceMut<'a, R, O> {
         &mut self,
         source: BitSlice<'_, R2, O2>,
     )
-        ensures { let xs = lent_bits self.old in let ys = slice_bits source.entry
-            in BecomesBits self.old self.new (zip_with C.of xs ys ++ drop (length ys) xs) }
+        ensures { BecomesBits self.old self.new
+            (with_common C.of (lent_bits self.old) (slice_bits source.entry)) }
     {
         let span = self.span();
         let memory = &mut *self.memory;
@@ -91,8 +89,7 @@ impl<'a, 'b, R: BitRegister, O: BitOrder<R>, R2: BitRegister, O2: BitOrder<R2>> 
     ghost use Rattle.bitvec_slice.specs.BitSliceMut.{lent_bits, BecomesBits};
 
     ghost bitand_assign_gives = { λ old source new. BecomesBits old new
-        (zip_with (λ t s. t && s) (lent_bits old) (slice_bits source)
-        ++ replicate (length (lent_bits old) - length (slice_bits source)) false) };
+        (only_common (lent_bits old) (slice_bits source)) };
 
     fn bitand_assign(&mut self, rhs: BitSlice<'b, R2, O2>) {
         let span = self.span();
@@ -126,8 +123,7 @@ impl<'a, 'b, R: BitRegister, O: BitOrder<R>, R2: BitRegister, O2: BitOrder<R2>> 
     ghost use Rattle.bitvec_slice.specs.BitSliceMut.{lent_bits, BecomesBits};
 
     ghost bitor_assign_gives = { λ old source new. BecomesBits old new
-        (zip_with (λ t s. t || s) (lent_bits old) (slice_bits source)
-        ++ drop (length (slice_bits source)) (lent_bits old)) };
+        (with_common (λ t s. t || s) (lent_bits old) (slice_bits source)) };
 
     fn bitor_assign(&mut self, rhs: BitSlice<'b, R2, O2>) {
         self.combine_as_far::<Or, R2, O2>(rhs);
@@ -145,8 +141,7 @@ impl<'a, 'b, R: BitRegister, O: BitOrder<R>, R2: BitRegister, O2: BitOrder<R2>> 
     ghost use Rattle.bitvec_slice.specs.BitSliceMut.{lent_bits, BecomesBits};
 
     ghost bitxor_assign_gives = { λ old source new. BecomesBits old new
-        (zip_with exclusive_or (lent_bits old) (slice_bits source)
-        ++ drop (length (slice_bits source)) (lent_bits old)) };
+        (with_common exclusive_or (lent_bits old) (slice_bits source)) };
 
     fn bitxor_assign(&mut self, rhs: BitSlice<'b, R2, O2>) {
         self.combine_as_far::<Xor, R2, O2>(rhs);

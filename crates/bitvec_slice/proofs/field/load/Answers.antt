@@ -3,7 +3,8 @@ use Rattle.bitvec.specs.BitSpan.{span_of}
 use Rattle.bitvec.specs.Place.{words_met}
 use Rattle.bitvec.specs.Span.{element, list_of}
 use Rattle.bitvec.proofs.PartLemmas.{length-list_of}
-use Rattle.bitvec_slice.proofs.FieldLemmas.{IsPlaced, one_word, two_words}
+use Rattle.bitvec_slice.specs.Field.{IsPlacedPart}
+use Rattle.bitvec_slice.proofs.FieldLemmas.{one_word, two_words}
 use Rattle.bitvec_slice.proofs.field.load.Goals as goal
 
 pub returns-then-elements-eq1 : goal.returns-then-elements-eq1
@@ -16,10 +17,9 @@ returns-then-elements-eq1 g c =
     let xs = list_of width g.O.BitAt.at_of (span_of span) words in
     let long = length-list_of width g.O.BitAt.at_of (span_of span) words in
     let n = g.N.BitRegister.number c.load_digits.result in
-    let placed : IsPlaced c.args.big width rises span.head span.len 0 (element xs) n = record { digits = c.load_digits.ensures.digits; past = c.load_digits.ensures.past } in
     one_word c.args.big rises width span.head xs g.N.BitRegister.BITS (omega (arith, eight)) (omega (arith, span.in_word, eight)) n c.load_digits.ensures.below
     (ap (words_met width span.head) long ∙ sym c.elements-elements.ensures.value ∙ c.if-elements-eq1.true)
-    (subst (λ (m : ℕ). IsPlaced c.args.big width rises span.head m 0 (element xs) n) (sym long) placed)
+    (subst (λ (m : ℕ). IsPlacedPart c.args.big width rises span.head m 0 (element xs) n) (sym long) c.load_digits.ensures.part)
 
 pub returns-then-elements-eq2 : goal.returns-then-elements-eq2
 returns-then-elements-eq2 g c =
@@ -30,14 +30,10 @@ returns-then-elements-eq2 g c =
     let words = map g.R.BitRegister.number c.args.memory.now in
     let xs = list_of width g.O.BitAt.at_of (span_of span) words in
     let long = length-list_of width g.O.BitAt.at_of (span_of span) words in
-    let first = c.load_digits-first in
-    let second = c.load_digits-then-elements-eq2 in
     let a = g.N.BitRegister.number c.load_digits-first.result in
     let b = g.N.BitRegister.number c.load_digits-then-elements-eq2.result in
-    let placed : IsPlaced c.args.big width rises span.head span.len 0 (element xs) a = record { digits = first.ensures.digits; past = first.ensures.past } in
-    let next : IsPlaced c.args.big width rises span.head span.len 1 (element xs) b = record { digits = second.ensures.digits; past = second.ensures.past } in
     two_words c.args.big rises width span.head xs g.N.BitRegister.BITS (omega (arith, eight)) (omega (arith, span.in_word, eight)) a b (g.N.BitRegister.number c.or.result) c.or.ensures.below
     (omega (arith, long, c.requires.small)) c.or.ensures.digits
     (ap (words_met width span.head) long ∙ sym c.elements-elements.ensures.value ∙ c.if-elements-eq2.true)
-    (subst (λ (m : ℕ). IsPlaced c.args.big width rises span.head m 0 (element xs) a) (sym long) placed)
-    (subst (λ (m : ℕ). IsPlaced c.args.big width rises span.head m 1 (element xs) b) (sym long) next)
+    (subst (λ (m : ℕ). IsPlacedPart c.args.big width rises span.head m 0 (element xs) a) (sym long) c.load_digits-first.ensures.part)
+    (subst (λ (m : ℕ). IsPlacedPart c.args.big width rises span.head m 1 (element xs) b) (sym long) c.load_digits-then-elements-eq2.ensures.part)

@@ -2,7 +2,8 @@ use Rattle.std.proofs.Common.{◌≡◌, ◌<◌, ◌^◌, map, ap, ◌∙◌, s
 use Rattle.bitvec.specs.Digit.{digit}
 use Rattle.bitvec.specs.BitSpan.{span_of}
 use Rattle.bitvec.specs.Span.{element, list_of}
-use Rattle.bitvec_slice.proofs.FieldLemmas.{IsPart, IsMovedUp, part_placed, small_from_digits, some_unless, part_place}
+use Rattle.bitvec_slice.specs.Field.{part_place}
+use Rattle.bitvec_slice.proofs.FieldLemmas.{IsMovedUp, part_placed, small_from_digits, some_unless}
 use Rattle.bitvec_slice.proofs.field.load_digits.Goals as goal
 
 pub unwrap-requires : goal.unwrap-requires
@@ -23,9 +24,8 @@ returns g c =
     let v = g.R.BitRegister.number c.load_part.result in
     let r = g.N.BitRegister.number c.shl.result in
     let is : g.N.BitRegister.number c.unwrap.result ≡ g.R.BitRegister.number c.load_part.result = search rules in
-    let part : IsPart g.O.Sequential.RISES width span.head span.len c.args.k bit v = record { digits = c.load_part.ensures.digits; past = c.load_part.ensures.past } in
     let up : IsMovedUp c.place.result most v r = record { below = c.shl.ensures.below; low = c.shl.ensures.low; moved = λ p h. c.shl.ensures.moved p h ∙ ap (λ n. digit n p) is } in
     let placed =
-    part_placed width span.head span.len c.args.k bit (omega (arith, eight)) (omega (arith, span.in_word, eight)) c.requires.met c.args.big g.O.Sequential.RISES most v r c.requires.small part
+    part_placed width span.head span.len c.args.k bit (omega (arith, eight)) (omega (arith, span.in_word, eight)) c.requires.met c.args.big g.O.Sequential.RISES most v r c.requires.small c.load_part.ensures
     (subst (λ n. IsMovedUp n most v r) {y = part_place c.args.big width span.head span.len c.args.k} c.place.ensures.value up) in
-    record { digits = placed.digits; past = placed.past; below = c.shl.ensures.below }
+    record { part = placed; below = c.shl.ensures.below }

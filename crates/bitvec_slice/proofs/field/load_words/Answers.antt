@@ -37,11 +37,11 @@ loop-k-preserved g c =
       below = c.or-number.ensures.below;
       digits = λ j h.
           let place = digit_place c.args.big width g.O.Sequential.RISES span.head span.len j in
-          more_words ((span.head + j) / width) c.loop-k.k (element xs j) _ _ _ (c.loop-k.invariant.digits j h) (c.load_digits.ensures.digits j h)
+          more_words ((span.head + j) / width) c.loop-k.k (element xs j) _ _ _ (c.loop-k.invariant.digits j h) (c.load_digits.ensures.part.digits j h)
           (c.or-number.ensures.digits place (omega (arith, law.below j h, small)));
       past = λ q h. elim (cases_lt q most) [
         | inr above ↦ digit_above (g.N.BitRegister.number c.or-number.result) most q c.or-number.ensures.below above
-        | inl below ↦ c.or-number.ensures.digits q below ∙ rw (c.loop-k.invariant.past q h, c.load_digits.ensures.past q h) refl
+        | inl below ↦ c.or-number.ensures.digits q below ∙ rw (c.loop-k.invariant.past q h, c.load_digits.ensures.part.past q h) refl
       ];
     }
 

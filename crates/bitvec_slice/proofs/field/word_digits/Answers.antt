@@ -1,6 +1,6 @@
 use Rattle.std.proofs.Common.{◌≡◌, ℕ, ◌+◌, ◌<◌, ◌∙◌, subst, arith}
 use Rattle.bitvec.specs.Digit.{digit}
-use Rattle.bitvec_slice.proofs.FieldLemmas.{part_place, part_shift}
+use Rattle.bitvec_slice.specs.Field.{part_place, part_shift}
 use Rattle.bitvec_slice.proofs.FieldStoreLemmas.{stored_digit}
 use Rattle.bitvec_slice.proofs.field.word_digits.Goals as goal
 

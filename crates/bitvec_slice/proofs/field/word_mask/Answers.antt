@@ -1,7 +1,7 @@
 use Rattle.std.proofs.Common.{◌≡◌, ℕ, ◌+◌, ◌-◌, ◌<◌, ap, ◌∙◌, subst, arith, nat_lt, false}
 use Rattle.bitvec.specs.Digit.{digit}
-use Rattle.bitvec_slice.specs.Field.{stretch_start, stretch_end}
-use Rattle.bitvec_slice.proofs.FieldLemmas.{met_bounds, part_shift}
+use Rattle.bitvec_slice.specs.Field.{stretch_start, stretch_end, part_shift}
+use Rattle.bitvec_slice.proofs.FieldLemmas.{met_bounds}
 use Rattle.bitvec_slice.proofs.FieldStoreLemmas.{part_mask}
 use Rattle.bitvec_slice.proofs.field.word_mask.Goals as goal
 
