@@ -1,9 +1,10 @@
 -- Ranges of the bits of a memory. A place counts the bits of a memory from 0 on, `bits` is the width of a word, `at` takes
 -- an index in a word to its position in the number, and a memory is the list of its words' numbers.
-use Rattle.std.specs.Prelude.{◌≡◌, ℕ, pos, ◌/◌, ◌%◌, Bool, List, slice_set}
-use Rattle.bitvec.specs.Memory.{bit_of, memory_bits, list_with_copy}
+use Rattle.std.specs.Prelude.{◌≡◌, ℕ, pos, ◌/◌, ◌%◌, Bool, List, map, slice_set}
+use Rattle.bitvec.specs.Memory.{bit_of, memory_bits, list_with_copy, zip_with}
 use Rattle.bitvec.specs.Place.{Ptr}
 use Rattle.bitvec.specs.Span.{BecomesList, span_at, list_of}
+use Rattle.bitvec_call.specs.Order.{order_at}
 
 -- the word and the index in it of a place
 abbrev pub place_ptr : ℕ → ℕ → Ptr
@@ -17,6 +18,26 @@ range_bits bits at start count words = list_of bits at (span_at bits start count
 -- beside the range, and the number of words
 abbrev pub RangeBecomes : ℕ → (ℕ → ℕ) → ℕ → ℕ → List Bool → List ℕ → List ℕ → Type 0
 RangeBecomes bits at start count xs old new = BecomesList bits at (span_at bits start count) old new xs
+
+-- the same of a memory of words, each of which has a number
+abbrev pub bits_in : {W : Type 0} → (W → ℕ) → ℕ → (ℕ → ℕ) → ℕ → ℕ → List W → List Bool
+bits_in number bits at start count memory = range_bits bits at start count (map number memory)
+
+-- the same under the order of a code
+abbrev pub coded_bits : {W : Type 0} → (W → ℕ) → ℕ → ℕ → ℕ → ℕ → List W → List Bool
+coded_bits number bits order start count memory = bits_in number bits (order_at bits order) start count memory
+
+-- the bits of a range of a memory of words become those of a list, and all else stays
+abbrev pub MemoryBecomes : {W : Type 0} → (W → ℕ) → ℕ → (ℕ → ℕ) → ℕ → ℕ → List Bool → List W → List W → Type 0
+MemoryBecomes number bits at start count xs old new = RangeBecomes bits at start count xs (map number old) (map number new)
+
+-- they become what `f` makes of their list
+abbrev pub MemoryEdits : {W : Type 0} → (List Bool → List Bool) → (W → ℕ) → ℕ → (ℕ → ℕ) → ℕ → ℕ → List W → List W → Type 0
+MemoryEdits f number bits at start count old new = MemoryBecomes number bits at start count (f (bits_in number bits at start count old)) old new
+
+-- they become what `f` makes of them and of those of a list
+abbrev pub MemoryCombines : {W : Type 0} → (Bool → Bool → Bool) → (W → ℕ) → ℕ → (ℕ → ℕ) → ℕ → ℕ → List Bool → List W → List W → Type 0
+MemoryCombines f number bits at start count xs old new = MemoryEdits (λ ys. zip_with f ys xs) number bits at start count old new
 
 -- two ranges of as many bits, each in a memory of its own, have the same bits
 abbrev pub HaveSameBits : ℕ → (ℕ → ℕ) → ℕ → List ℕ → ℕ → List ℕ → ℕ → Type 0

@@ -129,26 +129,50 @@ abbrev pub WritesBits : List (Type 0 × ℕ) → List Bool → ℕ → ℕ → (
 WritesBits conditions xs bits_status bits at old new memory_old memory_new result =
     TakesBits bits_status conditions old new (length xs) (RangeBecomes bits at old (length xs) xs memory_old memory_new) (memory_new ≡ memory_old) result
 
--- A call that writes a list from the start of a part on, before an end, and moves the start's place behind it.
-abbrev pub IsWrite : (List Bool → List (Type 0 × ℕ)) → List Bool → Operand → Operand → ℕ → ℕ → ℕ → Type 0
-IsWrite conditions xs old new end place result = WritesBits (conditions (left_of old end)) xs (status_of_left old end) old.bits (order_of old) old.start place old.memory new.memory result
+-- what writes do of the bits from place `old` on to before place `end`: the `count` digits of a number
+abbrev pub WritesNumber : Bool → ℕ → ℕ → (ℕ → ℕ) → ℕ → ℕ → ℕ → List ℕ → List ℕ → ℕ → ℕ → ℕ → Type 0
+WritesNumber big bits_status bits at old new end memory_old memory_new count number result =
+    let left = length (bits_between bits at old end memory_old) in
+    WritesBits (written_conditions count (number < 2 ^ count) left) (digits_by big count number) bits_status bits at old new memory_old memory_new result
 
--- the same of the `count` digits of a number
+-- the two's complement of `count` digits of a signed number
+abbrev pub WritesSigned : Bool → ℕ → ℕ → (ℕ → ℕ) → ℕ → ℕ → ℕ → List ℕ → List ℕ → ℕ → ℤ → ℕ → Type 0
+WritesSigned big bits_status bits at old new end memory_old memory_new count number result =
+    let left = length (bits_between bits at old end memory_old) in
+    WritesBits (written_conditions count (FitsSignedDigits count number) left) (digits_by big count (complement_of count number)) bits_status bits at old new memory_old memory_new result
+
+-- `count` bits that are `bit`, and one that is not
+abbrev pub WritesUnary : Bool → ℕ → ℕ → (ℕ → ℕ) → ℕ → ℕ → ℕ → List ℕ → List ℕ → ℕ → ℕ → Type 0
+WritesUnary bit bits_status bits at old new end memory_old memory_new count result =
+    let left = length (bits_between bits at old end memory_old) in
+    WritesBits ((count < left, too_few) ∷ []) (replicate count bit ++ not bit ∷ []) bits_status bits at old new memory_old memory_new result
+
+-- the Exp-Golomb code of a number
+abbrev pub WritesCode : ℕ → ℕ → (ℕ → ℕ) → ℕ → ℕ → ℕ → List ℕ → List ℕ → ℕ → ℕ → Type 0
+WritesCode bits_status bits at old new end memory_old memory_new number result =
+    let left = length (bits_between bits at old end memory_old) in
+    WritesBits ((length (golomb number) ≤ left, too_few) ∷ []) (golomb number) bits_status bits at old new memory_old memory_new result
+
+-- A call that writes the `count` digits of a number from the start of a part on, before an end, and moves the start's place
+-- behind them.
 abbrev pub IsNumberWrite : Bool → Operand → Operand → ℕ → ℕ → ℕ → ℕ → ℕ → Type 0
-IsNumberWrite big old new end place count number result = IsWrite (λ left. written_conditions count (number < 2 ^ count) (length left)) (digits_by big count number) old new end place result
+IsNumberWrite big old new end place count number result =
+    WritesNumber big (status_of_left old end) old.bits (order_of old) old.start place end old.memory new.memory count number result
 
 -- the same of the two's complement of a signed number
 abbrev pub IsSignedWrite : Bool → Operand → Operand → ℕ → ℕ → ℕ → ℤ → ℕ → Type 0
 IsSignedWrite big old new end place count number result =
-    IsWrite (λ left. written_conditions count (FitsSignedDigits count number) (length left)) (digits_by big count (complement_of count number)) old new end place result
+    WritesSigned big (status_of_left old end) old.bits (order_of old) old.start place end old.memory new.memory count number result
 
 -- the same of `count` bits that are `bit`, and one that is not
 abbrev pub IsUnaryWrite : Bool → Operand → Operand → ℕ → ℕ → ℕ → ℕ → Type 0
-IsUnaryWrite bit old new end place count result = IsWrite (λ left. (count < length left, too_few) ∷ []) (replicate count bit ++ not bit ∷ []) old new end place result
+IsUnaryWrite bit old new end place count result =
+    WritesUnary bit (status_of_left old end) old.bits (order_of old) old.start place end old.memory new.memory count result
 
 -- the same of a number's Exp-Golomb code
 abbrev pub IsCodeWrite : Operand → Operand → ℕ → ℕ → ℕ → ℕ → Type 0
-IsCodeWrite old new end place number result = IsWrite (λ left. (length (golomb number) ≤ length left, too_few) ∷ []) (golomb number) old new end place result
+IsCodeWrite old new end place number result =
+    WritesCode (status_of_left old end) old.bits (order_of old) old.start place end old.memory new.memory number result
 
 -- the same of a signed number's code
 abbrev pub IsSignedCodeWrite : Operand → Operand → ℕ → ℕ → ℤ → ℕ → Type 0

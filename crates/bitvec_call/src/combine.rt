@@ -1,11 +1,10 @@
 //! A range of bits combined with one of another memory, whose words and order may be others.
 
-ghost use Rattle.std.specs.Prelude.{◌+◌, ◌*◌, ◌≤◌, length, map};
-ghost use Rattle.bitvec.specs.Memory.{zip_with};
+ghost use Rattle.std.specs.Prelude.{◌+◌, ◌*◌, ◌≤◌, length};
 ghost use Rattle.bitvec.specs.Place.{region_max_bits};
 ghost use Rattle.bitvec_call.specs.Call.{operand, IsCombination};
 ghost use Rattle.bitvec_call.specs.Order.{order_at};
-ghost use Rattle.bitvec_call.specs.Range.{range_bits, RangeBecomes};
+ghost use Rattle.bitvec_call.specs.Range.{bits_in, coded_bits, MemoryCombines};
 
 use crate::range::span;
 use crate::status::{LSB0, OK, test_pair};
@@ -24,10 +23,8 @@ fn combine_in<C: Combine, R2: BitRegister, O2: BitOrder<R2>, R: BitRegister, O: 
     requires short { count ≤ region_max_bits }
     requires source_inside { from + count ≤ length source.now * R2.BITS }
     requires target_inside { to + count ≤ length target.old * R.BITS }
-    ensures { RangeBecomes R.BITS O.at_of to count
-        (zip_with C.of (range_bits R.BITS O.at_of to count (map R.number target.old))
-        (range_bits R2.BITS O2.at_of from count (map R2.number source.now)))
-        (map R.number target.old) (map R.number target.new) }
+    ensures { MemoryCombines C.of R.number R.BITS O.at_of to count (bits_in R2.number R2.BITS
+        O2.at_of from count source.now) target.old target.new }
 {
     let here = span::<R, O>(to, count);
     let there = span::<R2, O2>(from, count);
@@ -46,10 +43,8 @@ fn combine_from<C: Combine, R2: BitRegister, R: BitRegister, O: BitOrder<R>>(
     requires short { count ≤ region_max_bits }
     requires source_inside { from + count ≤ length source.now * R2.BITS }
     requires target_inside { to + count ≤ length target.old * R.BITS }
-    ensures { RangeBecomes R.BITS O.at_of to count
-        (zip_with C.of (range_bits R.BITS O.at_of to count (map R.number target.old))
-        (range_bits R2.BITS (order_at R2.BITS source_order) from count (map R2.number source.now)))
-        (map R.number target.old) (map R.number target.new) }
+    ensures { MemoryCombines C.of R.number R.BITS O.at_of to count (coded_bits R2.number R2.BITS
+        source_order from count source.now) target.old target.new }
 {
     if source_order == LSB0 {
         combine_in::<C, R2, Lsb0, R, O>(source, from, target, to, count);
@@ -71,11 +66,8 @@ fn combine_range<C: Combine, R2: BitRegister, R: BitRegister>(
     requires short { count ≤ region_max_bits }
     requires source_inside { from + count ≤ length source.now * R2.BITS }
     requires target_inside { to + count ≤ length target.old * R.BITS }
-    ensures { RangeBecomes R.BITS (order_at R.BITS order) to count
-        (zip_with C.of (range_bits R.BITS (order_at R.BITS order) to count
-        (map R.number target.old))
-        (range_bits R2.BITS (order_at R2.BITS source_order) from count (map R2.number source.now)))
-        (map R.number target.old) (map R.number target.new) }
+    ensures { MemoryCombines C.of R.number R.BITS (order_at R.BITS order) to count (coded_bits
+        R2.number R2.BITS source_order from count source.now) target.old target.new }
 {
     if order == LSB0 {
         combine_from::<C, R2, R, Lsb0>(source_order, source, from, target, to, count);

@@ -1,11 +1,11 @@
 //! Edits of all the bits of a range.
 
-ghost use Rattle.std.specs.Prelude.{◌≡◌, ◌+◌, ◌*◌, ◌≤◌, length, map};
+ghost use Rattle.std.specs.Prelude.{◌≡◌, ◌+◌, ◌*◌, ◌≤◌, length};
 ghost use Rattle.bitvec.specs.Place.{region_max_bits};
 ghost use Rattle.bitvec_call.specs.Call.{operand, IsEdit, IsMove};
 ghost use Rattle.bitvec_call.specs.Edit.{edited, moved_by};
 ghost use Rattle.bitvec_call.specs.Order.{order_at};
-ghost use Rattle.bitvec_call.specs.Range.{range_bits, RangeBecomes};
+ghost use Rattle.bitvec_call.specs.Range.{MemoryEdits};
 
 use crate::range::bits_mut;
 use crate::status::{LSB0, OK, test_moved, test_range};
@@ -45,9 +45,7 @@ fn edit_in<R: BitRegister, O: BitOrder<R>>(memory: &mut [R], start: usize, count
     requires short { count ≤ region_max_bits }
     requires inside { start + count ≤ length memory.old * R.BITS }
     requires by { moved_by edit ≤ count }
-    ensures { RangeBecomes R.BITS O.at_of start count
-        (edited edit (range_bits R.BITS O.at_of start count (map R.number memory.old)))
-        (map R.number memory.old) (map R.number memory.new) }
+    ensures { MemoryEdits (edited edit) R.number R.BITS O.at_of start count memory.old memory.new }
 {
     let mut range = bits_mut::<R, O>(memory, start, count);
     match edit {
@@ -64,10 +62,8 @@ fn edit_range<R: BitRegister>(order: u8, memory: &mut [R], start: usize, count: 
     requires short { count ≤ region_max_bits }
     requires inside { start + count ≤ length memory.old * R.BITS }
     requires by { moved_by edit ≤ count }
-    ensures { RangeBecomes R.BITS (order_at R.BITS order) start count
-        (edited edit (range_bits R.BITS (order_at R.BITS order) start count
-        (map R.number memory.old)))
-        (map R.number memory.old) (map R.number memory.new) }
+    ensures { MemoryEdits (edited edit) R.number R.BITS (order_at R.BITS order) start count
+        memory.old memory.new }
 {
     if order == LSB0 {
         edit_in::<R, Lsb0>(memory, start, count, edit);

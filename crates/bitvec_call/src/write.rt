@@ -7,8 +7,8 @@ ghost use Rattle.bitvec_slice.specs.Signed.{complement_of, FitsSignedDigits};
 ghost use Rattle.bitvec_stream.specs.Writer.{room, Writes};
 ghost use Rattle.bitvec_call.specs.Call.{operand};
 ghost use Rattle.bitvec_call.specs.Status.{ok};
-ghost use Rattle.bitvec_call.specs.Stream.{bits_between, digits_by, written_conditions, WritesBits};
-ghost use Rattle.bitvec_call.specs.Stream.{write_status, IsNumberWrite, IsSignedWrite};
+ghost use Rattle.bitvec_call.specs.Stream.{digits_by, write_status, WritesNumber, WritesSigned};
+ghost use Rattle.bitvec_call.specs.Stream.{IsNumberWrite, IsSignedWrite};
 
 use crate::status::{LSB0, MAX_DIGITS, OK, TOO_FEW, TOO_LARGE, TOO_WIDE, test_left};
 use crate::stream::writer_between;
@@ -61,10 +61,8 @@ fn write_in<R: BitRegister, O: BitOrder<R>>(
     requires short { end - place.old ≤ region_max_bits }
     requires rises { place.old ≤ end }
     requires inside { place.old + (end - place.old) ≤ length memory.old * R.BITS }
-    ensures { let left = bits_between R.BITS O.at_of place.old end (map R.number memory.old) in
-        WritesBits (written_conditions count (number < 2 ^ count) (length left))
-        (digits_by big count number) ok R.BITS O.at_of place.old place.new
-        (map R.number memory.old) (map R.number memory.new) result }
+    ensures { WritesNumber big ok R.BITS O.at_of place.old place.new end (map R.number memory.old)
+        (map R.number memory.new) count number result }
 {
     if count > MAX_DIGITS {
         return TOO_WIDE;
@@ -143,10 +141,8 @@ fn write_signed_in<R: BitRegister, O: BitOrder<R>>(
     requires short { end - place.old ≤ region_max_bits }
     requires rises { place.old ≤ end }
     requires inside { place.old + (end - place.old) ≤ length memory.old * R.BITS }
-    ensures { let left = bits_between R.BITS O.at_of place.old end (map R.number memory.old) in
-        WritesBits (written_conditions count (FitsSignedDigits count number) (length left))
-        (digits_by big count (complement_of count number)) ok R.BITS O.at_of place.old place.new
-        (map R.number memory.old) (map R.number memory.new) result }
+    ensures { WritesSigned big ok R.BITS O.at_of place.old place.new end (map R.number memory.old)
+        (map R.number memory.new) count number result }
 {
     if count > MAX_DIGITS {
         return TOO_WIDE;

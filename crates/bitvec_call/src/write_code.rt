@@ -1,12 +1,11 @@
 //! Numbers in unary and as Exp-Golomb codes that are written one behind the other.
 
-ghost use Rattle.std.specs.Prelude.{◌+◌, ◌-◌, ◌*◌, ◌<◌, ◌≤◌, not, [], ◌∷◌, ◌++◌, length, map};
-ghost use Rattle.std.specs.Prelude.{replicate};
+ghost use Rattle.std.specs.Prelude.{◌+◌, ◌-◌, ◌*◌, ◌<◌, ◌≤◌, length, map};
 ghost use Rattle.bitvec.specs.Place.{region_max_bits};
-ghost use Rattle.bitvec_stream.specs.Golomb.{golomb, signed_place};
+ghost use Rattle.bitvec_stream.specs.Golomb.{signed_place};
 ghost use Rattle.bitvec_call.specs.Call.{operand};
-ghost use Rattle.bitvec_call.specs.Status.{ok, too_few};
-ghost use Rattle.bitvec_call.specs.Stream.{bits_between, WritesBits};
+ghost use Rattle.bitvec_call.specs.Status.{ok};
+ghost use Rattle.bitvec_call.specs.Stream.{WritesUnary, WritesCode};
 ghost use Rattle.bitvec_call.specs.Stream.{IsUnaryWrite, IsCodeWrite, IsSignedCodeWrite};
 
 use crate::status::{LSB0, OK, TOO_FEW, test_left};
@@ -26,10 +25,8 @@ fn write_unary_in<R: BitRegister, O: BitOrder<R>>(
     requires short { end - place.old ≤ region_max_bits }
     requires rises { place.old ≤ end }
     requires inside { place.old + (end - place.old) ≤ length memory.old * R.BITS }
-    ensures { let left = bits_between R.BITS O.at_of place.old end (map R.number memory.old) in
-        WritesBits ((count < length left, too_few) ∷ [])
-        (replicate count bit ++ not bit ∷ []) ok R.BITS O.at_of place.old place.new
-        (map R.number memory.old) (map R.number memory.new) result }
+    ensures { WritesUnary bit ok R.BITS O.at_of place.old place.new end (map R.number memory.old)
+        (map R.number memory.new) count result }
 {
     let mut writer = writer_between::<R, O>(memory, *place, end);
     match writer.write_unary(bit, count) {
@@ -78,10 +75,8 @@ fn write_exp_golomb_in<R: BitRegister, O: BitOrder<R>>(
     requires short { end - place.old ≤ region_max_bits }
     requires rises { place.old ≤ end }
     requires inside { place.old + (end - place.old) ≤ length memory.old * R.BITS }
-    ensures { let left = bits_between R.BITS O.at_of place.old end (map R.number memory.old) in
-        WritesBits ((length (golomb number) ≤ length left, too_few) ∷ [])
-        (golomb number) ok R.BITS O.at_of place.old place.new
-        (map R.number memory.old) (map R.number memory.new) result }
+    ensures { WritesCode ok R.BITS O.at_of place.old place.new end (map R.number memory.old) (map
+        R.number memory.new) number result }
 {
     let mut writer = writer_between::<R, O>(memory, *place, end);
     match writer.write_exp_golomb(number) {
@@ -129,10 +124,8 @@ fn write_signed_exp_golomb_in<R: BitRegister, O: BitOrder<R>>(
     requires short { end - place.old ≤ region_max_bits }
     requires rises { place.old ≤ end }
     requires inside { place.old + (end - place.old) ≤ length memory.old * R.BITS }
-    ensures { let left = bits_between R.BITS O.at_of place.old end (map R.number memory.old) in
-        WritesBits ((length (golomb (signed_place number)) ≤ length left, too_few) ∷ [])
-        (golomb (signed_place number)) ok R.BITS O.at_of place.old place.new
-        (map R.number memory.old) (map R.number memory.new) result }
+    ensures { WritesCode ok R.BITS O.at_of place.old place.new end (map R.number memory.old) (map
+        R.number memory.new) (signed_place number) result }
 {
     let mut writer = writer_between::<R, O>(memory, *place, end);
     match writer.write_signed_exp_golomb(number) {

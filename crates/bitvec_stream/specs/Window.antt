@@ -1,9 +1,10 @@
 -- Elements of a list that are kept in a word.
-use Rattle.std.specs.Prelude.{◌≡◌, ◌⊎◌, ℕ, ◌+◌, ◌-◌, ◌*◌, ◌<◌, ◌≤◌, Bool, false, List, take}
+use Rattle.std.specs.Prelude.{◌≡◌, ◌⊎◌, ℕ, ◌+◌, ◌-◌, ◌*◌, ◌<◌, ◌≤◌, Bool, false, List, length, take, drop}
 use Rattle.bitvec.specs.Digit.{digit}
 use Rattle.bitvec.specs.Order.{Rises, Falls}
 use Rattle.bitvec.specs.Span.{element}
 use Rattle.bitvec_slice.specs.Numbers.{number_le, number_be}
+use Rattle.bitvec_stream.specs.Golomb.{BeginsWithCode}
 
 -- A word of `bits` digits has `kept` elements of a list, from element `place` on: the first is its highest digit, and the
 -- digits below theirs are zero.
@@ -26,6 +27,28 @@ RisesOrFalls bits at = Rises bits at ⊎ Falls bits at
 pub record IsNumberOf (bits : ℕ) (at : ℕ → ℕ) (xs : List Bool) (count n : ℕ) : Type 0 where
   pub falls : Falls bits at → n ≡ number_be (take count xs)
   pub rises : Rises bits at → n ≡ number_le (take count xs)
+
+-- A word w is another without the first `count` elements that it keeps, of whatever list: those behind come to their places.
+abbrev pub PassesKept : ℕ → (ℕ → ℕ) → ℕ → ℕ → ℕ → Type 0
+PassesKept bits at word count w =
+    (xs : List Bool) (place kept : ℕ) → Keeps bits at xs place kept word → count ≤ kept → kept ≤ bits → Keeps bits at xs (place + count) (kept - count) w
+
+-- A word w keeps what one does, `kept` elements of whatever list, and behind them those that another, `next`, keeps.
+abbrev pub JoinsKept : ℕ → (ℕ → ℕ) → ℕ → ℕ → ℕ → ℕ → Type 0
+JoinsKept bits at word kept next w =
+    (xs : List Bool) (place : ℕ) → Keeps bits at xs place kept word → Keeps bits at xs (place + kept) bits next → Keeps bits at xs place bits w
+
+-- n is the number of the first `count` elements of those that a word keeps, of whatever list.
+abbrev pub IsKeptNumber : ℕ → (ℕ → ℕ) → ℕ → ℕ → ℕ → Type 0
+IsKeptNumber bits at word count n =
+    (xs : List Bool) (place kept : ℕ) → Keeps bits at xs place kept word → count ≤ kept → kept ≤ bits → place + kept ≤ length xs
+    → IsNumberOf bits at (drop place xs) count n
+
+-- A code of `len` digits, n the number of those behind its zeros, begins the `kept` elements that a word of the highest
+-- digits first has, of whatever list.
+abbrev pub IsKeptCode : ℕ → ℕ → ℕ → ℕ → ℕ → Type 0
+IsKeptCode bits word kept len n =
+    (len ≤ kept) × ((xs : List Bool) (place : ℕ) → IsWindow bits xs place kept word → place + kept ≤ length xs → BeginsWithCode (drop place xs) n len)
 
 -- What a writer knows of the word where it stands; nothing where `kept` is 0. Else the order's positions fall, and w has
 -- the elements of word m, a whole word of the list, which ends before element `end`. The last `kept` of them are the

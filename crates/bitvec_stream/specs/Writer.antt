@@ -1,8 +1,10 @@
 -- What a `BitWriter` shows.
-use Rattle.std.specs.Prelude.{◌≡◌, ℕ, ◌+◌, ◌-◌, Bool, List, ◌++◌, length, map, take, drop}
+use Rattle.std.specs.Prelude.{◌≡◌, ℕ, ◌+◌, ◌-◌, Bool, List, ◌++◌, length, map, take, drop, Result, MatchResult}
 use Rattle.std.specs.Borrow.{MutBor}
 use Rattle.bitvec.specs.BitSpan.{span_of}
 use Rattle.bitvec.specs.Span.{Span, BecomesList, list_of}
+use Rattle.bitvec_stream.specs.declared.error.WriteError.{WriteError}
+use Rattle.bitvec_stream.specs.declared.error.WriteError.TheVariants.{NoRoom}
 use Rattle.bitvec_stream.specs.declared.writer.BitWriter.{BitWriter}
 
 -- the memory that it borrows
@@ -52,3 +54,11 @@ abbrev pub Skips : {R O : Type 0} {a b c d e f g h i : _} → (old new : BitWrit
 Skips old new count =
     (written new ≡ written old ++ take count (room old)) × (room new ≡ drop count (room old)) × (bits_written new ≡ bits_written old + count)
     × (target_memory new ≡ target_memory old) × (target_span new ≡ target_span old)
+
+-- what a call that writes a list answers: it has written it, or there was no room, and the writer is as it was
+abbrev pub WritesOrNoRoom : {R O : Type 0} {a b c d e f g h i : _} → (old new : BitWriter R O a b c d e f g h i) → List Bool → Result (Unit {0}) WriteError → Type 0
+WritesOrNoRoom old new bits result = MatchResult result (λ _. Writes old new bits) (λ error. (error ≡ NoRoom) × (new ≡ old))
+
+-- the same of a call that passes over `count` bits
+abbrev pub SkipsOrNoRoom : {R O : Type 0} {a b c d e f g h i : _} → (old new : BitWriter R O a b c d e f g h i) → ℕ → Result (Unit {0}) WriteError → Type 0
+SkipsOrNoRoom old new count result = MatchResult result (λ _. Skips old new count) (λ error. (error ≡ NoRoom) × (new ≡ old))

@@ -1,7 +1,6 @@
 //! A writer of numbers that stand one behind the other into a slice of bits.
 
 ghost use Rattle.std.specs.Prelude.{◌≡◌, ◌+◌, ◌*◌, ◌<◌, ◌≤◌, ◌%◌, ◌↔◌, ◌∷◌, ◌++◌, [], IsOk, IfOk};
-ghost use Rattle.std.specs.Prelude.{MatchResult};
 ghost use Rattle.std.specs.Prelude.{length, map};
 ghost use Rattle.bitvec.specs.BitSpan.{span_of, list_by};
 ghost use Rattle.bitvec.specs.Memory.{memory_bits};
@@ -72,7 +71,8 @@ pub struct BitWriter<'a, R: BitRegister, O: BitOrder<R>> {
 
 impl<'a, R: BitRegister, O: BitOrder<R>> BitWriter<'a, R, O> {
     ghost use Rattle.bitvec_stream.specs.Writer.{target_memory, target_span, target_bits};
-    ghost use Rattle.bitvec_stream.specs.Writer.{bits_written, written, room, Writes, Skips};
+    ghost use Rattle.bitvec_stream.specs.Writer.{bits_written, written, room, WritesOrNoRoom};
+    ghost use Rattle.bitvec_stream.specs.Writer.{Writes, SkipsOrNoRoom};
 
     /// A writer before the first bit of a span in a memory. Requires that the span lies in it:
     /// [`fits`](BitSpan::fits) is the test. Constant time. Not in the Rust crate.
@@ -186,8 +186,7 @@ impl<'a, R: BitRegister, O: BitOrder<R>> BitWriter<'a, R, O> {
     /// Not in the Rust crate.
     pub fn write_bit(&mut self, bit: bool) -> Result<(), WriteError>
         ensures accepted { IsOk result ↔ (0 < length (room self.old)) }
-        ensures written { MatchResult result (λ _. Writes self.old self.new (bit ∷ []))
-            (λ error. (error ≡ WriteError.NoRoom) × (self.new ≡ self.old)) }
+        ensures written { WritesOrNoRoom self.old self.new (bit ∷ []) result }
     {
         let position = self.position();
         if self.span.len() <= position {
@@ -233,9 +232,7 @@ impl<'a, R: BitRegister, O: BitOrder<R>> BitWriter<'a, R, O> {
         source: BitSlice<'_, R2, O2>,
     ) -> Result<(), WriteError>
         ensures accepted { IsOk result ↔ (slice_len source.entry ≤ length (room self.old)) }
-        ensures written { MatchResult result
-            (λ _. Writes self.old self.new (slice_bits source.entry))
-            (λ error. (error ≡ WriteError.NoRoom) × (self.new ≡ self.old)) }
+        ensures written { WritesOrNoRoom self.old self.new (slice_bits source.entry) result }
     {
         if self.remaining() < source.len() {
             return Err(WriteError::NoRoom);
@@ -248,8 +245,7 @@ impl<'a, R: BitRegister, O: BitOrder<R>> BitWriter<'a, R, O> {
     /// there is room for fewer. Constant time. Not in the Rust crate.
     pub fn skip(&mut self, count: usize) -> Result<(), WriteError>
         ensures accepted { IsOk result ↔ (count ≤ length (room self.old)) }
-        ensures skipped { MatchResult result (λ _. Skips self.old self.new count)
-            (λ error. (error ≡ WriteError.NoRoom) × (self.new ≡ self.old)) }
+        ensures skipped { SkipsOrNoRoom self.old self.new count result }
     {
         if self.remaining() < count {
             return Err(WriteError::NoRoom);
@@ -269,9 +265,8 @@ impl<'a, R: BitRegister, O: BitOrder<R>> BitWriter<'a, R, O> {
         requires { 0 < of }
         ensures accepted { let count = to_multiple of (bits_written self.old)
             in IsOk result ↔ (count ≤ length (room self.old)) }
-        ensures skipped { let count = to_multiple of (bits_written self.old)
-            in MatchResult result (λ _. Skips self.old self.new count)
-            (λ error. (error ≡ WriteError.NoRoom) × (self.new ≡ self.old)) }
+        ensures skipped { let count = to_multiple of (bits_written self.old) in SkipsOrNoRoom
+            self.old self.new count result }
         ensures multiple { IfOk result (λ _. bits_written self.new % of ≡ 0) }
         ensures near { IfOk result (λ _. bits_written self.new < bits_written self.old + of) }
     {

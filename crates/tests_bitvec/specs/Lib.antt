@@ -1,1 +1,2 @@
+pub mod SameLists
 pub mod SameRuns

@@ -1,19 +1,19 @@
 //! Laws of runs: what each says of any two calls of `run`.
 
-ghost use Rattle.std.specs.Prelude.{◌≡◌, ℕ, ◌^◌, ◌<◌, All, length, map, ◌++◌, ◌∷◌, true, Some};
+ghost use Rattle.std.specs.Prelude.{◌≡◌, ◌^◌, ◌<◌, All, length, map, ◌++◌, ◌∷◌, true, Some};
 ghost use Rattle.std.specs.Prelude.{slice_get};
 ghost use Rattle.std.specs.List.{AllZip};
 ghost use Rattle.bitvec.specs.Memory.{memory_bits};
 ghost use Rattle.bitvec.specs.BitSpan.{span_of};
-ghost use Rattle.bitvec.specs.Span.{list_of};
 ghost use Rattle.bitvec.specs.Commands.{reply_number};
 ghost use Rattle.bitvec.specs.Run.{CanRun, IsRun};
 ghost use Rattle.bitvec.specs.declared.run.command.Command.TheVariants.{Fill};
 ghost use Rattle.bitvec.specs.declared.run.command.Reply.TheVariants.{Done};
+ghost use Rattle.tests_bitvec.specs.SameLists.{numbered, HaveSameLists, OwnRepliesAre};
 ghost use Rattle.tests_bitvec.specs.SameRuns.{OrderBetweenSpansDoesNotMatter, RunsJoin};
 ghost use Rattle.tests_bitvec.specs.SameRuns.{RunsAreCut};
 ghost use Rattle.bitvec.specs.Laws.{AreSameRequests, AreSameReplies, IsSameNumber, IsTurned};
-ghost use Rattle.bitvec.specs.Laws.{IsBitCommand, own_replies, HaveSameOwnCommands};
+ghost use Rattle.bitvec.specs.Laws.{IsBitCommand, HaveSameOwnCommands};
 ghost use Rattle.bitvec.specs.Laws.{HaveSameOwnReplies};
 
 use bitvec::index::BitIdx;
@@ -39,20 +39,16 @@ fn run_bit_commands<R: BitRegister, O: BitOrder<R>, R2: BitRegister, O2: BitOrde
     requires other_can_run { CanRun R2.BITS span_of other_spans.now (length there.old) }
     requires room { length replies.old ≡ length requests.now }
     requires other_room { length other_replies.old ≡ length other_requests.now }
-    requires same_lists { AllZip
-        (λ span other. list_of R.BITS O.at_of (span_of span) (map R.number here.old)
-        ≡ list_of R2.BITS O2.at_of (span_of other) (map R2.number there.old)) spans.now
-        other_spans.now }
+    requires same_lists { HaveSameLists R.BITS O.at_of span_of spans.now (map R.number here.old)
+        R2.BITS O2.at_of span_of other_spans.now (map R2.number there.old) }
     requires bit_commands { All (λ request. IsBitCommand request.command) requests.now }
     requires same_requests { AllZip (AreSameRequests R.number R2.number IsSameNumber) requests.now
         other_requests.now }
-    ensures same_replies { (s : ℕ) → s < length spans.now
-        → AllZip (AreSameReplies IsSameNumber)
-        (own_replies s requests.now (map (reply_number R.number) replies.new))
-        (own_replies s other_requests.now (map (reply_number R2.number) other_replies.new)) }
-    ensures same_lists { AllZip (λ span other. list_of R.BITS O.at_of (span_of span)
-        (map R.number here.new) ≡ list_of R2.BITS O2.at_of (span_of other)
-        (map R2.number there.new)) spans.now other_spans.now }
+    ensures same_replies { OwnRepliesAre (AreSameReplies IsSameNumber) (length spans.now)
+        requests.now (numbered R.number replies.new) other_requests.now (numbered R2.number
+        other_replies.new) }
+    ensures same_lists { HaveSameLists R.BITS O.at_of span_of spans.now (map R.number here.new)
+        R2.BITS O2.at_of span_of other_spans.now (map R2.number there.new) }
 {
     bit_commands::<R, O, R2, O2>();
     run(spans, here, requests, replies);
@@ -82,13 +78,11 @@ fn run_turned<R: BitRegister, O: BitOrder<R>, O2: BitOrder<R>>(
     requires same_requests { AllZip
         (AreSameRequests R.number R.number (IsTurned R.BITS O.at_of O2.at_of)) requests.now
         other_requests.now }
-    ensures same_replies { (s : ℕ) → s < length spans.now
-        → AllZip (AreSameReplies (IsTurned R.BITS O.at_of O2.at_of))
-        (own_replies s requests.now (map (reply_number R.number) replies.new))
-        (own_replies s other_requests.now (map (reply_number R.number) other_replies.new)) }
-    ensures same_lists { AllZip (λ span other. list_of R.BITS O.at_of (span_of span)
-        (map R.number here.new) ≡ list_of R.BITS O2.at_of (span_of other)
-        (map R.number there.new)) spans.now other_spans.now }
+    ensures same_replies { OwnRepliesAre (AreSameReplies (IsTurned R.BITS O.at_of O2.at_of)) (length
+        spans.now) requests.now (numbered R.number replies.new) other_requests.now (numbered
+        R.number other_replies.new) }
+    ensures same_lists { HaveSameLists R.BITS O.at_of span_of spans.now (map R.number here.new)
+        R.BITS O2.at_of span_of other_spans.now (map R.number there.new) }
 {
     turned_orders::<R, O, O2>();
     run(spans, here, requests, replies);
@@ -128,9 +122,8 @@ fn run_in_two_orders<R: BitRegister, O: BitOrder<R>>(
     requires same_memory { here.old ≡ there.old }
     requires same_commands { HaveSameOwnCommands (length spans.now) requests.now
         other_requests.now }
-    ensures same_replies { HaveSameOwnReplies (length spans.now) requests.now
-        (map (reply_number R.number) replies.new) other_requests.now
-        (map (reply_number R.number) other_replies.new) }
+    ensures same_replies { HaveSameOwnReplies (length spans.now) requests.now (numbered R.number
+        replies.new) other_requests.now (numbered R.number other_replies.new) }
     ensures same_memory { here.new ≡ there.new }
 {
     order_between_spans_does_not_matter::<R, O>();
@@ -160,8 +153,7 @@ fn run_on<R: BitRegister, O: BitOrder<R>>(
     requires room { length replies.old ≡ length requests.now }
     requires other_room { length others.old ≡ length more.now }
     ensures { IsRun R.number R.BITS O.at_of span_of spans.now (map R.number memory.old)
-        (requests.now ++ more.now)
-        (map (reply_number R.number) replies.new ++ map (reply_number R.number) others.new)
+        (requests.now ++ more.now) (numbered R.number replies.new ++ numbered R.number others.new)
         (map R.number memory.new) }
 {
     run(spans, memory, requests, replies);

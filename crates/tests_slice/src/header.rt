@@ -1,8 +1,8 @@
 //! Fields of a header: numbers are put into the bits of two fields, and read back.
 
-ghost use Rattle.std.specs.Prelude.{◌≡◌, ◌+◌, ◌-◌, ◌*◌, ◌%◌, ◌<◌, ◌≤◌, true, length, slice_range};
+ghost use Rattle.std.specs.Prelude.{◌≡◌, ◌-◌, ◌*◌, ◌<◌, ◌≤◌, true, length, slice_range};
 ghost use Rattle.bitvec.specs.Place.{region_max_bits};
-ghost use Rattle.bitvec_slice.specs.BitSliceMut.{lent_span, lent_len, lent_bits};
+ghost use Rattle.bitvec_slice.specs.BitSliceMut.{lent_head, lent_len, lent_bits};
 ghost use Rattle.bitvec_slice.specs.Field.{field_number};
 
 use bitvec::mem::BitRegister;
@@ -19,9 +19,8 @@ fn field<R: BitRegister, O: Sequential<R>, N: BitRegister>(
     requires ordered { from ≤ to }
     requires inside { to ≤ lent_len header.now }
     requires small { to - from ≤ N.BITS }
-    ensures { let head = ((lent_span header.now).head + from) % R.BITS
-        in N.number result
-        ≡ field_number true R.BITS O.RISES head (slice_range (lent_bits header.now) from to) }
+    ensures { N.number result ≡ field_number true R.BITS O.RISES (lent_head header.now from)
+        (slice_range (lent_bits header.now) from to) }
 {
     header.get_range(from, to).unwrap().load_be()
 }

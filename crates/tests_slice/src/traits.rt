@@ -3,14 +3,14 @@
 //! Each function does what its name says, and its contract is the promise: so a body of an impl
 //! that breaks it is refused, though no contract of the layer names it.
 
-ghost use Rattle.std.specs.Prelude.{◌≡◌, ◌↔◌, ◌-◌, ◌++◌, ◌&&◌, ◌||◌, IsTrue, Ok, false, not};
-ghost use Rattle.std.specs.Prelude.{length, map, drop, replicate};
+ghost use Rattle.std.specs.Prelude.{◌≡◌, ◌↔◌, ◌-◌, ◌||◌, IsTrue, Ok, not};
+ghost use Rattle.std.specs.Prelude.{map};
 ghost use Rattle.std.specs.Cmp.Lexicographic.{slice_cmp};
 ghost use Rattle.std.specs.Ordering.{bool_cmp, is_lt};
 ghost use Rattle.bitvec.specs.Digit.{exclusive_or};
-ghost use Rattle.bitvec.specs.Memory.{zip_with};
 ghost use Rattle.bitvec_slice.specs.BitSlice.{slice_bits};
 ghost use Rattle.bitvec_slice.specs.BitSliceMut.{lent_bits, BecomesBits};
+ghost use Rattle.bitvec_slice.specs.Ranges.{with_common, only_common};
 
 use bitvec::mem::BitRegister;
 use bitvec::order::BitOrder;
@@ -86,9 +86,8 @@ fn keep_common<'a, R: BitRegister, O: BitOrder<R>, R2: BitRegister, O2: BitOrder
     slice: &mut BitSliceMut<'a, R, O>,
     other: BitSlice<'_, R2, O2>,
 )
-    ensures { let xs = lent_bits slice.old in let ys = slice_bits other.entry
-        in BecomesBits slice.old slice.new
-        (zip_with (λ t s. t && s) xs ys ++ replicate (length xs - length ys) false) }
+    ensures { BecomesBits slice.old slice.new (only_common (lent_bits slice.old) (slice_bits
+        other.entry)) }
 {
     *slice &= other;
 }
@@ -97,8 +96,8 @@ fn add_ones<'a, R: BitRegister, O: BitOrder<R>, R2: BitRegister, O2: BitOrder<R2
     slice: &mut BitSliceMut<'a, R, O>,
     other: BitSlice<'_, R2, O2>,
 )
-    ensures { let xs = lent_bits slice.old in let ys = slice_bits other.entry
-        in BecomesBits slice.old slice.new (zip_with (λ t s. t || s) xs ys ++ drop (length ys) xs) }
+    ensures { BecomesBits slice.old slice.new (with_common (λ t s. t || s) (lent_bits slice.old)
+        (slice_bits other.entry)) }
 {
     *slice |= other;
 }
@@ -107,8 +106,8 @@ fn turn_over_ones<'a, R: BitRegister, O: BitOrder<R>, R2: BitRegister, O2: BitOr
     slice: &mut BitSliceMut<'a, R, O>,
     other: BitSlice<'_, R2, O2>,
 )
-    ensures { let xs = lent_bits slice.old in let ys = slice_bits other.entry
-        in BecomesBits slice.old slice.new (zip_with exclusive_or xs ys ++ drop (length ys) xs) }
+    ensures { BecomesBits slice.old slice.new (with_common exclusive_or (lent_bits slice.old)
+        (slice_bits other.entry)) }
 {
     *slice ^= other;
 }

@@ -1,13 +1,14 @@
 //! The next bits of a reader, kept in a word under its order: the first is the word's first, the
 //! others follow, and the word's bits behind those are zero.
 
-ghost use Rattle.std.specs.Prelude.{◌≡◌, ⊤, ℕ, ◌+◌, ◌-◌, ◌^◌, ◌<◌, ◌≤◌, Bool, List, MatchOption};
-ghost use Rattle.std.specs.Prelude.{length, drop};
+ghost use Rattle.std.specs.Prelude.{◌≡◌, ⊤, ◌+◌, ◌-◌, ◌^◌, ◌<◌, ◌≤◌, MatchOption};
+ghost use Rattle.std.specs.Prelude.{length};
 ghost use Rattle.bitvec.specs.Order.{Falls};
 ghost use Rattle.bitvec_slice.specs.BitSlice.{slice_len, slice_bits};
 ghost use Rattle.bitvec_stream.specs.Golomb.{BeginsWithCode};
 ghost use Rattle.bitvec_stream.specs.Reader.{source, bits_read};
-ghost use Rattle.bitvec_stream.specs.Window.{IsWindow, IsNumberOf, RisesOrFalls, Keeps};
+ghost use Rattle.bitvec_stream.specs.Window.{IsNumberOf, RisesOrFalls, Keeps};
+ghost use Rattle.bitvec_stream.specs.Window.{PassesKept, JoinsKept, IsKeptNumber, IsKeptCode};
 
 use crate::number::lowest;
 use crate::reader::BitReader;
@@ -21,9 +22,7 @@ use bitvec_slice::slice::BitSlice;
 fn passed<R: BitRegister, O: BitOrder<R>>(word: R, count: usize) -> R
     requires way { RisesOrFalls R.BITS O.at_of }
     requires within { count < R.BITS }
-    ensures { (xs : List Bool) (place kept : ℕ)
-        → Keeps R.BITS O.at_of xs place kept (R.number word) → count ≤ kept → kept ≤ R.BITS
-        → Keeps R.BITS O.at_of xs (place + count) (kept - count) (R.number result) }
+    ensures { PassesKept R.BITS O.at_of (R.number word) count (R.number result) }
 {
     if direction_of::<R, O>() == Direction::Falls {
         word.shl(count as u8)
@@ -37,9 +36,7 @@ fn passed<R: BitRegister, O: BitOrder<R>>(word: R, count: usize) -> R
 fn filled_up<R: BitRegister, O: BitOrder<R>>(word: R, kept: usize, next: R) -> R
     requires way { RisesOrFalls R.BITS O.at_of }
     requires few { kept < R.BITS }
-    ensures { (xs : List Bool) (place : ℕ) → Keeps R.BITS O.at_of xs place kept (R.number word)
-        → Keeps R.BITS O.at_of xs (place + kept) R.BITS (R.number next)
-        → Keeps R.BITS O.at_of xs place R.BITS (R.number result) }
+    ensures { JoinsKept R.BITS O.at_of (R.number word) kept (R.number next) (R.number result) }
 {
     if direction_of::<R, O>() == Direction::Falls {
         word.or(next.shr(kept as u8))
@@ -54,10 +51,7 @@ fn first_digits<R: BitRegister, O: BitOrder<R>>(word: R, count: usize) -> R
     requires some { 0 < count }
     requires within { count ≤ R.BITS }
     ensures small { R.number result < 2 ^ count }
-    ensures number { (xs : List Bool) (place kept : ℕ)
-        → Keeps R.BITS O.at_of xs place kept (R.number word)
-        → count ≤ kept → kept ≤ R.BITS → place + kept ≤ length xs
-        → IsNumberOf R.BITS O.at_of (drop place xs) count (R.number result) }
+    ensures number { IsKeptNumber R.BITS O.at_of (R.number word) count (R.number result) }
 {
     if direction_of::<R, O>() == Direction::Falls {
         word.shr(R::BITS - count as u8)
@@ -72,10 +66,7 @@ fn first_number<R: BitRegister, O: BitOrder<R>, N: BitRegister>(word: R, count: 
     requires some { 0 < count }
     requires within { count ≤ R.BITS }
     requires fits { count ≤ N.BITS }
-    ensures { (xs : List Bool) (place kept : ℕ)
-        → Keeps R.BITS O.at_of xs place kept (R.number word)
-        → count ≤ kept → kept ≤ R.BITS → place + kept ≤ length xs
-        → IsNumberOf R.BITS O.at_of (drop place xs) count (N.number result) }
+    ensures { IsKeptNumber R.BITS O.at_of (R.number word) count (N.number result) }
 {
     N::from_u128(first_digits::<R, O>(word, count).to_u128()).unwrap()
 }
@@ -85,9 +76,8 @@ fn first_number<R: BitRegister, O: BitOrder<R>, N: BitRegister>(word: R, count: 
 #[inline(always)]
 fn code_in<R: BitRegister>(word: R, kept: usize) -> Option<(usize, R)>
     requires { kept ≤ R.BITS }
-    ensures { MatchOption result ⊤ (λ it. (it.0 ≤ kept) × ((xs : List Bool) (place : ℕ)
-        → IsWindow R.BITS xs place kept (R.number word) → place + kept ≤ length xs
-        → BeginsWithCode (drop place xs) (R.number it.1) it.0)) }
+    ensures { MatchOption result ⊤ (λ it. IsKeptCode R.BITS (R.number word) kept it.0 (R.number
+        it.1)) }
 {
     let top = mem::highest_one(word)?;
     let zeros = usize::from(R::BITS - 1 - top);

@@ -21,7 +21,7 @@ fn without_top(digits: u128) -> (usize, u128)
 }
 
 impl<'a, R: BitRegister, O: BitOrder<R>> BitWriter<'a, R, O> {
-    ghost use Rattle.bitvec_stream.specs.Writer.{room, Writes};
+    ghost use Rattle.bitvec_stream.specs.Writer.{room, Writes, WritesOrNoRoom};
 
     // Writes `zeros` zeros, a one, and `zeros` digits of the number `low`, the highest first.
     fn put_code(&mut self, zeros: usize, low: u128) -> Result<(), WriteError>
@@ -29,9 +29,8 @@ impl<'a, R: BitRegister, O: BitOrder<R>> BitWriter<'a, R, O> {
         requires below { low < 2 ^ zeros }
         ensures accepted { let code = golomb (2 ^ zeros + low - 1)
             in IsOk result ↔ (length code ≤ length (room self.old)) }
-        ensures written { let code = golomb (2 ^ zeros + low - 1)
-            in MatchResult result (λ _. Writes self.old self.new code)
-            (λ error. (error ≡ WriteError.NoRoom) × (self.new ≡ self.old)) }
+        ensures written { let code = golomb (2 ^ zeros + low - 1) in WritesOrNoRoom self.old
+            self.new code result }
     {
         if self.remaining() < 2 * zeros + 1 {
             return Err(WriteError::NoRoom);
@@ -46,8 +45,7 @@ impl<'a, R: BitRegister, O: BitOrder<R>> BitWriter<'a, R, O> {
     fn put_digits(&mut self, digits: u128) -> Result<(), WriteError>
         requires { 0 < digits }
         ensures accepted { IsOk result ↔ (length (golomb (digits - 1)) ≤ length (room self.old)) }
-        ensures written { MatchResult result (λ _. Writes self.old self.new (golomb (digits - 1)))
-            (λ error. (error ≡ WriteError.NoRoom) × (self.new ≡ self.old)) }
+        ensures written { WritesOrNoRoom self.old self.new (golomb (digits - 1)) result }
     {
         let (zeros, low) = without_top(digits);
         self.put_code(zeros, low)
@@ -73,9 +71,7 @@ impl<'a, R: BitRegister, O: BitOrder<R>> BitWriter<'a, R, O> {
     pub fn write_exp_golomb<N: BitRegister>(&mut self, value: N) -> Result<(), WriteError>
         ensures accepted { let code = golomb (N.number value)
             in IsOk result ↔ (length code ≤ length (room self.old)) }
-        ensures written { MatchResult result
-            (λ _. Writes self.old self.new (golomb (N.number value)))
-            (λ error. (error ≡ WriteError.NoRoom) × (self.new ≡ self.old)) }
+        ensures written { WritesOrNoRoom self.old self.new (golomb (N.number value)) result }
     {
         let number = value.to_u128();
         if number == u128::MAX {
@@ -91,9 +87,8 @@ impl<'a, R: BitRegister, O: BitOrder<R>> BitWriter<'a, R, O> {
     pub fn write_signed_exp_golomb<N: SignedNumber>(&mut self, value: N) -> Result<(), WriteError>
         ensures accepted { let code = golomb (signed_place (N.number value))
             in IsOk result ↔ (length code ≤ length (room self.old)) }
-        ensures written { MatchResult result
-            (λ _. Writes self.old self.new (golomb (signed_place (N.number value))))
-            (λ error. (error ≡ WriteError.NoRoom) × (self.new ≡ self.old)) }
+        ensures written { WritesOrNoRoom self.old self.new (golomb (signed_place (N.number value)))
+            result }
     {
         let number = value.to_i128();
         if number > 0 {

@@ -1,6 +1,6 @@
 //! Numbers in unary: for `n`, `n` equal bits and one that differs.
 
-ghost use Rattle.std.specs.Prelude.{◌≡◌, ◌<◌, ◌≤◌, ◌↔◌, ◌∷◌, ◌++◌, [], IsOk, MatchResult, not};
+ghost use Rattle.std.specs.Prelude.{◌<◌, ◌≤◌, ◌↔◌, ◌∷◌, ◌++◌, [], IsOk, not};
 ghost use Rattle.std.specs.Prelude.{length};
 ghost use Rattle.std.specs.Prelude.{replicate};
 
@@ -10,7 +10,7 @@ use bitvec::mem::BitRegister;
 use bitvec::order::BitOrder;
 
 impl<'a, R: BitRegister, O: BitOrder<R>> BitWriter<'a, R, O> {
-    ghost use Rattle.bitvec_stream.specs.Writer.{room, Writes};
+    ghost use Rattle.bitvec_stream.specs.Writer.{room, Writes, WritesOrNoRoom};
 
     // Writes the same bit `count` times.
     pub(super) fn fill(&mut self, bit: bool, count: usize)
@@ -40,9 +40,8 @@ impl<'a, R: BitRegister, O: BitOrder<R>> BitWriter<'a, R, O> {
     /// ```
     pub fn write_unary(&mut self, bit: bool, count: usize) -> Result<(), WriteError>
         ensures accepted { IsOk result ↔ (count < length (room self.old)) }
-        ensures written { MatchResult result
-            (λ _. Writes self.old self.new (replicate count bit ++ (not bit ∷ [])))
-            (λ error. (error ≡ WriteError.NoRoom) × (self.new ≡ self.old)) }
+        ensures written { WritesOrNoRoom self.old self.new (replicate count bit ++ (not bit ∷ []))
+            result }
     {
         if self.remaining() <= count {
             return Err(WriteError::NoRoom);
