@@ -10,6 +10,7 @@ use bitvec_call::signed::{load_signed, store_signed};
 /// Writes to `number` the number whose digits the bits of a range are; its other digits are 0.
 ///
 /// In words of 8 bits. It refuses with `NO_ORDER`, `TOO_LONG`, `OUTSIDE` or `TOO_WIDE`.
+#[inline(always)]
 #[unsafe(no_mangle)]
 pub extern "C" fn bitvec_c_load_u8(
     order: u8,
@@ -25,6 +26,7 @@ pub extern "C" fn bitvec_c_load_u8(
 }
 
 /// As `bitvec_c_load_u8`, of words of 16 bits.
+#[inline(always)]
 #[unsafe(no_mangle)]
 pub extern "C" fn bitvec_c_load_u16(
     order: u8,
@@ -40,6 +42,7 @@ pub extern "C" fn bitvec_c_load_u16(
 }
 
 /// As `bitvec_c_load_u8`, of words of 32 bits.
+#[inline(always)]
 #[unsafe(no_mangle)]
 pub extern "C" fn bitvec_c_load_u32(
     order: u8,
@@ -55,6 +58,7 @@ pub extern "C" fn bitvec_c_load_u32(
 }
 
 /// As `bitvec_c_load_u8`, of words of 64 bits.
+#[inline(always)]
 #[unsafe(no_mangle)]
 pub extern "C" fn bitvec_c_load_u64(
     order: u8,
@@ -73,6 +77,7 @@ pub extern "C" fn bitvec_c_load_u64(
 /// back. Its other digits are dropped.
 ///
 /// In words of 8 bits. It refuses with `NO_ORDER`, `TOO_LONG`, `OUTSIDE` or `TOO_WIDE`.
+#[inline(always)]
 #[unsafe(no_mangle)]
 pub extern "C" fn bitvec_c_store_u8(
     order: u8,
@@ -89,6 +94,7 @@ pub extern "C" fn bitvec_c_store_u8(
 }
 
 /// As `bitvec_c_store_u8`, of words of 16 bits.
+#[inline(always)]
 #[unsafe(no_mangle)]
 pub extern "C" fn bitvec_c_store_u16(
     order: u8,
@@ -105,6 +111,7 @@ pub extern "C" fn bitvec_c_store_u16(
 }
 
 /// As `bitvec_c_store_u8`, of words of 32 bits.
+#[inline(always)]
 #[unsafe(no_mangle)]
 pub extern "C" fn bitvec_c_store_u32(
     order: u8,
@@ -121,6 +128,7 @@ pub extern "C" fn bitvec_c_store_u32(
 }
 
 /// As `bitvec_c_store_u8`, of words of 64 bits.
+#[inline(always)]
 #[unsafe(no_mangle)]
 pub extern "C" fn bitvec_c_store_u64(
     order: u8,
@@ -140,6 +148,7 @@ pub extern "C" fn bitvec_c_store_u64(
 /// gives. For no bits it is 0.
 ///
 /// In words of 8 bits. It refuses with `NO_ORDER`, `TOO_LONG`, `OUTSIDE` or `TOO_WIDE`.
+#[inline(always)]
 #[unsafe(no_mangle)]
 pub extern "C" fn bitvec_c_load_signed_u8(
     order: u8,
@@ -156,6 +165,7 @@ pub extern "C" fn bitvec_c_load_signed_u8(
 }
 
 /// As `bitvec_c_load_signed_u8`, of words of 16 bits.
+#[inline(always)]
 #[unsafe(no_mangle)]
 pub extern "C" fn bitvec_c_load_signed_u16(
     order: u8,
@@ -172,6 +182,7 @@ pub extern "C" fn bitvec_c_load_signed_u16(
 }
 
 /// As `bitvec_c_load_signed_u8`, of words of 32 bits.
+#[inline(always)]
 #[unsafe(no_mangle)]
 pub extern "C" fn bitvec_c_load_signed_u32(
     order: u8,
@@ -188,6 +199,7 @@ pub extern "C" fn bitvec_c_load_signed_u32(
 }
 
 /// As `bitvec_c_load_signed_u8`, of words of 64 bits.
+#[inline(always)]
 #[unsafe(no_mangle)]
 pub extern "C" fn bitvec_c_load_signed_u64(
     order: u8,
@@ -207,6 +219,7 @@ pub extern "C" fn bitvec_c_load_signed_u64(
 /// bitvec_c_load_signed_W gives back a number that has no more digits.
 ///
 /// In words of 8 bits. It refuses with `NO_ORDER`, `TOO_LONG`, `OUTSIDE` or `TOO_WIDE`.
+#[inline(always)]
 #[unsafe(no_mangle)]
 pub extern "C" fn bitvec_c_store_signed_u8(
     order: u8,
@@ -223,6 +236,7 @@ pub extern "C" fn bitvec_c_store_signed_u8(
 }
 
 /// As `bitvec_c_store_signed_u8`, of words of 16 bits.
+#[inline(always)]
 #[unsafe(no_mangle)]
 pub extern "C" fn bitvec_c_store_signed_u16(
     order: u8,
@@ -239,6 +253,7 @@ pub extern "C" fn bitvec_c_store_signed_u16(
 }
 
 /// As `bitvec_c_store_signed_u8`, of words of 32 bits.
+#[inline(always)]
 #[unsafe(no_mangle)]
 pub extern "C" fn bitvec_c_store_signed_u32(
     order: u8,
@@ -255,6 +270,7 @@ pub extern "C" fn bitvec_c_store_signed_u32(
 }
 
 /// As `bitvec_c_store_signed_u8`, of words of 64 bits.
+#[inline(always)]
 #[unsafe(no_mangle)]
 pub extern "C" fn bitvec_c_store_signed_u64(
     order: u8,

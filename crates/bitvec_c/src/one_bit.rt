@@ -9,6 +9,7 @@ use bitvec_call::exchange::{replace, swap};
 /// Writes to `bit` the bit at a place.
 ///
 /// In words of 8 bits. It refuses with `NO_ORDER` or `OUTSIDE`.
+#[inline(always)]
 #[unsafe(no_mangle)]
 pub extern "C" fn bitvec_c_get_u8(order: u8, memory: &[u8], place: usize, bit: &mut bool) -> u8
     ensures { IsBitRead (u8_at order place memory.now) bit.old bit.new result }
@@ -17,6 +18,7 @@ pub extern "C" fn bitvec_c_get_u8(order: u8, memory: &[u8], place: usize, bit: &
 }
 
 /// As `bitvec_c_get_u8`, of words of 16 bits.
+#[inline(always)]
 #[unsafe(no_mangle)]
 pub extern "C" fn bitvec_c_get_u16(order: u8, memory: &[u16], place: usize, bit: &mut bool) -> u8
     ensures { IsBitRead (u16_at order place memory.now) bit.old bit.new result }
@@ -25,6 +27,7 @@ pub extern "C" fn bitvec_c_get_u16(order: u8, memory: &[u16], place: usize, bit:
 }
 
 /// As `bitvec_c_get_u8`, of words of 32 bits.
+#[inline(always)]
 #[unsafe(no_mangle)]
 pub extern "C" fn bitvec_c_get_u32(order: u8, memory: &[u32], place: usize, bit: &mut bool) -> u8
     ensures { IsBitRead (u32_at order place memory.now) bit.old bit.new result }
@@ -33,6 +36,7 @@ pub extern "C" fn bitvec_c_get_u32(order: u8, memory: &[u32], place: usize, bit:
 }
 
 /// As `bitvec_c_get_u8`, of words of 64 bits.
+#[inline(always)]
 #[unsafe(no_mangle)]
 pub extern "C" fn bitvec_c_get_u64(order: u8, memory: &[u64], place: usize, bit: &mut bool) -> u8
     ensures { IsBitRead (u64_at order place memory.now) bit.old bit.new result }
@@ -43,6 +47,7 @@ pub extern "C" fn bitvec_c_get_u64(order: u8, memory: &[u64], place: usize, bit:
 /// Makes the bit at a place the same as `bit`.
 ///
 /// In words of 8 bits. It refuses with `NO_ORDER` or `OUTSIDE`.
+#[inline(always)]
 #[unsafe(no_mangle)]
 pub extern "C" fn bitvec_c_set_u8(order: u8, memory: &mut [u8], place: usize, bit: bool) -> u8
     ensures { let at = u8_at order place in IsBitWrite (at memory.old) (at memory.new) bit result }
@@ -51,6 +56,7 @@ pub extern "C" fn bitvec_c_set_u8(order: u8, memory: &mut [u8], place: usize, bi
 }
 
 /// As `bitvec_c_set_u8`, of words of 16 bits.
+#[inline(always)]
 #[unsafe(no_mangle)]
 pub extern "C" fn bitvec_c_set_u16(order: u8, memory: &mut [u16], place: usize, bit: bool) -> u8
     ensures { let at = u16_at order place in IsBitWrite (at memory.old) (at memory.new) bit result }
@@ -59,6 +65,7 @@ pub extern "C" fn bitvec_c_set_u16(order: u8, memory: &mut [u16], place: usize, 
 }
 
 /// As `bitvec_c_set_u8`, of words of 32 bits.
+#[inline(always)]
 #[unsafe(no_mangle)]
 pub extern "C" fn bitvec_c_set_u32(order: u8, memory: &mut [u32], place: usize, bit: bool) -> u8
     ensures { let at = u32_at order place in IsBitWrite (at memory.old) (at memory.new) bit result }
@@ -67,6 +74,7 @@ pub extern "C" fn bitvec_c_set_u32(order: u8, memory: &mut [u32], place: usize, 
 }
 
 /// As `bitvec_c_set_u8`, of words of 64 bits.
+#[inline(always)]
 #[unsafe(no_mangle)]
 pub extern "C" fn bitvec_c_set_u64(order: u8, memory: &mut [u64], place: usize, bit: bool) -> u8
     ensures { let at = u64_at order place in IsBitWrite (at memory.old) (at memory.new) bit result }
@@ -77,6 +85,7 @@ pub extern "C" fn bitvec_c_set_u64(order: u8, memory: &mut [u64], place: usize, 
 /// Writes to `before` the bit at a place, and makes it the same as `bit`.
 ///
 /// In words of 8 bits. It refuses with `NO_ORDER` or `OUTSIDE`.
+#[inline(always)]
 #[unsafe(no_mangle)]
 pub extern "C" fn bitvec_c_replace_u8(
     order: u8,
@@ -92,6 +101,7 @@ pub extern "C" fn bitvec_c_replace_u8(
 }
 
 /// As `bitvec_c_replace_u8`, of words of 16 bits.
+#[inline(always)]
 #[unsafe(no_mangle)]
 pub extern "C" fn bitvec_c_replace_u16(
     order: u8,
@@ -107,6 +117,7 @@ pub extern "C" fn bitvec_c_replace_u16(
 }
 
 /// As `bitvec_c_replace_u8`, of words of 32 bits.
+#[inline(always)]
 #[unsafe(no_mangle)]
 pub extern "C" fn bitvec_c_replace_u32(
     order: u8,
@@ -122,6 +133,7 @@ pub extern "C" fn bitvec_c_replace_u32(
 }
 
 /// As `bitvec_c_replace_u8`, of words of 64 bits.
+#[inline(always)]
 #[unsafe(no_mangle)]
 pub extern "C" fn bitvec_c_replace_u64(
     order: u8,
@@ -139,6 +151,7 @@ pub extern "C" fn bitvec_c_replace_u64(
 /// Exchanges the bits at two places, which may be the same one.
 ///
 /// In words of 8 bits. It refuses with `NO_ORDER` or `OUTSIDE`.
+#[inline(always)]
 #[unsafe(no_mangle)]
 pub extern "C" fn bitvec_c_swap_u8(
     order: u8,
@@ -153,6 +166,7 @@ pub extern "C" fn bitvec_c_swap_u8(
 }
 
 /// As `bitvec_c_swap_u8`, of words of 16 bits.
+#[inline(always)]
 #[unsafe(no_mangle)]
 pub extern "C" fn bitvec_c_swap_u16(
     order: u8,
@@ -167,6 +181,7 @@ pub extern "C" fn bitvec_c_swap_u16(
 }
 
 /// As `bitvec_c_swap_u8`, of words of 32 bits.
+#[inline(always)]
 #[unsafe(no_mangle)]
 pub extern "C" fn bitvec_c_swap_u32(
     order: u8,
@@ -181,6 +196,7 @@ pub extern "C" fn bitvec_c_swap_u32(
 }
 
 /// As `bitvec_c_swap_u8`, of words of 64 bits.
+#[inline(always)]
 #[unsafe(no_mangle)]
 pub extern "C" fn bitvec_c_swap_u64(
     order: u8,

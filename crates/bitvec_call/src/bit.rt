@@ -7,11 +7,12 @@ ghost use Rattle.bitvec_call.specs.Order.{order_at};
 ghost use Rattle.bitvec_call.specs.Range.{WritesBit};
 
 use crate::range::pointer;
-use crate::status::{LSB0, MSB0, NO_ORDER, OK, OUTSIDE, is_place, test_range};
+use crate::status::{LSB0, MSB0, NO_ORDER, OK, OUTSIDE, is_place};
 use bitvec::mem::BitRegister;
 use bitvec::order::{BitOrder, Lsb0, Msb0};
 
 // The bit at a place.
+#[inline(always)]
 fn read_in<R: BitRegister, O: BitOrder<R>>(memory: &[R], place: usize) -> bool
     requires { place < length memory.now * R.BITS }
     ensures { result ≡ bit_of R.BITS O.at_of (map R.number memory.now) place }
@@ -20,6 +21,7 @@ fn read_in<R: BitRegister, O: BitOrder<R>>(memory: &[R], place: usize) -> bool
 }
 
 // The same under the order of a code.
+#[inline(always)]
 pub(crate) fn read<R: BitRegister>(order: u8, memory: &[R], place: usize) -> bool
     requires { place < length memory.now * R.BITS }
     ensures { result ≡ bit_of R.BITS (order_at R.BITS order) (map R.number memory.now) place }
@@ -34,6 +36,7 @@ pub(crate) fn read<R: BitRegister>(order: u8, memory: &[R], place: usize) -> boo
 /// Answers the bit at a place of a memory, in constant time.
 ///
 /// It refuses with `NO_ORDER` or `OUTSIDE`, and then the answer is as it was.
+#[inline(always)]
 pub fn get<R: BitRegister>(order: u8, memory: &[R], place: usize, bit: &mut bool) -> u8
     ensures { IsBitRead (operand R.number R.BITS order place memory.now) bit.old bit.new result }
 {
@@ -49,6 +52,7 @@ pub fn get<R: BitRegister>(order: u8, memory: &[R], place: usize, bit: &mut bool
 }
 
 // Writes the bit at a place under the order of a code, and changes no other bit.
+#[inline(always)]
 pub(crate) fn write<R: BitRegister>(order: u8, memory: &mut [R], place: usize, bit: bool)
     requires { place < length memory.old * R.BITS }
     ensures { WritesBit R.BITS (order_at R.BITS order) place bit (map R.number memory.old)
@@ -64,13 +68,17 @@ pub(crate) fn write<R: BitRegister>(order: u8, memory: &mut [R], place: usize, b
 /// Makes the bit at a place of a memory `bit`, and changes no other bit, in constant time.
 ///
 /// It refuses with `NO_ORDER` or `OUTSIDE`, and then the memory is as it was.
+#[inline(always)]
 pub fn set<R: BitRegister>(order: u8, memory: &mut [R], place: usize, bit: bool) -> u8
     ensures { let at = operand R.number R.BITS order place in IsBitWrite (at memory.old) (at
         memory.new) bit result }
 {
-    let status = test_range::<R>(order, memory.len(), place, 1);
-    if status == OK {
-        write(order, memory, place, bit);
+    if order > MSB0 {
+        return NO_ORDER;
     }
-    status
+    if !is_place::<R>(memory.len(), place) {
+        return OUTSIDE;
+    }
+    write(order, memory, place, bit);
+    OK
 }

@@ -6,13 +6,14 @@ ghost use Rattle.bitvec_call.specs.Order.{order_at};
 ghost use Rattle.bitvec_call.specs.Range.{ExchangesBits};
 
 use crate::bit::{read, write};
-use crate::status::{OK, test_range, test_ranges};
+use crate::status::{MSB0, NO_ORDER, OK, OUTSIDE, is_place};
 use bitvec::mem::BitRegister;
 
 /// Makes the bit at a place of a memory `bit`, changes no other bit, and answers the bit before, in
 /// constant time.
 ///
 /// It refuses with `NO_ORDER` or `OUTSIDE`, and then the memory and the answer are as they were.
+#[inline(always)]
 pub fn replace<R: BitRegister>(
     order: u8,
     memory: &mut [R],
@@ -23,15 +24,19 @@ pub fn replace<R: BitRegister>(
     ensures { let at = operand R.number R.BITS order place in IsReplacement (at memory.old)
         (at memory.new) bit before.old before.new result }
 {
-    let status = test_range::<R>(order, memory.len(), place, 1);
-    if status == OK {
-        *before = read(order, memory, place);
-        write(order, memory, place, bit);
+    if order > MSB0 {
+        return NO_ORDER;
     }
-    status
+    if !is_place::<R>(memory.len(), place) {
+        return OUTSIDE;
+    }
+    *before = read(order, memory, place);
+    write(order, memory, place, bit);
+    OK
 }
 
 // Exchanges the bits at two places, and changes no other bit.
+#[inline(always)]
 fn exchange<R: BitRegister>(order: u8, memory: &mut [R], place: usize, other_place: usize)
     requires first { place < length memory.old * R.BITS }
     requires second { other_place < length memory.old * R.BITS }
@@ -48,14 +53,17 @@ fn exchange<R: BitRegister>(order: u8, memory: &mut [R], place: usize, other_pla
 /// bit, in constant time.
 ///
 /// It refuses with `NO_ORDER` or `OUTSIDE`, and then the memory is as it was.
+#[inline(always)]
 pub fn swap<R: BitRegister>(order: u8, memory: &mut [R], place: usize, other_place: usize) -> u8
     ensures { let at = operand R.number R.BITS order place in IsExchange (at memory.old)
         (at memory.new) other_place result }
 {
-    let words = memory.len();
-    let status = test_ranges::<R>(order, words, place, words, other_place, 1);
-    if status == OK {
-        exchange(order, memory, place, other_place);
+    if order > MSB0 {
+        return NO_ORDER;
     }
-    status
+    if !is_place::<R>(memory.len(), place) || !is_place::<R>(memory.len(), other_place) {
+        return OUTSIDE;
+    }
+    exchange(order, memory, place, other_place);
+    OK
 }

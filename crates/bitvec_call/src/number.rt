@@ -12,6 +12,7 @@ use bitvec::order::{Lsb0, Msb0};
 use bitvec_slice::field::Sequential;
 
 // The number in a range, the part of its first word lowest, or highest where `big`.
+#[inline(always)]
 fn load_in<R: BitRegister, O: Sequential<R>>(
     big: bool,
     memory: &[R],
@@ -32,6 +33,7 @@ fn load_in<R: BitRegister, O: Sequential<R>>(
 }
 
 // The same under the order of a code.
+#[inline(always)]
 fn number_of<R: BitRegister>(order: u8, big: bool, memory: &[R], start: usize, count: usize) -> u64
     requires small { count ≤ 64 }
     requires inside { start + count ≤ length memory.now * R.BITS }
@@ -50,6 +52,7 @@ fn number_of<R: BitRegister>(order: u8, big: bool, memory: &[R], start: usize, c
 ///
 /// It refuses with `NO_ORDER`, `TOO_LONG`, `OUTSIDE` or `TOO_WIDE`, and then the answer is as it
 /// was.
+#[inline(always)]
 pub fn load<R: BitRegister>(
     order: u8,
     big: bool,
@@ -69,6 +72,7 @@ pub fn load<R: BitRegister>(
 }
 
 // Makes a range the lowest digits of a number, and changes no other bit.
+#[inline(always)]
 fn store_in<R: BitRegister, O: Sequential<R>>(
     big: bool,
     memory: &mut [R],
@@ -90,6 +94,7 @@ fn store_in<R: BitRegister, O: Sequential<R>>(
 }
 
 // The same under the order of a code.
+#[inline(always)]
 fn put_number<R: BitRegister>(
     order: u8,
     big: bool,
@@ -115,6 +120,7 @@ fn put_number<R: BitRegister>(
 ///
 /// It refuses with `NO_ORDER`, `TOO_LONG`, `OUTSIDE` or `TOO_WIDE`, and then the memory is as it
 /// was.
+#[inline(always)]
 pub fn store<R: BitRegister>(
     order: u8,
     big: bool,

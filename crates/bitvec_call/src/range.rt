@@ -17,6 +17,7 @@ use bitvec::ptr::span::BitSpan;
 use bitvec_slice::slice::{BitSlice, BitSliceMut};
 
 /// The pointer to the bit at a place.
+#[inline(always)]
 pub(crate) fn pointer<R: BitRegister, O>(place: usize) -> BitPtr<R, O>
     ensures pointer { ptr_of result ≡ place_ptr R.BITS place }
     ensures index { memory_place R.BITS (ptr_of result) ≡ place }
@@ -28,6 +29,7 @@ pub(crate) fn pointer<R: BitRegister, O>(place: usize) -> BitPtr<R, O>
 }
 
 /// The span of the `count` bits from a place on.
+#[inline(always)]
 pub(crate) fn span<R: BitRegister, O>(start: usize, count: usize) -> BitSpan<R, O>
     requires { count ≤ region_max_bits }
     ensures span { span_of result ≡ span_at R.BITS start count }
@@ -38,6 +40,7 @@ pub(crate) fn span<R: BitRegister, O>(start: usize, count: usize) -> BitSpan<R, 
 }
 
 /// The bits of a range of a memory.
+#[inline(always)]
 pub(crate) fn bits<R: BitRegister, O: BitOrder<R>>(
     memory: &[R],
     start: usize,
@@ -53,6 +56,7 @@ pub(crate) fn bits<R: BitRegister, O: BitOrder<R>>(
 }
 
 /// The bits of a range of a memory, for writing.
+#[inline(always)]
 pub(crate) fn bits_mut<R: BitRegister, O: BitOrder<R>>(
     memory: &mut [R],
     start: usize,

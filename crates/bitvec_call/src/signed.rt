@@ -13,6 +13,7 @@ use bitvec::order::{Lsb0, Msb0};
 use bitvec_slice::field::Sequential;
 
 // The signed number in a range, the part of its first word lowest, or highest where `big`.
+#[inline(always)]
 fn load_in<R: BitRegister, O: Sequential<R>>(
     big: bool,
     memory: &[R],
@@ -33,6 +34,7 @@ fn load_in<R: BitRegister, O: Sequential<R>>(
 }
 
 // The same under the order of a code.
+#[inline(always)]
 fn number_of<R: BitRegister>(order: u8, big: bool, memory: &[R], start: usize, count: usize) -> i64
     requires small { count ≤ 64 }
     requires inside { start + count ≤ length memory.now * R.BITS }
@@ -51,6 +53,7 @@ fn number_of<R: BitRegister>(order: u8, big: bool, memory: &[R], start: usize, c
 ///
 /// It refuses with `NO_ORDER`, `TOO_LONG`, `OUTSIDE` or `TOO_WIDE`, and then the answer is as it
 /// was.
+#[inline(always)]
 pub fn load_signed<R: BitRegister>(
     order: u8,
     big: bool,
@@ -70,6 +73,7 @@ pub fn load_signed<R: BitRegister>(
 }
 
 // Makes a range the lowest digits of a signed number's two's complement, and changes no other bit.
+#[inline(always)]
 fn store_in<R: BitRegister, O: Sequential<R>>(
     big: bool,
     memory: &mut [R],
@@ -91,6 +95,7 @@ fn store_in<R: BitRegister, O: Sequential<R>>(
 }
 
 // The same under the order of a code.
+#[inline(always)]
 fn put_number<R: BitRegister>(
     order: u8,
     big: bool,
@@ -116,6 +121,7 @@ fn put_number<R: BitRegister>(
 ///
 /// It refuses with `NO_ORDER`, `TOO_LONG`, `OUTSIDE` or `TOO_WIDE`, and then the memory is as it
 /// was.
+#[inline(always)]
 pub fn store_signed<R: BitRegister>(
     order: u8,
     big: bool,

@@ -57,14 +57,29 @@ pub const MAX_SPANS: usize = 64;
 /// The greatest number of digits in a number.
 pub const MAX_DIGITS: usize = 64;
 
+/// Whether `words` words have the bits before place `end`.
+#[inline(always)]
+fn has_end<R: BitRegister>(words: usize, end: usize) -> bool
+    ensures { IsTrue result ↔ (end ≤ words * R.BITS) }
+{
+    // By the word that the end lies in: the number of all bits may have more than 64 digits.
+    let bits = usize::from(R::BITS);
+    end / bits < words || (end / bits == words && end % bits == 0)
+}
+
 /// Whether the range of `count` bits from place `start` on ends within `words` words.
+#[inline(always)]
 pub(crate) fn is_inside<R: BitRegister>(words: usize, start: usize, count: usize) -> bool
     ensures { IsTrue result ↔ (start + count ≤ words * R.BITS) }
 {
-    start as u128 + count as u128 <= words as u128 * u128::from(R::BITS)
+    match start.checked_add(count) {
+        Some(end) => has_end::<R>(words, end),
+        None => start as u128 + count as u128 <= words as u128 * u128::from(R::BITS),
+    }
 }
 
 /// The status of an order and of a range in a memory of `words` words.
+#[inline(always)]
 pub(crate) fn test_range<R: BitRegister>(order: u8, words: usize, start: usize, count: usize) -> u8
     ensures status { result ≡ range_status R.BITS order words start count }
     ensures order { result ≡ ok → order ≤ 1 }
@@ -83,6 +98,7 @@ pub(crate) fn test_range<R: BitRegister>(order: u8, words: usize, start: usize, 
 }
 
 /// Whether a place lies in one of `words` words.
+#[inline(always)]
 pub(crate) fn is_place<R: BitRegister>(words: usize, place: usize) -> bool
     ensures { IsTrue result ↔ (place + 1 ≤ words * R.BITS) }
 {
@@ -115,6 +131,7 @@ pub(crate) fn test_ranges<R: BitRegister>(
 }
 
 /// The status of an order and of a range that is a number.
+#[inline(always)]
 pub(crate) fn test_number<R: BitRegister>(order: u8, words: usize, start: usize, count: usize) -> u8
     ensures status { result ≡ number_status R.BITS order words start count }
     ensures order { result ≡ ok → order ≤ 1 }
