@@ -524,6 +524,7 @@ impl<'a, R: BitRegister, O: Sequential<R>> BitSlice<'a, R, O> {
     /// assert_eq!(rt; slice.load_le::<u32>(), 0x12345678);
     /// assert_eq!(rt; slice.load_le::<usize>(), 0x12345678);
     /// ```
+    #[inline(always)]
     pub fn load_le<N: BitRegister>(&self) -> N
         requires { slice_len self.now ≤ N.BITS }
         ensures number { N.number result
@@ -556,6 +557,7 @@ impl<'a, R: BitRegister, O: Sequential<R>> BitSlice<'a, R, O> {
     ///     0x0123456789ABCDEF_FEDCBA9876543210
     /// );
     /// ```
+    #[inline(always)]
     pub fn load_be<N: BitRegister>(&self) -> N
         requires { slice_len self.now ≤ N.BITS }
         ensures number { N.number result
@@ -577,6 +579,7 @@ impl<'a, R: BitRegister, O: Sequential<R>> BitSliceMut<'a, R, O> {
 
     /// The number that [`load_le`](BitSlice::load_le) of [`as_bitslice`](BitSliceMut::as_bitslice)
     /// gives. Requires no more bits than the number type has digits. Costs by words.
+    #[inline(always)]
     pub fn load_le<N: BitRegister>(&self) -> N
         requires { lent_len self.now ≤ N.BITS }
         ensures number { N.number result
@@ -593,6 +596,7 @@ impl<'a, R: BitRegister, O: Sequential<R>> BitSliceMut<'a, R, O> {
 
     /// The number that [`load_be`](BitSlice::load_be) of [`as_bitslice`](BitSliceMut::as_bitslice)
     /// gives. Requires no more bits than the number type has digits. Costs by words.
+    #[inline(always)]
     pub fn load_be<N: BitRegister>(&self) -> N
         requires { lent_len self.now ≤ N.BITS }
         ensures number { N.number result
@@ -610,6 +614,7 @@ impl<'a, R: BitRegister, O: Sequential<R>> BitSliceMut<'a, R, O> {
     /// Makes the bits the lowest digits of a number, one for each bit, so that
     /// [`load_le`](BitSliceMut::load_le) gives these back. Requires no more bits than the number
     /// type has digits. Costs by words.
+    #[inline(always)]
     pub fn store_le<N: BitRegister>(&mut self, value: N)
         requires { lent_len self.old ≤ N.BITS }
         ensures stored { BecomesBits self.old self.new
@@ -626,6 +631,7 @@ impl<'a, R: BitRegister, O: Sequential<R>> BitSliceMut<'a, R, O> {
     /// Makes the bits the lowest digits of a number, one for each bit, so that
     /// [`load_be`](BitSliceMut::load_be) gives these back. Requires no more bits than the number
     /// type has digits. Costs by words.
+    #[inline(always)]
     pub fn store_be<N: BitRegister>(&mut self, value: N)
         requires { lent_len self.old ≤ N.BITS }
         ensures stored { BecomesBits self.old self.new

@@ -103,6 +103,7 @@ impl<'a, R: BitRegister, O: BitOrder<R>> BitSlice<'a, R, O> {
     }
 
     /// Bit `i`, and `None` where there are no more than `i` bits. Constant time.
+    #[inline(always)]
     pub fn get(&self, i: usize) -> Option<bool>
         ensures { result ≡ slice_get (slice_bits self.now) i }
     {
@@ -114,6 +115,7 @@ impl<'a, R: BitRegister, O: BitOrder<R>> BitSlice<'a, R, O> {
     }
 
     /// Bit `i`. Requires that there is one: [`len`](BitSlice::len) is the test. Constant time.
+    #[inline(always)]
     pub fn get_unchecked(&self, i: usize) -> bool
         requires { i < slice_len self.now }
         ensures { result ≡ element (slice_bits self.now) i }

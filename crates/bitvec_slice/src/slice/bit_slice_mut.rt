@@ -149,6 +149,7 @@ impl<'a, R: BitRegister, O: BitOrder<R>> BitSliceMut<'a, R, O> {
     }
 
     /// Bit `i`, and `None` where there are no more than `i` bits. Constant time.
+    #[inline(always)]
     pub fn get(&self, i: usize) -> Option<bool>
         ensures { result ≡ slice_get (lent_bits self.now) i }
     {
@@ -156,6 +157,7 @@ impl<'a, R: BitRegister, O: BitOrder<R>> BitSliceMut<'a, R, O> {
     }
 
     /// Bit `i`. Requires that there is one: [`len`](BitSliceMut::len) is the test. Constant time.
+    #[inline(always)]
     pub fn get_unchecked(&self, i: usize) -> bool
         requires { i < lent_len self.now }
         ensures { result ≡ element (lent_bits self.now) i }
@@ -165,6 +167,7 @@ impl<'a, R: BitRegister, O: BitOrder<R>> BitSliceMut<'a, R, O> {
 
     /// Writes bit `i`. Requires that there is one: [`len`](BitSliceMut::len) is the test. Constant
     /// time.
+    #[inline(always)]
     pub fn set(&mut self, i: usize, bit: bool)
         requires { i < lent_len self.old }
         ensures { BecomesBits self.old self.new (slice_set (lent_bits self.old) i bit) }

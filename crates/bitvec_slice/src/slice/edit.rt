@@ -20,6 +20,7 @@ impl<'a, R: BitRegister, O: BitOrder<R>> BitSliceMut<'a, R, O> {
 
     /// Writes bit `i`, and returns the bit that was there. Requires that there is one:
     /// [`len`](BitSliceMut::len) is the test. Constant time.
+    #[inline(always)]
     pub fn replace(&mut self, i: usize, bit: bool) -> bool
         requires { i < lent_len self.old }
         ensures previous { result ≡ element (lent_bits self.old) i }

@@ -150,6 +150,7 @@ impl<'a, R: BitRegister, O: Sequential<R>> BitSliceMut<'a, R, O> {
     ///
     /// Requires that `from` is at most `to`, `to` at most the length, and that the part has no more
     /// bits than the number type has digits. As `store_le` of a part for writing in the Rust crate.
+    #[inline(always)]
     pub fn store_le_range<N: BitRegister>(&mut self, from: usize, to: usize, value: N)
         requires ordered { from ≤ to }
         requires inside { to ≤ lent_len self.old }
@@ -184,6 +185,7 @@ impl<'a, R: BitRegister, O: Sequential<R>> BitSliceMut<'a, R, O> {
     /// assert_eq!(rt; header[3], 0xDC);
     /// assert_eq!(rt; header[9], 6);
     /// ```
+    #[inline(always)]
     pub fn store_be_range<N: BitRegister>(&mut self, from: usize, to: usize, value: N)
         requires ordered { from ≤ to }
         requires inside { to ≤ lent_len self.old }
