@@ -1,16 +1,17 @@
 -- What a word of a span shows of the span's list. `bits` is the width of a word, and `at` takes an index to its position.
-use Rattle.std.proofs.Common.{◌≡◌, ℕ, ◌+◌, ◌-◌, ◌*◌, ◌^◌, ◌<◌, ◌≤◌, ◌&&◌, Bool, true, false, not, nat_le, nat_lt, List, refl, sym, ap, ◌∙◌, inl, inr, arith}
+use Rattle.std.proofs.Common.{◌≡◌, ℕ, ◌+◌, ◌-◌, ◌*◌, ◌^◌, ◌<◌, ◌≤◌, ◌==◌, ◌&&◌, Bool, true, false, not, nat_le, nat_lt, List, refl, sym, ap, ◌∙◌, inl, inr, arith}
 use Rattle.std.specs.Prelude.{nat_abs, slice_index, Option, Some, None, MatchOption}
 use Rattle.std.specs.Bool.{beq}
 use Rattle.std.specs.Coded.{le_prop, Π_prop}
 use mathlib.Core.Bool.{Bool-set}
-use Rattle.std.proofs.lemmas.Bool.{cases_eq, cases_lt, and_parts, leb-true, ltb-true, le-leb, lt-leb, lt-ltb, le-ltb}
+use Rattle.std.proofs.lemmas.Bool.{cases_eq, cases_lt, eqb-true, and_parts, leb-true, ltb-true, le-leb, lt-leb, lt-ltb, le-ltb}
 use Rattle.std.proofs.lemmas.Nat.{div-mul-add, mod-mul-add}
 use Rattle.bitvec.specs.Digit.{digit, exclusive_or}
 use Rattle.bitvec.specs.Memory.{bit_of}
-use Rattle.bitvec.specs.Order.{IsOneToOne, IsMaskOf}
+use Rattle.bitvec.specs.Ones.{IsLowestOne, IsWithoutLowestOne}
+use Rattle.bitvec.specs.Order.{IsOneToOne, IsMaskOf, Rises}
 use Rattle.bitvec.specs.Span.{Span, list_of, element}
-use Rattle.bitvec.proofs.DigitLemmas.{digit-zero, digit-pow_same, digit-pow_other}
+use Rattle.bitvec.proofs.DigitLemmas.{digit-zero, digit-pow, digit-pow_same, digit-pow_other}
 use Rattle.bitvec.proofs.IndexLemmas.{digit-mask_at}
 use Rattle.bitvec.proofs.MemoryLemmas.{bit_of-place}
 use Rattle.bitvec.proofs.PartLemmas.{element-list_of}
@@ -165,6 +166,23 @@ chosen_empty bits at head xs bit w small zero = record {
 or_neither : (a : Bool) → exclusive_or a false ≡ a
 or_neither true = refl
 or_neither false = refl
+
+turned_where_one : (a b : Bool) → (b ≡ true → a ≡ true) → (a && not b) ≡ exclusive_or a b
+turned_where_one true b h = refl
+turned_where_one false true h = h refl
+turned_where_one false false h = refl
+
+-- where positions rise, the lowest one is the first: without it, the word has that digit turned over
+pub turned_lowest : {bits : ℕ} {at : ℕ → ℕ} {w v i : ℕ} → Rises bits at → IsFirstIndex bits at w i → IsWithoutLowestOne bits w v
+    → (p : ℕ) → p < bits → digit v p ≡ exclusive_or (digit w p) (digit (2 ^ at i) p)
+turned_lowest {bits} {at} {w} {v} {i} rises first without p h =
+    let small = first.0 in
+    let here = rises i small in
+    let one : digit w i ≡ true = ap (digit w) (sym here) ∙ first.1 in
+    let low : IsLowestOne bits w i = (small, one, λ q lt. ap (digit w) (sym (rises q (omega (arith, lt, small)))) ∙ first.2 q lt) in
+    without.digits i low p h
+    ∙ turned_where_one (digit w p) (p == i) (λ e. ap (digit w) (eqb-true p i e) ∙ one)
+    ∙ ap (exclusive_or (digit w p)) (sym (digit-pow i p) ∙ ap (λ n. digit (2 ^ n) p) (sym here))
 
 -- with its first one turned over the word has the elements behind that one
 pub chosen_behind : {bits : ℕ} {at : ℕ → ℕ} {head : ℕ} {xs : List Bool} {k from upto : ℕ} {bit : Bool} {w : ℕ}

@@ -9,6 +9,7 @@ pub mod Iter
 pub mod Lengths
 pub mod Numbers
 pub mod Ones
+pub mod Orders
 pub mod Patterns
 pub mod PieceIters
 pub mod Pieces

@@ -2,6 +2,7 @@
 
 ghost use Rattle.std.specs.Prelude.{◌≡◌, ℕ, ◌+◌, ◌^◌, ◌<◌, ◌≤◌, MatchOption};
 ghost use Rattle.bitvec.specs.Digit.{digit, exclusive_or};
+ghost use Rattle.bitvec.specs.WordEnds.{IsFirstIndex};
 ghost use Rattle.bitvec_slice.specs.BitSlice.{slice_span, slice_len, slice_bits};
 ghost use Rattle.bitvec_slice.specs.Bits.{FindsBetween};
 ghost use Rattle.bitvec_slice.specs.Field.{stretch_end};
@@ -11,15 +12,19 @@ use crate::slice::BitSlice;
 use bitvec::index::BitIdx;
 use bitvec::mem;
 use bitvec::mem::BitRegister;
-use bitvec::order::{BitOrder, first_index};
+use bitvec::order::{BitOrder, Direction, direction_of, first_index};
 
-// The digits of a word, with that of an index turned over.
+// The digits of a word, with that of its first one, which is at an index, turned over.
 #[inline(always)]
 fn turned_at<R: BitRegister, O: BitOrder<R>>(word: R, index: u8) -> R
-    requires { index < R.BITS }
+    requires { IsFirstIndex R.BITS O.at_of (R.number word) index }
     ensures { (p : ℕ) → p < R.BITS → digit (R.number result) p
         ≡ exclusive_or (digit (R.number word) p) (digit (2 ^ O.at_of index) p) }
 {
+    if let Direction::Rises = direction_of::<R, O>() {
+        // The first one is the lowest, so the word need not wait for the index.
+        return mem::without_lowest_one(word);
+    }
     word.xor(BitIdx::<R>::new_unchecked(index).select::<O>().into_inner())
 }
 
