@@ -1,8 +1,10 @@
 //! Callers.
 
 ghost use Rattle.std.specs.Prelude.{◌≡◌, ◌<◌, ◌≤◌, ◌↔◌, IfSome, IsTrue, IsFalse, true, false};
-ghost use Rattle.std.specs.Prelude.{[], ◌∷◌, length, map, slice_set};
+ghost use Rattle.std.specs.Prelude.{[], ◌∷◌, ◌*◌, length, map, slice_set};
 ghost use Rattle.bitvec.specs.BitSpan.{span_of, list_by};
+ghost use Rattle.bitvec.specs.Memory.{memory_bits};
+ghost use Rattle.bitvec.specs.Place.{region_max_bits};
 ghost use Rattle.bitvec.specs.Span.{Fits, KeepsOthers, element, span_from};
 ghost use Rattle.bitvec.specs.Commands.{reply_number};
 ghost use Rattle.bitvec.specs.Run.{IsRun};
@@ -10,9 +12,10 @@ ghost use Rattle.bitvec.specs.declared.run.command.Command.TheVariants.{Replace}
 ghost use Rattle.bitvec.specs.declared.run.command.Reply.TheVariants.{Bit};
 ghost use Rattle.bitvec_slice.specs.BitSlice.{slice_memory, slice_span};
 ghost use Rattle.bitvec_slice.specs.BitSliceMut.{lent_memory, lent_span, lent_bits};
+ghost use Rattle.bitvec_slice.specs.Orders.{lsb0_at, msb0_at};
 
 use bitvec::mem::BitRegister;
-use bitvec::order::BitOrder;
+use bitvec::order::{BitOrder, Lsb0, Msb0};
 use bitvec::ptr::span::BitSpan;
 use bitvec::run::{Reply, Request, run};
 use bitvec_slice::slice::{BitSlice, BitSliceMut};
@@ -35,6 +38,24 @@ fn set_two<R: BitRegister, O: BitOrder<R>>(span: BitSpan<R, O>, memory: &mut [R]
     slice.set(0, true);
     slice.set(1, false);
     true
+}
+
+/// The first bit of bytes in an order that the contract names.
+fn first_from_the_highest(memory: &[u8]) -> bool
+    requires some { 0 < length memory.now }
+    requires short { length memory.now * 8 ≤ region_max_bits }
+    ensures { result ≡ element (memory_bits 8 (msb0_at 8) (map (λ n. n) memory.now)) 0 }
+{
+    BitSlice::<u8, Msb0>::all_unchecked(memory).get_unchecked(0)
+}
+
+/// The same in the other.
+fn first_from_the_lowest(memory: &[u8]) -> bool
+    requires some { 0 < length memory.now }
+    requires short { length memory.now * 8 ≤ region_max_bits }
+    ensures { result ≡ element (memory_bits 8 lsb0_at (map (λ n. n) memory.now)) 0 }
+{
+    BitSlice::<u8, Lsb0>::all_unchecked(memory).get_unchecked(0)
 }
 
 /// What an iterator has left after one bit, and `None` where it has none.
