@@ -2,7 +2,8 @@
 #![tactic(auto)]
 
 use bits_lib::answer;
-use std::env::{self, Env};
+use bits_text::arguments::arguments;
+use std::env::Env;
 use std::io;
 use std::process::ExitCode;
 
@@ -10,16 +11,11 @@ fn main(rt: HostRuntime) -> ExitCode {
     ExitCode::from(status(&rt))
 }
 
-// The exit status. Arguments that cannot be read end as out of memory does.
+// The exit status.
 fn status<R: Env + AllocGlobal + Print>(rt: &R) -> u8 {
-    let alloc = rt.alloc();
     let mut out = io::writer(rt);
-    let Ok(all) = env::args(rt) else {
-        return answer::out_of_memory(&mut out);
-    };
-    let args: Result<Vec<String>, _> = all.skip(1).collect(alloc);
-    let Ok(args) = args else {
-        return answer::out_of_memory(&mut out);
-    };
-    answer::answer(&alloc, &args, &mut out)
+    match arguments(rt) {
+        Ok(args) => answer::answer(&rt.alloc(), &args, &mut out),
+        Err(error) => answer::unread(&mut out, error),
+    }
 }

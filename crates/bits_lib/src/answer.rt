@@ -2,6 +2,7 @@
 
 ghost use Rattle.std.specs.Prelude.{◌≡◌, ◌⊎◌};
 
+use bits_text::arguments::ArgumentsError;
 use bits_text::lines::fault::Fault;
 use bits_text::lines::text;
 use std::alloc::Allocator;
@@ -22,11 +23,11 @@ fn send<W: Write>(out: &mut W, text: &str, status: u8) -> u8
     status
 }
 
-/// The answer where there is no memory: a line, and status 3.
-pub fn out_of_memory<W: Write>(out: &mut W) -> u8
+/// The answer where the arguments are not read: a line that says why, and status 3.
+pub fn unread<W: Write>(out: &mut W, error: ArgumentsError) -> u8
     ensures { (result ≡ 3) ⊎ (result ≡ 4) }
 {
-    send(out, "out of memory\n", 3)
+    send(out, error.line(), 3)
 }
 
 /// Writes the answer to the arguments, and gives the exit status.
@@ -40,6 +41,6 @@ pub fn answer<A: Allocator, W: Write>(alloc: &A, args: &[String], out: &mut W) -
         Ok(text) => send(out, text.as_str(), 0),
         Err(Fault::Usage) => send(out, USAGE, 2),
         Err(Fault::Line(line)) => send(out, line.as_str(), 2),
-        Err(Fault::OutOfMemory) => out_of_memory(out),
+        Err(Fault::OutOfMemory) => unread(out, ArgumentsError::OutOfMemory),
     }
 }

@@ -38,11 +38,21 @@ pub fn read(bits: &mut Bits<'_>) -> Result<OrderCount, SpsError> {
 // Reads the offsets of a cycle, and gives how many reference frames it has.
 fn read_cycle(bits: &mut Bits<'_>) -> Result<u32, SpsError> {
     let _is_always_zero = bits.read_bit()?;
-    let _for_others: i32 = bits.read_signed_exp_golomb()?;
-    let _from_top_to_bottom: i32 = bits.read_signed_exp_golomb()?;
+    let _for_others = offset(bits)?;
+    let _from_top_to_bottom = offset(bits)?;
     let frames = number(bits, 255)?;
     for _ in 0..frames {
-        let _for_frame: i32 = bits.read_signed_exp_golomb()?;
+        let _for_frame = offset(bits)?;
     }
     Ok(frames)
+}
+
+// The next offset: `offset_for_non_ref_pic`, `offset_for_top_to_bottom_field` and
+// `offset_for_ref_frame` are in the range of -2^31 + 1 to 2^31 - 1 (7.4.2.1.1).
+fn offset(bits: &mut Bits<'_>) -> Result<i32, SpsError> {
+    let offset = bits.read_signed_exp_golomb()?;
+    if offset == i32::MIN {
+        return Err(SpsError::Offset);
+    }
+    Ok(offset)
 }

@@ -1,4 +1,5 @@
-//! The fields of a sequence parameter set, in the order of ITU-T H.264, 7.3.2.1.1.
+//! The fields of a sequence parameter set, in the order of ITU-T H.264, 7.3.2.1.1. What a field may
+//! be is in 7.4.2.1.1.
 
 ghost use Rattle.std.specs.Prelude.{◌≤◌, IfOk};
 
@@ -111,7 +112,7 @@ fn read_fields(bits: &mut Bits<'_>) -> Result<Sps, SpsError> {
     let reference_frames = number(bits, 16)?;
     let has_gaps = bits.read_bit()?;
     let size = Macroblocks::read(bits)?;
-    let is_direct_8x8 = bits.read_bit()?;
+    let is_direct_8x8 = read_direct(bits, size)?;
     let cropping = Cropping::read(bits)?;
     let pixels = picture::pixels(chroma, size, cropping).ok_or(SpsError::Cropping)?;
     let has_more = bits.read_bit()?;
@@ -129,6 +130,16 @@ fn read_fields(bits: &mut Bits<'_>) -> Result<Sps, SpsError> {
         pixels,
         has_more,
     })
+}
+
+// Whether direct motion is told for blocks of 8 by 8. Where `frame_mbs_only_flag` is 0,
+// `direct_8x8_inference_flag` is 1 (7.4.2.1.1).
+fn read_direct(bits: &mut Bits<'_>, size: Macroblocks) -> Result<bool, SpsError> {
+    let is_direct_8x8 = bits.read_bit()?;
+    if !size.is_frames_only && !is_direct_8x8 {
+        return Err(SpsError::FieldsDirect);
+    }
+    Ok(is_direct_8x8)
 }
 
 // Whether just a one is left, and zeros behind it.

@@ -1,5 +1,6 @@
 //! What the program prints, and the status that it ends with.
 
+use bits_text::arguments::ArgumentsError;
 use bits_text::words::words_of;
 use example_sps::picture::Cropping;
 use example_sps::sps::{self, Sps};
@@ -17,9 +18,9 @@ fn send<W: Write>(out: &mut W, text: &str, status: u8) -> u8 {
     status
 }
 
-/// The answer where there is no memory: a line, and status 3.
-pub fn out_of_memory<W: Write>(out: &mut W) -> u8 {
-    send(out, "out of memory\n", 3)
+/// The answer where the arguments are not read: a line that says why, and status 3.
+pub fn unread<W: Write>(out: &mut W, error: ArgumentsError) -> u8 {
+    send(out, error.line(), 3)
 }
 
 /// Writes the answer to the arguments, and gives the exit status: 0 where each set is read, 2 where
@@ -30,7 +31,7 @@ pub fn answer<A: Allocator, W: Write>(alloc: &A, args: &[String], out: &mut W) -
         Ok(Some(true)) => send(out, text.as_str(), 0),
         Ok(Some(false)) => send(out, text.as_str(), 2),
         Ok(None) => send(out, USAGE, 2),
-        Err(_) => out_of_memory(out),
+        Err(_) => unread(out, ArgumentsError::OutOfMemory),
     }
 }
 

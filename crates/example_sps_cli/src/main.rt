@@ -7,18 +7,20 @@
 
 mod answer;
 
-use crate::answer::answer;
+use bits_text::arguments::arguments;
+use std::env::Env;
+use std::io;
 use std::process::ExitCode;
-use std::{env, io};
 
 fn main(rt: HostRuntime) -> ExitCode {
-    let mut out = io::writer(&rt);
-    let Ok(args) = env::args(&rt) else {
-        return ExitCode::from(answer::out_of_memory(&mut out));
-    };
-    let args: Result<Vec<String>, _> = args.skip(1).collect(rt.alloc());
-    let Ok(args) = args else {
-        return ExitCode::from(answer::out_of_memory(&mut out));
-    };
-    ExitCode::from(answer(&rt.alloc(), &args, &mut out))
+    ExitCode::from(status(&rt))
+}
+
+// The exit status.
+fn status<R: Env + AllocGlobal + Print>(rt: &R) -> u8 {
+    let mut out = io::writer(rt);
+    match arguments(rt) {
+        Ok(args) => answer::answer(&rt.alloc(), &args, &mut out),
+        Err(error) => answer::unread(&mut out, error),
+    }
 }

@@ -8,11 +8,12 @@
 mod command;
 
 use crate::command::Command;
+use bits_text::arguments::{ArgumentsError, arguments};
 use bits_text::number::place;
 use bitvec::order::Lsb0;
 use freemap::FreeMap;
 use freemap::map::has_room;
-use std::env::{self, Env};
+use std::env::Env;
 use std::io;
 use std::process::ExitCode;
 
@@ -23,15 +24,11 @@ fn main(rt: HostRuntime) -> ExitCode {
     ExitCode::from(status(&rt).unwrap_or(4))
 }
 
-// The exit status: 0 after answers, 2 where a word is ill-formed, and 3 where the words cannot be
-// read.
+// The exit status: 0 after answers, 2 where a word is ill-formed, and 3 where the words are not read.
 fn status<R: Env + AllocGlobal + Print>(rt: &R) -> io::Result<u8> {
-    let Ok(all) = env::args(rt) else {
-        return unread(rt);
-    };
-    let words: Result<Vec<String>, _> = all.skip(1).collect(rt.alloc());
-    let Ok(words) = words else {
-        return unread(rt);
+    let words = match arguments(rt) {
+        Ok(words) => words,
+        Err(error) => return unread(rt, error),
     };
     let [blocks, commands @ ..] = words.as_slice() else {
         println!(rt; "usage: freemap BLOCKS COMMAND..")?;
@@ -56,9 +53,10 @@ fn status<R: Env + AllocGlobal + Print>(rt: &R) -> io::Result<u8> {
     Ok(0)
 }
 
-// Says that the words cannot be read.
-fn unread(rt: &impl Print) -> io::Result<u8> {
-    println!(rt; "the words cannot be read")?;
+// Says why the words are not read.
+fn unread(rt: &impl Print, error: ArgumentsError) -> io::Result<u8> {
+    let line = error.line();
+    print!(rt; "{line}")?;
     Ok(3)
 }
 

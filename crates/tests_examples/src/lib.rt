@@ -15,4 +15,6 @@ mod seats;
 #[cfg(test)]
 mod sps;
 #[cfg(test)]
+mod sps_x264;
+#[cfg(test)]
 mod two_spans;

@@ -121,3 +121,42 @@ fn a_set_with_a_cycle(rt: HostRuntime) -> Result<(), Fail> {
     assert_eq!(rt; sps.pixels, (16, 16));
     Ok(())
 }
+
+// Profile 66, and then of a set with a cycle: 1 set 0; 1 frame numbers of 4 digits; 010 order counts
+// of type 1; 0; the two offsets and the cycle that a test names; 1 no reference frame; 0 no gaps; 1 1
+// one macroblock; 1 1; 0 0; the stop bit 1, and zeros. An offset of -2^31 is the number 2^32, of 32
+// zeros, a one, 31 zeros and a one; one of -2^31 + 1 is the number 2^32 - 2, of 31 zeros and 32 ones.
+#[test]
+fn an_offset_is_not_the_least_number(rt: HostRuntime) {
+    // `offset_for_non_ref_pic`
+    let first = [
+        0x42, 0x00, 0x1E, 0xD0, 0x00, 0x00, 0x00, 0x02, 0x00, 0x00, 0x00, 0x03, 0xDE, 0x40,
+    ];
+    assert!(rt; sps::read(&first) == Err(SpsError::Offset));
+    // `offset_for_top_to_bottom_field`
+    let second = [
+        0x42, 0x00, 0x1E, 0xD2, 0x00, 0x00, 0x00, 0x01, 0x00, 0x00, 0x00, 0x01, 0xDE, 0x40,
+    ];
+    assert!(rt; sps::read(&second) == Err(SpsError::Offset));
+    // `offset_for_ref_frame`, of a cycle of one frame
+    let third = [
+        0x42, 0x00, 0x1E, 0xD3, 0x40, 0x00, 0x00, 0x00, 0x10, 0x00, 0x00, 0x00, 0x1B, 0xC8,
+    ];
+    assert!(rt; sps::read(&third) == Err(SpsError::Offset));
+}
+
+// The same, with the offset -2^31 + 1 as the first, and as the last of a cycle of two frames.
+#[test]
+fn an_offset_is_the_one_behind_it(rt: HostRuntime) -> Result<(), Fail> {
+    let first = [
+        0x42, 0x00, 0x1E, 0xD0, 0x00, 0x00, 0x00, 0x07, 0xFF, 0xFF, 0xFF, 0xFF, 0x79,
+    ];
+    let sps = sps::read(&first).ok().ok_or("not read")?;
+    assert_eq!(rt; sps.order_count, OrderCount::Cycle(0));
+    let last = [
+        0x42, 0x00, 0x1E, 0xD3, 0x70, 0x00, 0x00, 0x00, 0x1F, 0xFF, 0xFF, 0xFF, 0xF7, 0x90,
+    ];
+    let sps = sps::read(&last).ok().ok_or("not read")?;
+    assert_eq!(rt; sps.order_count, OrderCount::Cycle(2));
+    Ok(())
+}

@@ -8,8 +8,8 @@ use std::path::PathBuf;
 /// What a program is run in.
 #[derive(Default)]
 pub struct World {
-    /// Its words, without its name.
-    pub args: Vec<String>,
+    /// Its words, without its name, as bytes.
+    pub args: Vec<Vec<u8>>,
     /// Where its files lie.
     pub folder: PathBuf,
     /// What it printed.
@@ -100,10 +100,11 @@ pub mod env {
     /// What may read them.
     pub trait Env {}
 
-    /// The program's name, and its words. (Rattle's answers a `Result`.)
-    #[allow(clippy::unnecessary_wraps)]
+    /// The program's name, and its words. As in Rattle, one that is not UTF-8 is an error.
     pub fn args<R>(_: &R) -> std::io::Result<impl Iterator<Item = String>> {
         let words = super::WORLD.with_borrow(|world| world.args.clone());
+        let words: Result<Vec<_>, _> = words.into_iter().map(std::string::String::from_utf8).collect();
+        let words = words.map_err(|_| std::io::ErrorKind::InvalidData)?;
         Ok(["program".to_owned()]
             .into_iter()
             .chain(words)
