@@ -112,7 +112,7 @@ fn copy_across<
         to,
         count,
     };
-    if let Mode::Time(_) = mode {
+    if mode != Mode::Compare {
         return time(rt, name, units, &mut job);
     }
     job.go();
@@ -141,7 +141,7 @@ fn copy_within<O: BitOrder<u64> + Formula>(
         to,
         count,
     };
-    if let Mode::Time(_) = mode {
+    if mode != Mode::Compare {
         return time(rt, name, units(count), &mut job);
     }
     job.go();

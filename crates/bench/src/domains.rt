@@ -123,7 +123,7 @@ fn passes(rt: HostRuntime, mode: Mode, span: BitSpan<u64, Lsb0>) -> io::Result<(
     let sum = 0;
     let mut pass = Pass { span, words, sum };
     let mut body = PassBody { span, words, sum };
-    if let Mode::Time(_) = mode {
+    if mode != Mode::Compare {
         time(rt, whole, units, &mut pass)?;
         return time(rt, inside, units, &mut body);
     }
@@ -152,7 +152,7 @@ fn fill_all(rt: HostRuntime, mode: Mode, span: BitSpan<u64, Lsb0>) -> io::Result
         kind: "",
         unit: "word",
     };
-    if let Mode::Time(_) = mode {
+    if mode != Mode::Compare {
         return time(rt, name, mode.units(), &mut job);
     }
     job.go();

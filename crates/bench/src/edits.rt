@@ -79,7 +79,7 @@ fn edit_most<O: BitOrder<u64> + Formula>(
     }
     let slice = BitSliceMut::new_unchecked(span, &mut memory);
     let mut job = Editing { slice, edit };
-    if let Mode::Time(_) = mode {
+    if mode != Mode::Compare {
         return time(rt, name, mode.units(), &mut job);
     }
     job.go();

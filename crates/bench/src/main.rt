@@ -3,14 +3,14 @@
 //! With no argument it copies, runs, fills and searches a few thousand words, lets vectors grow,
 //! and hands out blocks of free maps, compares each memory or answer with what a plain loop makes,
 //! and prints a line for each that agrees. With the argument `time` it prints a name, a unit and
-//! the nanoseconds of one for each job; with `grow` it does so three times, each time with memories
-//! four times as large, so that what grows faster than its input shows; free maps have as many
-//! blocks each time.
+//! the nanoseconds of one for each job. With `grow` it does so for memories of 1024, 65536, 4194304
+//! and 67108864 bits, each behind a line that says so: what grows faster than its input shows.
 #![tactic(auto)]
 
 mod copies;
 mod domains;
 mod edits;
+mod loads;
 mod maps;
 mod places;
 mod runs;
@@ -26,14 +26,21 @@ use std::{env, io};
 
 fn main(rt: HostRuntime) -> io::Result<()> {
     match env::args(&rt)?.nth(1) {
-        Some(word) if word.as_str() == "time" => jobs(rt, Mode::Time(Size::Large)),
+        Some(word) if word.as_str() == "time" => jobs(rt, Mode::Time),
         Some(word) if word.as_str() == "grow" => {
-            jobs(rt, Mode::Time(Size::Small))?;
-            jobs(rt, Mode::Time(Size::Middle))?;
-            jobs(rt, Mode::Time(Size::Large))
+            grow(rt, Size::Bits10)?;
+            grow(rt, Size::Bits16)?;
+            grow(rt, Size::Bits22)?;
+            grow(rt, Size::Bits26)
         }
         _ => jobs(rt, Mode::Compare),
     }
+}
+
+// All jobs at a size, which it says first.
+fn grow(rt: HostRuntime, size: Size) -> io::Result<()> {
+    println!(rt; "bits {}", size.words() * 64)?;
+    jobs(rt, Mode::Grow(size))
 }
 
 // All jobs.
@@ -45,6 +52,7 @@ fn jobs(rt: HostRuntime, mode: Mode) -> io::Result<()> {
     slices::slices(rt, mode)?;
     edits::edits(rt, mode)?;
     places::all_acts(rt, mode)?;
+    loads::loads(rt, mode)?;
     streams::streams(rt, mode)?;
     vectors::vectors(rt, mode)?;
     maps::maps(rt, mode)

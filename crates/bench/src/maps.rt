@@ -1,4 +1,5 @@
-//! Blocks that maps of 1048576 blocks hand out and take back, beside a list of truth values.
+//! Blocks that maps of 1048576 blocks, or of as many as the memories have bits as they grow, hand
+//! out and take back, beside a list of truth values.
 
 ghost use Rattle.std.specs.Prelude.{⊤};
 
@@ -10,10 +11,16 @@ use freemap::{FreeMap, LeveledMap, TwoLevels, two_levels};
 use std::alloc::AllocError;
 use std::io;
 
-// How many blocks a map has, and in how many words.
-const BLOCKS: usize = 1_048_576;
-
-const WORDS: usize = 16384;
+// In how many words a map's blocks lie: a power of two.
+fn words_of(mode: Mode) -> usize
+    ensures some { 16 ≤ result }
+    ensures few { result ≤ 1048576 }
+{
+    match mode {
+        Mode::Compare | Mode::Time => 16384,
+        Mode::Grow(size) => size.words(),
+    }
+}
 
 // How many ranges a history has room for.
 const SLOTS: usize = 4096;
@@ -191,8 +198,8 @@ enum Task {
     Run(usize),
     // So many blocks from block 3 on are.
     Long(usize),
-    // So many calls of each kind, in no order.
-    Calls(u32),
+    // So many calls of each kind, in no order, on blocks whose numbers have only digits of another.
+    Calls(u32, usize),
 }
 
 // Hands out blocks one by one, and takes them back.
@@ -244,7 +251,12 @@ fn call<M: Blocks>(map: &mut M, range: (usize, usize), draw: usize) -> (usize, u
 
 // So many calls, and all ranges taken back at the end.
 #[inline(always)]
-fn history<M: Blocks>(map: &mut M, live: &mut [(usize, usize)], calls: u32) -> usize {
+fn history<M: Blocks>(
+    map: &mut M,
+    live: &mut [(usize, usize)],
+    calls: u32,
+    digits: usize,
+) -> usize {
     let mut word: u64 = 1;
     let mut sum: usize = 0;
     for _ in 0..calls {
@@ -252,7 +264,7 @@ fn history<M: Blocks>(map: &mut M, live: &mut [(usize, usize)], calls: u32) -> u
             .wrapping_mul(6364136223846793005)
             .wrapping_add(1442695040888963407);
         if let Some(range) = live.get_mut((word >> 48) as usize % SLOTS) {
-            *range = call(map, *range, (word >> 20) as usize % BLOCKS);
+            *range = call(map, *range, (word >> 20) as usize & digits);
             sum = sum.wrapping_mul(31).wrapping_add(range.0);
         }
     }
@@ -268,7 +280,7 @@ fn answer<M: Blocks>(map: &mut M, live: &mut [(usize, usize)], task: Task) -> us
         Task::Many(count) => many(map, live, count),
         Task::Run(count) => map.run(count).unwrap_or(0),
         Task::Long(count) => map.these(3, count).unwrap_or(0),
-        Task::Calls(calls) => history(map, live, calls),
+        Task::Calls(calls, digits) => history(map, live, calls, digits),
     }
 }
 
@@ -317,9 +329,12 @@ fn shows(words: &[u64], used: &[bool]) -> bool {
     })
 }
 
-// A truth value for each bit of a memory.
-fn truths(rt: HostRuntime, words: &[u64]) -> Result<Vec<bool>, AllocError> {
+// A truth value for each bit of a memory that is compared; none of one that is timed.
+fn truths(rt: HostRuntime, mode: Mode, words: &[u64]) -> Result<Vec<bool>, AllocError> {
     let mut used = Vec::new(rt.alloc());
+    if mode != Mode::Compare {
+        return Ok(used);
+    }
     for word in words {
         for bit in 0..64u32 {
             used.push(*word >> bit & 1 == 1)?;
@@ -353,10 +368,11 @@ fn with_levels(
     task: Task,
     mut words: Vec<u64>,
 ) -> io::Result<()> {
-    let mut used = truths(rt, &words)?;
+    let blocks = words.len().saturating_mul(64);
+    let mut used = truths(rt, mode, &words)?;
     let mut live = vec![in rt.alloc(); (0, 0); SLOTS]?;
-    let mut summary = vec![in rt.alloc(); 0; summary_words_for(BLOCKS)]?;
-    let Some(map) = map_of(&mut words, &mut summary, BLOCKS) else {
+    let mut summary = vec![in rt.alloc(); 0; summary_words_for(blocks)]?;
+    let Some(map) = map_of(&mut words, &mut summary, blocks) else {
         return Ok(());
     };
     if units == 0 {
@@ -368,7 +384,7 @@ fn with_levels(
         task,
         answer: 0,
     };
-    if let Mode::Time(_) = mode {
+    if mode != Mode::Compare {
         return time(rt, name, units, &mut job);
     }
     job.go();
@@ -382,13 +398,14 @@ fn with_levels(
 
 // Hands out one block of a map without levels, and compares or times.
 fn without_levels(rt: HostRuntime, mode: Mode, name: Name, mut words: Vec<u64>) -> io::Result<()> {
-    let mut used = truths(rt, &words)?;
-    if !has_room(words.len(), BLOCKS) {
+    let blocks = words.len().saturating_mul(64);
+    let mut used = truths(rt, mode, &words)?;
+    if !has_room(words.len(), blocks) {
         return Ok(());
     }
-    let map = FreeMap::from_words_unchecked(&mut words, BLOCKS);
+    let map = FreeMap::from_words_unchecked(&mut words, blocks);
     let mut job = Scanned { map, answer: 0 };
-    if let Mode::Time(_) = mode {
+    if mode != Mode::Compare {
         return time(rt, name, 1, &mut job);
     }
     job.go();
@@ -401,8 +418,8 @@ fn without_levels(rt: HostRuntime, mode: Mode, name: Name, mut words: Vec<u64>) 
 }
 
 // Words of which each is the same, but for the last.
-fn uniform(rt: HostRuntime, word: u64, last: u64) -> Result<Vec<u64>, AllocError> {
-    let mut words = vec![in rt.alloc(); word; WORDS]?;
+fn uniform(rt: HostRuntime, count: usize, word: u64, last: u64) -> Result<Vec<u64>, AllocError> {
+    let mut words = vec![in rt.alloc(); word; count]?;
     if let Some(place) = words.last_mut() {
         *place = last;
     }
@@ -410,10 +427,10 @@ fn uniform(rt: HostRuntime, word: u64, last: u64) -> Result<Vec<u64>, AllocError
 }
 
 // Words with no eight zeros in a row but in the last one.
-fn fragmented(rt: HostRuntime) -> Result<Vec<u64>, AllocError> {
+fn fragmented(rt: HostRuntime, count: usize) -> Result<Vec<u64>, AllocError> {
     let mut words = Vec::new(rt.alloc());
     let mut word: u64 = 1;
-    for _ in 1..WORDS {
+    for _ in 1..count {
         word = word
             .wrapping_mul(6364136223846793005)
             .wrapping_add(1442695040888963407);
@@ -430,57 +447,30 @@ pub fn maps(rt: HostRuntime, mode: Mode) -> io::Result<()> {
         kind,
         unit,
     };
-    let full = || uniform(rt, u64::MAX, u64::MAX >> 1);
-    let (calls, many) = match mode {
-        Mode::Compare => (4000, 512),
-        Mode::Time(_) => (1_000_000, 4096),
+    let count = words_of(mode);
+    let even = |word| uniform(rt, count, word, word);
+    let full = || uniform(rt, count, u64::MAX, u64::MAX >> 1);
+    let many = if mode == Mode::Compare {
+        512
+    } else {
+        (count * 32).min(SLOTS)
     };
-    let words = full()?;
-    with_levels(rt, mode, name("alloc-last", "block"), 1, Task::One, words)?;
+    with_levels(rt, mode, name("alloc-last", "block"), 1, Task::One, full()?)?;
     without_levels(rt, mode, name("alloc-last-scan", "block"), full()?)?;
-    let words = uniform(rt, 0, 0)?;
-    with_levels(
-        rt,
-        mode,
-        name("alloc-empty", "block"),
-        many as u32,
-        Task::Many(many),
-        words,
-    )?;
-    let words = uniform(rt, 0x5555_5555_5555_5555, 0x5555_5555_5555_5555)?;
-    with_levels(
-        rt,
-        mode,
-        name("alloc-half", "block"),
-        many as u32,
-        Task::Many(many),
-        words,
-    )?;
-    let words = fragmented(rt)?;
-    with_levels(
-        rt,
-        mode,
-        name("run-8", "word"),
-        WORDS as u32,
-        Task::Run(8),
-        words,
-    )?;
-    let words = uniform(rt, 0, 0)?;
-    with_levels(
-        rt,
-        mode,
-        name("free-long", "word"),
-        WORDS as u32,
-        Task::Long(BLOCKS - 7),
-        words,
-    )?;
-    let words = uniform(rt, 0, 0)?;
-    with_levels(
-        rt,
-        mode,
-        name("history", "call"),
-        calls,
-        Task::Calls(calls),
-        words,
-    )
+    let (some, task) = (many as u32, Task::Many(many));
+    let half = even(0x5555_5555_5555_5555)?;
+    with_levels(rt, mode, name("alloc-empty", "block"), some, task, even(0)?)?;
+    with_levels(rt, mode, name("alloc-half", "block"), some, task, half)?;
+    let units = count as u32;
+    let words = fragmented(rt, count)?;
+    with_levels(rt, mode, name("run-8", "word"), units, Task::Run(8), words)?;
+    let task = Task::Long(count * 64 - 7);
+    with_levels(rt, mode, name("free-long", "word"), units, task, even(0)?)?;
+    let calls = if mode == Mode::Compare {
+        4000
+    } else {
+        1_000_000
+    };
+    let task = Task::Calls(calls, count * 64 - 1);
+    with_levels(rt, mode, name("history", "call"), calls, task, even(0)?)
 }

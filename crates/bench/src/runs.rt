@@ -4,7 +4,7 @@ ghost use Rattle.std.specs.Prelude.{◌≡◌, ◌<◌, length};
 ghost use Rattle.bitvec.specs.BitSpan.{span_of};
 ghost use Rattle.bitvec.specs.Run.{CanRun};
 
-use crate::timer::{Job, Mode, Name, Size, tell, time};
+use crate::timer::{Job, Mode, Name, tell, time};
 use crate::words::words;
 use bitvec::index::BitIdx;
 use bitvec::order::Lsb0;
@@ -74,10 +74,10 @@ impl Job for TestInRoom<'_, '_> {
 }
 
 // Spans of ten bits, one behind the other.
-fn rising(rt: HostRuntime, count: u16) -> Result<Vec<BitSpan<u64, Lsb0>>, AllocError> {
+fn rising(rt: HostRuntime, count: u32) -> Result<Vec<BitSpan<u64, Lsb0>>, AllocError> {
     let mut spans = Vec::new(rt.alloc());
     for n in 0..count {
-        let place = usize::from(n) * 10;
+        let place = (n as usize).saturating_mul(10);
         let head = BitIdx::new_unchecked((place % 64) as u8);
         if let Ok(span) = BitSpan::new((place / 64) as isize, head, 10) {
             spans.push(span)?;
@@ -87,7 +87,7 @@ fn rising(rt: HostRuntime, count: u16) -> Result<Vec<BitSpan<u64, Lsb0>>, AllocE
 }
 
 // Stores into some spans, in no order.
-fn stores(rt: HostRuntime, count: u32, spans: u16) -> Result<Vec<Request<u64>>, AllocError>
+fn stores(rt: HostRuntime, count: u32, spans: u32) -> Result<Vec<Request<u64>>, AllocError>
     requires { 0 < spans }
 {
     let mut requests = Vec::new(rt.alloc());
@@ -100,7 +100,7 @@ fn stores(rt: HostRuntime, count: u32, spans: u16) -> Result<Vec<Request<u64>>, 
 }
 
 // Fills of stretches of spans of ten bits, in no order.
-fn fills(rt: HostRuntime, count: u32, spans: u16) -> Result<Vec<Request<u64>>, AllocError>
+fn fills(rt: HostRuntime, count: u32, spans: u32) -> Result<Vec<Request<u64>>, AllocError>
     requires { 0 < spans }
 {
     let mut requests = Vec::new(rt.alloc());
@@ -178,15 +178,14 @@ fn is_run(
 }
 
 // How many spans and requests a run has.
-fn counts(mode: Mode) -> (u16, u32)
+fn counts(mode: Mode) -> (u32, u32)
     ensures spans { 0 < result.0 }
     ensures requests { 0 < result.1 }
 {
     match mode {
         Mode::Compare => (200, 4000),
-        Mode::Time(Size::Small) => (500, 62_500),
-        Mode::Time(Size::Middle) => (1000, 250_000),
-        Mode::Time(Size::Large) => (2000, 1_000_000),
+        Mode::Time => (2000, 1_000_000),
+        Mode::Grow(_) => (mode.units(), mode.units()),
     }
 }
 
@@ -211,7 +210,7 @@ fn run_all(rt: HostRuntime, mode: Mode, kind: &str, requests: &[Request<u64>]) -
         kind,
         unit: "request",
     };
-    if let Mode::Time(_) = mode {
+    if mode != Mode::Compare {
         return time(rt, name, count, &mut job);
     }
     job.go();
@@ -221,7 +220,7 @@ fn run_all(rt: HostRuntime, mode: Mode, kind: &str, requests: &[Request<u64>]) -
 
 // Whether the test passes spans of ten bits one behind the other, in either direction, and not
 // where one of them stands twice.
-fn is_right(rt: HostRuntime, count: u16, words: usize) -> Result<bool, AllocError> {
+fn is_right(rt: HostRuntime, count: u32, words: usize) -> Result<bool, AllocError> {
     let mut spans = rising(rt, count)?;
     let rises = can_run(&spans, words);
     spans.reverse();
@@ -233,7 +232,7 @@ fn is_right(rt: HostRuntime, count: u16, words: usize) -> Result<bool, AllocErro
     Ok(rises && falls && !can_run(&spans, words))
 }
 
-fn test_spans(rt: HostRuntime, mode: Mode, kind: &str, count: u16) -> io::Result<()>
+fn test_spans(rt: HostRuntime, mode: Mode, kind: &str, count: u32) -> io::Result<()>
     requires { 0 < count }
 {
     let name = Name {
@@ -251,7 +250,7 @@ fn test_spans(rt: HostRuntime, mode: Mode, kind: &str, count: u16) -> io::Result
         words: mode.words(),
         passed: 0,
     };
-    time(rt, name, u32::from(count), &mut job)
+    time(rt, name, count, &mut job)
 }
 
 // How the places of spans follow one another.
@@ -264,7 +263,7 @@ enum Order {
 // Spans of ten bits, in another order than that of their places.
 fn in_order(
     rt: HostRuntime,
-    count: u16,
+    count: u32,
     order: Order,
 ) -> Result<Vec<BitSpan<u64, Lsb0>>, AllocError> {
     let rising = rising(rt, count)?;
@@ -282,9 +281,9 @@ fn in_order(
 // The test of spans in no order: it passes them, and not where one of them stands twice.
 fn test_in_room(rt: HostRuntime, mode: Mode, kind: &str, order: Order) -> io::Result<()> {
     let count = match mode {
-        Mode::Compare | Mode::Time(Size::Small) => 1000,
-        Mode::Time(Size::Middle) => 4000,
-        Mode::Time(Size::Large) => 16000,
+        Mode::Compare => 1000,
+        Mode::Time => 16000,
+        Mode::Grow(_) => mode.units(),
     };
     let mut spans = in_order(rt, count, order)?;
     let mut room = vec![in rt.alloc(); 0; spans.len()]?;
@@ -302,8 +301,8 @@ fn test_in_room(rt: HostRuntime, mode: Mode, kind: &str, order: Order) -> io::Re
         kind,
         unit: "span",
     };
-    if let Mode::Time(_) = mode {
-        return time(rt, name, u32::from(count), &mut job);
+    if mode != Mode::Compare {
+        return time(rt, name, count, &mut job);
     }
     job.go();
     let passes = job.passed == 1;
@@ -313,13 +312,18 @@ fn test_in_room(rt: HostRuntime, mode: Mode, kind: &str, order: Order) -> io::Re
     tell(rt, name, passes && !can_run(&spans, mode.words()))
 }
 
-/// The run, and the test of its spans.
+/// The run, and the test of its spans; as memories grow there are as many spans and requests as
+/// words.
 pub fn runs(rt: HostRuntime, mode: Mode) -> io::Result<()> {
     let (spans, count) = counts(mode);
     run_all(rt, mode, "store", &stores(rt, count, spans)?)?;
     run_all(rt, mode, "fill", &fills(rt, count, spans)?)?;
-    test_spans(rt, mode, "2000", 2000)?;
-    test_spans(rt, mode, "4000", 4000)?;
+    if let Mode::Grow(_) = mode {
+        test_spans(rt, mode, "rising", mode.units())?;
+    } else {
+        test_spans(rt, mode, "2000", 2000)?;
+        test_spans(rt, mode, "4000", 4000)?;
+    }
     test_in_room(rt, mode, "falling", Order::Falling)?;
     test_in_room(rt, mode, "shuffled", Order::Shuffled)
 }

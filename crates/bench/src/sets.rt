@@ -131,7 +131,7 @@ fn combine_across<C: Combine + Bits, O: BitOrder<u64> + Formula, O2: BitOrder<u6
         count,
         of: PhantomData,
     };
-    if let Mode::Time(_) = mode {
+    if mode != Mode::Compare {
         return time(rt, name, units, &mut job);
     }
     job.go();
@@ -159,7 +159,7 @@ fn combine_within<C: Combine + Bits, O: BitOrder<u64> + Formula>(
         count,
         of: PhantomData,
     };
-    if let Mode::Time(_) = mode {
+    if mode != Mode::Compare {
         return time(rt, name, mode.units(), &mut job);
     }
     job.go();

@@ -36,6 +36,12 @@ enum Ask {
     Both,
     // Which of this slice and another comes first: 0, 1 where neither does, or 2.
     Compare,
+    // The sum of the indices of the ones, each sought from behind the one before it.
+    Next,
+    // The sum of the indices of the ones that are no ones of another slice.
+    Without,
+    // How many bits are one here or in another slice.
+    Either,
 }
 
 // The sum of the indices of a slice's ones.
@@ -45,6 +51,44 @@ fn sum_of_ones<O: BitOrder<u64>>(slice: &BitSlice<'_, u64, O>) -> usize {
         sum = sum.wrapping_add(i);
     }
     sum
+}
+
+// The sum of the indices of a slice's ones, each sought from behind the one before it.
+fn sum_by_next<O: BitOrder<u64>>(slice: &BitSlice<'_, u64, O>) -> usize {
+    let (mut sum, mut from) = (0usize, 0usize);
+    for _ in 0..slice.len() {
+        let Some(i) = slice.next_one(from) else {
+            return sum;
+        };
+        sum = sum.wrapping_add(i);
+        from = i.wrapping_add(1);
+    }
+    sum
+}
+
+// The sum of the indices of a slice's ones that are no ones of another.
+fn sum_without<O: BitOrder<u64>>(
+    slice: &BitSlice<'_, u64, O>,
+    other: &BitSlice<'_, u64, O>,
+) -> usize {
+    let mut sum: usize = 0;
+    for i in slice.iter_ones() {
+        if let Some(false) = other.get(i) {
+            sum = sum.wrapping_add(i);
+        }
+    }
+    sum
+}
+
+// How many bits are one in a slice or in another.
+fn count_either<O: BitOrder<u64>>(
+    slice: &BitSlice<'_, u64, O>,
+    other: &BitSlice<'_, u64, O>,
+) -> usize
+    requires { slice_len other.now ≡ slice_len slice.now }
+{
+    let all = slice.count_ones().saturating_add(other.count_ones());
+    all.saturating_sub(slice.count_and(other))
 }
 
 // How many bits of a slice are one, each taken in turn.
@@ -93,6 +137,9 @@ impl<O: BitOrder<u64>> Job for Reading<'_, O> {
             Ask::Subset => usize::from(self.slice.is_subset(&self.other)),
             Ask::Both => self.slice.count_and(&self.other),
             Ask::Compare => place_of(self.slice.compare(&self.other)),
+            Ask::Next => sum_by_next(&self.slice),
+            Ask::Without => sum_without(&self.slice, &self.other),
+            Ask::Either => count_either(&self.slice, &self.other),
         };
     }
 }
@@ -151,7 +198,13 @@ impl Pair<'_> {
             Ask::Ones | Ask::Bits => ones.count(),
             Ask::First => ones.next().unwrap_or(0),
             Ask::Last => ones.last().unwrap_or(0),
-            Ask::Sum => ones.fold(0, |sum: usize, i| sum.wrapping_add(i)),
+            Ask::Sum | Ask::Next => ones.fold(0, |sum: usize, i| sum.wrapping_add(i)),
+            Ask::Without => ones
+                .filter(|i| !self.other_bit::<F>(*i))
+                .fold(0, |sum: usize, i| sum.wrapping_add(i)),
+            Ask::Either => (0..self.len)
+                .filter(|i| self.bit::<F>(*i) || self.other_bit::<F>(*i))
+                .count(),
             Ask::Zeros(count) => self.zeros::<F>(count),
             Ask::Equal => {
                 usize::from((0..self.len).all(|i| self.bit::<F>(i) == self.other_bit::<F>(i)))
@@ -186,7 +239,7 @@ fn read<O: BitOrder<u64> + Formula>(
         ask,
         answer: 0,
     };
-    if let Mode::Time(_) = mode {
+    if mode != Mode::Compare {
         return time(rt, name, mode.units(), &mut job);
     }
     job.go();
@@ -222,6 +275,11 @@ fn one_bit(rt: HostRuntime, count: usize, at: usize) -> Result<Vec<u64>, AllocEr
         *word = 1 << 31;
     }
     Ok(memory)
+}
+
+// The words of a memory, the last first.
+fn turned(rt: HostRuntime, words: &[u64]) -> Result<Vec<u64>, AllocError> {
+    words.iter().rev().copied().collect(rt.alloc())
 }
 
 // The words of a memory with bits of another from a place on, moved to another place.
@@ -263,8 +321,10 @@ fn finds<O: BitOrder<u64> + Formula>(rt: HostRuntime, mode: Mode, kind: &str) ->
     read::<O>(rt, mode, name("last-one-"), Ask::Last, most(&memory))?;
     let memory = sparse(rt, count, 0)?;
     read::<O>(rt, mode, name("ones-64th-"), Ask::Sum, most(&memory))?;
+    read::<O>(rt, mode, name("next-64th-"), Ask::Next, most(&memory))?;
     let memory = sparse(rt, count, 64)?;
     read::<O>(rt, mode, name("ones-4096th-"), Ask::Sum, most(&memory))?;
+    read::<O>(rt, mode, name("next-4096th-"), Ask::Next, most(&memory))?;
     let memory = crowded(rt, count, 0x0101_0101_0101_0101)?;
     read::<O>(
         rt,
@@ -298,6 +358,7 @@ fn one_order<O: BitOrder<u64> + Formula>(
     let whole = most(words);
     read::<O>(rt, mode, name("count-ones-"), Ask::Ones, whole)?;
     read::<O>(rt, mode, name("ones-half-"), Ask::Sum, whole)?;
+    read::<O>(rt, mode, name("next-half-"), Ask::Next, whole)?;
     read::<O>(rt, mode, name("iter-bits-"), Ask::Bits, whole)?;
     let copy = crate::words::words(rt, words.len())?;
     let other = copy.as_slice();
@@ -305,6 +366,11 @@ fn one_order<O: BitOrder<u64> + Formula>(
     read::<O>(rt, mode, name("equal-"), Ask::Equal, aligned)?;
     read::<O>(rt, mode, name("subset-aligned-"), Ask::Subset, aligned)?;
     read::<O>(rt, mode, name("count-and-aligned-"), Ask::Both, aligned)?;
+    let copy = turned(rt, words)?;
+    let other = copy.as_slice();
+    let unlike = Pair { other, ..whole };
+    read::<O>(rt, mode, name("without-walked-"), Ask::Without, unlike)?;
+    read::<O>(rt, mode, name("either-counted-"), Ask::Either, unlike)?;
     let len = words.len().saturating_sub(1).saturating_mul(64);
     let shifted = Pair {
         beside: 14,

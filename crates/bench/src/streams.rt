@@ -252,7 +252,7 @@ fn act_on_all<O: Sequential<u64> + Formula>(
         act,
         sum: 0,
     };
-    if let Mode::Time(_) = mode {
+    if mode != Mode::Compare {
         return time(rt, name, mode.units(), &mut job);
     }
     job.go();

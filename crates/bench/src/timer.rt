@@ -5,12 +5,28 @@ ghost use Rattle.std.specs.Prelude.{◌<◌, ◌≤◌};
 use std::io;
 use std::time::{Clock, Instant};
 
-/// How large the memories are.
+/// How many bits the memories have, as a power of two.
 #[derive(Clone, Copy, PartialEq, Eq)]
 pub enum Size {
-    Small,
-    Middle,
-    Large,
+    Bits10,
+    Bits16,
+    Bits22,
+    Bits26,
+}
+
+impl Size {
+    /// How many words of 64 bits these are.
+    pub fn words(self) -> usize
+        ensures some { 16 ≤ result }
+        ensures few { result ≤ 1048576 }
+    {
+        match self {
+            Size::Bits10 => 16,
+            Size::Bits16 => 1024,
+            Size::Bits22 => 65536,
+            Size::Bits26 => 1_048_576,
+        }
+    }
 }
 
 /// What the program does with each job.
@@ -18,20 +34,22 @@ pub enum Size {
 pub enum Mode {
     /// It compares the job's result with that of a plain loop.
     Compare,
-    /// It times the job.
-    Time(Size),
+    /// It times the job, as `by_hand.rs` does.
+    Time,
+    /// It times the job at a size.
+    Grow(Size),
 }
 
 impl Mode {
     /// How many words a memory has.
     pub fn words(self) -> usize
-        ensures some { 4096 ≤ result }
-        ensures few { result ≤ 65536 }
+        ensures some { 16 ≤ result }
+        ensures few { result ≤ 1048576 }
     {
         match self {
-            Mode::Compare | Mode::Time(Size::Small) => 4096,
-            Mode::Time(Size::Middle) => 16384,
-            Mode::Time(Size::Large) => 65536,
+            Mode::Compare => 4096,
+            Mode::Time => 65536,
+            Mode::Grow(size) => size.words(),
         }
     }
 

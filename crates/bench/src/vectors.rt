@@ -113,7 +113,7 @@ fn grow(rt: HostRuntime, mode: Mode, name: Name, growth: Growth) -> io::Result<(
         slice,
         growth,
     };
-    if let Mode::Time(_) = mode {
+    if mode != Mode::Compare {
         return time(rt, name, mode.units(), &mut job);
     }
     job.go();
