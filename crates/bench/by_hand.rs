@@ -700,6 +700,56 @@ fn sum_of_ones<const RISING: bool>(words: &[u64]) -> usize {
     sum
 }
 
+/// The first of those bits that is one, from one of them on.
+#[inline(always)]
+fn next_one<const RISING: bool>(words: &[u64], from: usize) -> Option<usize> {
+    let place = from + 3;
+    let mut k = place / 64;
+    let behind = if RISING { !0 << (place % 64) } else { !0 >> (place % 64) };
+    let mut word = *words.get(k)? & behind;
+    while word == 0 {
+        k += 1;
+        word = *words.get(k)?;
+    }
+    let i = k * 64 + first_bit::<RISING>(word) - 3;
+    (i < words.len() * 64 - 7).then_some(i)
+}
+
+/// The sum of the indices of those bits that are one, each sought from behind the one before it.
+#[inline(never)]
+fn sum_by_next<const RISING: bool>(words: &[u64]) -> usize {
+    let (mut sum, mut from): (usize, usize) = (0, 0);
+    while let Some(i) = next_one::<RISING>(words, from) {
+        sum = sum.wrapping_add(i);
+        from = i + 1;
+    }
+    sum
+}
+
+/// The sum of the indices of those bits that are one, and none of another memory.
+#[inline(never)]
+fn sum_without<const RISING: bool>(words: &[u64], others: &[u64]) -> usize {
+    let mut sum: usize = 0;
+    for (k, (word, other)) in words.iter().zip(others).enumerate() {
+        let mut word = inside::<RISING>(*word & !*other, k, words.len());
+        while word != 0 {
+            let i = first_bit::<RISING>(word);
+            sum = sum.wrapping_add(k * 64 + i - 3);
+            word &= if RISING { word - 1 } else { !(1 << (63 - i)) };
+        }
+    }
+    sum
+}
+
+/// How many of those bits are one, here or in another memory.
+#[inline(never)]
+fn count_either<const RISING: bool>(words: &[u64], others: &[u64]) -> usize {
+    let (head, tail) = edges::<RISING>();
+    let ([first, body @ .., last], [a, middle @ .., b]) = (words, others) else { return 0 };
+    let ends = ((first | a) & head).count_ones() + ((last | b) & tail).count_ones();
+    body.iter().zip(middle).map(|(word, other)| (word | other).count_ones() as usize).sum::<usize>() + ends as usize
+}
+
 /// How many of those bits are one, each asked for in turn.
 #[inline(never)]
 fn count_in_turn<const RISING: bool>(words: &[u64]) -> usize {
@@ -922,6 +972,9 @@ fn time_reads<const RISING: bool>(order: &str, source: &[u64]) {
     time(&name("ones-half"), WORDS, || {
         black_box(sum_of_ones::<RISING>(black_box(source)));
     });
+    time(&name("next-half"), WORDS, || {
+        black_box(sum_by_next::<RISING>(black_box(source)));
+    });
     time(&name("iter-bits"), WORDS, || {
         black_box(count_in_turn::<RISING>(black_box(source)));
     });
@@ -934,6 +987,13 @@ fn time_reads<const RISING: bool>(order: &str, source: &[u64]) {
     });
     time(&name("count-and-aligned"), WORDS, || {
         black_box(count_and::<RISING>(black_box(source), 3, black_box(&copy), 3, WORDS * 64 - 7));
+    });
+    let turned: Vec<u64> = source.iter().rev().copied().collect();
+    time(&name("without-walked"), WORDS, || {
+        black_box(sum_without::<RISING>(black_box(source), black_box(&turned)));
+    });
+    time(&name("either-counted"), WORDS, || {
+        black_box(count_either::<RISING>(black_box(source), black_box(&turned)));
     });
     let mut moved = vec![0; WORDS];
     let count = (WORDS - 1) * 64;
@@ -958,10 +1018,13 @@ fn time_reads<const RISING: bool>(order: &str, source: &[u64]) {
     time(&name("last-one"), WORDS, || {
         black_box(last_one::<RISING>(black_box(&memory)));
     });
-    for (job, n) in [("ones-64th", 0), ("ones-4096th", 64)] {
+    for (part, n) in [("64th", 0), ("4096th", 64)] {
         let memory = sparse(n);
-        time(&name(job), WORDS, || {
+        time(&name(&format!("ones-{part}")), WORDS, || {
             black_box(sum_of_ones::<RISING>(black_box(&memory)));
+        });
+        time(&name(&format!("next-{part}")), WORDS, || {
+            black_box(sum_by_next::<RISING>(black_box(&memory)));
         });
     }
     for (job, ones, wanted) in [("find-zeros-8", 0x0101_0101_0101_0101, 8), ("find-zeros-64", 1 << 31, 64)] {
@@ -1080,6 +1143,20 @@ fn store_all<const RISING: bool>(words: &mut [u64], places: &[usize]) {
     }
 }
 
+/// The sum of fields of 13 bits of bytes: each by one load, whatever its place.
+#[inline(never)]
+fn load_bytes<const RISING: bool>(bytes: &[u8], fields: usize) -> u64 {
+    let mut sum = 0u64;
+    for n in 0..fields {
+        let (k, bit) = (n * 13 / 8, n * 13 % 8);
+        let Some(four) = bytes.get(k..k + 4) else { break };
+        let four: [u8; 4] = four.try_into().unwrap();
+        let field = if RISING { u32::from_le_bytes(four) >> bit } else { u32::from_be_bytes(four) >> (19 - bit) };
+        sum = sum.wrapping_add(u64::from(field & 0x1FFF));
+    }
+    sum
+}
+
 #[inline(always)]
 fn position<const RISING: bool>(place: usize) -> usize {
     if RISING { place % 64 } else { 63 - place % 64 }
@@ -1140,6 +1217,19 @@ fn time_places<const RISING: bool>(order: &str) {
     });
     time(&name("set-random"), WORDS, || set_all::<RISING>(black_box(&mut memory), black_box(&places)));
     time(&name("copy-short"), WORDS, || copy_all::<RISING>(black_box(&source), black_box(&mut memory), black_box(&places)));
+}
+
+fn time_bytes<const RISING: bool>(order: &str) {
+    let mut word = 1u64;
+    let bytes: Vec<u8> = (0..WORDS * 8)
+        .map(|_| {
+            word = word.wrapping_mul(6364136223846793005).wrapping_add(1442695040888963407);
+            (word >> 56) as u8
+        })
+        .collect();
+    time(&format!("load-13-u8-{order}"), WORDS, || {
+        black_box(load_bytes::<RISING>(black_box(&bytes), black_box(WORDS)));
+    });
 }
 
 // ---- free maps
@@ -1794,6 +1884,8 @@ fn main() {
     time_edits::<false>("msb0", &mut target);
     time_places::<true>("lsb0");
     time_places::<false>("msb0");
+    time_bytes::<true>("lsb0");
+    time_bytes::<false>("msb0");
     time_streams(&source, &mut target);
     time_vectors(&source);
     time_maps();
