@@ -1,14 +1,36 @@
 //! The same jobs as those of this program's `time`, each by the best loop that a person would write in
-//! plain Rust, for `rustc -O -C target-cpu=x86-64-v2`. It prints a name and nanoseconds for each.
+//! plain Rust, for `rustc -O -C target-cpu=x86-64-v2`. It prints a name and nanoseconds for each. Where it is compiled with
+//! BENCH_WORDS in the environment, memories have so many words, and all else grows with them, as under `grow`.
 
 use std::cmp::Ordering;
 use std::hint::black_box;
 use std::time::{Duration, Instant};
 
-const WORDS: usize = 65536;
+/// The number that digits say.
+const fn number(digits: &str) -> usize {
+    let (mut number, mut i) = (0, 0);
+    while i < digits.len() {
+        number = number * 10 + (digits.as_bytes()[i] - b'0') as usize;
+        i += 1;
+    }
+    number
+}
+
+const GROWN: Option<&str> = option_env!("BENCH_WORDS");
+
+/// A number of its own, or one that grows with the words.
+const fn either(own: usize, grown: usize) -> usize {
+    if GROWN.is_some() { grown } else { own }
+}
+
+const WORDS: usize = match GROWN {
+    Some(digits) => number(digits),
+    None => 65536,
+};
 const COPIED: usize = (WORDS - 4) * 64;
-const SPANS: usize = 2000;
-const REQUESTS: usize = 1_000_000;
+const SPANS: usize = either(2000, WORDS);
+const SORTED: usize = either(16000, WORDS);
+const REQUESTS: usize = either(1_000_000, WORDS);
 
 /// The nanoseconds of one of the units of a job: the best of nine rounds.
 fn time(name: &str, units: usize, mut job: impl FnMut()) {
@@ -563,21 +585,23 @@ fn time_runs(memory: &mut [u64]) {
     let mut replies = vec![Reply::Done; REQUESTS];
     time("run-store", REQUESTS, || run(black_box(&few), black_box(memory), black_box(&requests), black_box(&mut replies)));
     time("run-fill", REQUESTS, || run(black_box(&few), black_box(memory), black_box(&fills), black_box(&mut replies)));
-    time("can-run-2000", SPANS, || {
+    time(if GROWN.is_some() { "can-run-rising" } else { "can-run-2000" }, SPANS, || {
         black_box(can_run(black_box(&few), WORDS));
     });
-    time("can-run-4000", 2 * SPANS, || {
-        black_box(can_run(black_box(&many), WORDS));
-    });
-    let mut room = vec![0; 8 * SPANS];
-    let mut falling = spans(8 * SPANS);
+    if GROWN.is_none() {
+        time("can-run-4000", 2 * SPANS, || {
+            black_box(can_run(black_box(&many), WORDS));
+        });
+    }
+    let mut room = vec![0; SORTED];
+    let mut falling = spans(SORTED);
     falling.reverse();
-    time("can-run-falling", 8 * SPANS, || {
+    time("can-run-falling", SORTED, || {
         assert!(can_run_in(black_box(&falling), WORDS, black_box(&mut room)));
     });
-    let rising = spans(8 * SPANS);
-    let shuffled: Vec<Span> = (0..8 * SPANS).map(|n| rising[n * 7919 % (8 * SPANS)]).collect();
-    time("can-run-shuffled", 8 * SPANS, || {
+    let rising = spans(SORTED);
+    let shuffled: Vec<Span> = (0..SORTED).map(|n| rising[n * 7919 % SORTED]).collect();
+    time("can-run-shuffled", SORTED, || {
         assert!(can_run_in(black_box(&shuffled), WORDS, black_box(&mut room)));
     });
 }
@@ -1234,11 +1258,12 @@ fn time_bytes<const RISING: bool>(order: &str) {
 
 // ---- free maps
 
-const BLOCKS: usize = 1_048_576;
+const BLOCKS: usize = either(1_048_576, WORDS * 64);
 const SLOTS: usize = 4096;
+const MANY: usize = if BLOCKS / 2 < SLOTS { BLOCKS / 2 } else { SLOTS };
 
-/// A bit for each block, and two levels over them, of which each bit says that a word below has no free block. There are
-/// as many blocks as fill the words of all levels.
+/// A bit for each block, and two levels over them, of which each bit says that a word below has no free block, or that
+/// there is none.
 struct Levels {
     words: Vec<u64>,
     full: Vec<u64>,
@@ -1247,7 +1272,8 @@ struct Levels {
 
 /// The words of the level over these.
 fn level_over(words: &[u64]) -> Vec<u64> {
-    let word = |part: &[u64]| part.iter().enumerate().fold(0, |sum, (i, word)| sum | ((*word == !0) as u64) << i);
+    let none = |part: &[u64]| if part.len() < 64 { !0 << part.len() } else { 0 };
+    let word = |part: &[u64]| part.iter().enumerate().fold(none(part), |sum, (i, word)| sum | ((*word == !0) as u64) << i);
     words.chunks(64).map(word).collect()
 }
 
@@ -1542,8 +1568,8 @@ fn time_maps() {
     });
     for (job, word) in [("map-alloc-empty", 0), ("map-alloc-half", 0x5555_5555_5555_5555)] {
         let mut map = Levels::of(uniform(word, word));
-        time(job, SLOTS, || {
-            black_box(many_leveled(black_box(&mut map), black_box(&mut live)));
+        time(job, MANY, || {
+            black_box(many_leveled(black_box(&mut map), black_box(&mut live[..MANY])));
         });
     }
     let mut word = 1u64;
