@@ -23,7 +23,8 @@ static size_t sum_of_ones(const BIT_ARRAY *bits) {
     return sum;
 }
 
-static void ask(const char *name, size_t (*question)(const BIT_ARRAY *, const BIT_ARRAY *), const BIT_ARRAY *bits, const BIT_ARRAY *other) {
+static void ask(const char *name, size_t (*question)(const BIT_ARRAY *, const BIT_ARRAY *), const BIT_ARRAY *bits, const BIT_ARRAY *other, size_t wanted) {
+    same(name, "libbitarray", question(bits, other), wanted);
     time_job(name, "libbitarray", WORDS, [&] {
         touch(bits);
         touch(other);
@@ -46,22 +47,24 @@ static size_t ones(const BIT_ARRAY *b, const BIT_ARRAY *) {
 static void reads() {
     BIT_ARRAY *half = bits(words()), *copy = bits(words()), *each = bits(sparse(0)), *few = bits(sparse(64));
     BIT_ARRAY *first = bits(one_bit(0)), *last = bits(one_bit(WORDS - 1));
-    ask("count-ones-lsb0", [](const BIT_ARRAY *b, const BIT_ARRAY *) { return size_t(bit_array_num_bits_set(b)); }, half, half);
+    const size_t all = WORDS * 64;
+    const Plain of_half = plain(words(), all), of_each = plain(sparse(0), all), of_few = plain(sparse(64), all);
+    ask("count-ones-lsb0", [](const BIT_ARRAY *b, const BIT_ARRAY *) { return size_t(bit_array_num_bits_set(b)); }, half, half, of_half.ones);
     ask("first-one-lsb0", [](const BIT_ARRAY *b, const BIT_ARRAY *) {
         bit_index_t at = 0;
         return bit_array_find_first_set_bit(b, &at) ? size_t(at) : 0;
-    }, last, last);
+    }, last, last, (WORDS - 1) * 64 + 31);
     ask("last-one-lsb0", [](const BIT_ARRAY *b, const BIT_ARRAY *) {
         bit_index_t at = 0;
         return bit_array_find_last_set_bit(b, &at) ? size_t(at) : 0;
-    }, first, first);
+    }, first, first, 31);
     for (auto name : {"ones-half-lsb0", "next-half-lsb0"})
-        ask(name, ones, half, half);
+        ask(name, ones, half, half, of_half.sum);
     for (auto name : {"ones-64th-lsb0", "next-64th-lsb0"})
-        ask(name, ones, each, each);
+        ask(name, ones, each, each, of_each.sum);
     for (auto name : {"ones-4096th-lsb0", "next-4096th-lsb0"})
-        ask(name, ones, few, few);
-    ask("equal-lsb0", [](const BIT_ARRAY *b, const BIT_ARRAY *o) { return size_t(bit_array_cmp(b, o) == 0); }, half, copy);
+        ask(name, ones, few, few, of_few.sum);
+    ask("equal-lsb0", [](const BIT_ARRAY *b, const BIT_ARRAY *o) { return size_t(bit_array_cmp(b, o) == 0); }, half, copy, 1);
 }
 
 static void edits() {

@@ -17,7 +17,8 @@ static size_t sum_of_ones(const Bits &bits) {
     return sum;
 }
 
-static void ask(const char *name, size_t (*question)(const Bits &), const Bits &bits) {
+static void ask(const char *name, size_t (*question)(const Bits &), const Bits &bits, size_t wanted) {
+    same(name, "boost", question(bits), wanted);
     time_job(name, "boost", WORDS, [&] {
         touch(const_cast<Bits &>(bits));
         size_t answer = question(bits);
@@ -25,7 +26,8 @@ static void ask(const char *name, size_t (*question)(const Bits &), const Bits &
     });
 }
 
-static void ask_two(const char *name, size_t (*question)(const Bits &, const Bits &), const Bits &bits, const Bits &other) {
+static void ask_two(const char *name, size_t (*question)(const Bits &, const Bits &), const Bits &bits, const Bits &other, size_t wanted) {
+    same(name, "boost", question(bits, other), wanted);
     time_job(name, "boost", WORDS, [&] {
         touch(const_cast<Bits &>(bits));
         touch(const_cast<Bits &>(other));
@@ -44,25 +46,28 @@ static void edit(const char *name, void (*change)(Bits &, const Bits &), Bits bi
 static void reads() {
     const Bits half = bits(words()), copy = half, other = bits(turned());
     const Bits each = bits(sparse(0)), few = bits(sparse(64)), last = bits(one_bit(WORDS - 1));
-    ask("count-ones-lsb0", [](const Bits &b) { return b.count(); }, half);
-    ask("first-one-lsb0", [](const Bits &b) { return b.find_first(); }, last);
-    ask("ones-half-lsb0", sum_of_ones, half);
-    ask("ones-64th-lsb0", sum_of_ones, each);
-    ask("ones-4096th-lsb0", sum_of_ones, few);
-    ask("next-half-lsb0", sum_of_ones, half);
-    ask("next-64th-lsb0", sum_of_ones, each);
-    ask("next-4096th-lsb0", sum_of_ones, few);
+    const Plain of_half = plain(words(), BITS), of_each = plain(sparse(0), BITS), of_few = plain(sparse(64), BITS);
+    const Plain without = plain(words(), turned(), BITS, [](bool a, bool b) { return a && !b; });
+    const Plain either = plain(words(), turned(), BITS, [](bool a, bool b) { return a || b; });
+    ask("count-ones-lsb0", [](const Bits &b) { return b.count(); }, half, of_half.ones);
+    ask("first-one-lsb0", [](const Bits &b) { return b.find_first(); }, last, (WORDS - 1) * 64 + 31);
+    for (auto name : {"ones-half-lsb0", "next-half-lsb0"})
+        ask(name, sum_of_ones, half, of_half.sum);
+    for (auto name : {"ones-64th-lsb0", "next-64th-lsb0"})
+        ask(name, sum_of_ones, each, of_each.sum);
+    for (auto name : {"ones-4096th-lsb0", "next-4096th-lsb0"})
+        ask(name, sum_of_ones, few, of_few.sum);
     ask("iter-bits-lsb0", [](const Bits &b) {
         size_t count = 0;
         for (size_t i = 0; i < b.size(); i++)
             count += b.test(i);
         return count;
-    }, half);
-    ask_two("equal-lsb0", [](const Bits &a, const Bits &b) { return size_t(a == b); }, half, copy);
-    ask_two("subset-aligned-lsb0", [](const Bits &a, const Bits &b) { return size_t(a.is_subset_of(b)); }, half, copy);
-    ask_two("count-and-aligned-lsb0", [](const Bits &a, const Bits &b) { return (a & b).count(); }, half, copy);
-    ask_two("without-walked-lsb0", [](const Bits &a, const Bits &b) { return sum_of_ones(a - b); }, half, other);
-    ask_two("either-counted-lsb0", [](const Bits &a, const Bits &b) { return (a | b).count(); }, half, other);
+    }, half, of_half.ones);
+    ask_two("equal-lsb0", [](const Bits &a, const Bits &b) { return size_t(a == b); }, half, copy, 1);
+    ask_two("subset-aligned-lsb0", [](const Bits &a, const Bits &b) { return size_t(a.is_subset_of(b)); }, half, copy, 1);
+    ask_two("count-and-aligned-lsb0", [](const Bits &a, const Bits &b) { return (a & b).count(); }, half, copy, of_half.ones);
+    ask_two("without-walked-lsb0", [](const Bits &a, const Bits &b) { return sum_of_ones(a - b); }, half, other, without.sum);
+    ask_two("either-counted-lsb0", [](const Bits &a, const Bits &b) { return (a | b).count(); }, half, other, either.ones);
 }
 
 static void edits() {

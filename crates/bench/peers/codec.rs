@@ -91,6 +91,26 @@ fn store_unaligned(bytes: &mut [u8], places: &[usize]) -> Option<()> {
     Some(())
 }
 
+/// The number of some bits from a place on, bit by bit: where they rise the first is the lowest digit.
+fn plain(words: &[u64], place: usize, width: usize, rises: bool) -> u64 {
+    (0..width).fold(0, |number, j| {
+        let (at, up) = if rises { ((place + j) % 64, j) } else { (63 - (place + j) % 64, width - 1 - j) };
+        number | (words[(place + j) / 64] >> at & 1) << up
+    })
+}
+
+/// Ends where these do other jobs than the bench's.
+fn compare(words: &[u64], stream: &[u8], rising: &[u8], falling: &[u8], fields: &[usize]) {
+    let sum = |rises: bool| fields.iter().fold(0u64, |sum, place| sum.wrapping_add(plain(words, *place, 13, rises)));
+    assert_eq!(get_bits(stream, WORDS), Some(sum(false)));
+    assert_eq!(load_swapped(falling, fields), Some(sum(false)));
+    assert_eq!(load_unaligned(rising, fields), Some(sum(true)));
+    let mut made = stream.to_vec();
+    assert!(put_bits(&mut made, WORDS).is_some());
+    let made: Vec<u64> = made.chunks(8).map(|eight| u64::from_be_bytes(eight.try_into().unwrap())).collect();
+    assert!((0..WORDS).all(|n| plain(&made, n * 13, 13, false) == n as u64 % 8192));
+}
+
 fn main() {
     const WIDTHS: [usize; 24] = [7, 13, 1, 24, 5, 18, 11, 2, 22, 9, 16, 3, 20, 8, 14, 6, 23, 10, 4, 19, 12, 17, 21, 15];
     let words = draws(2 * WORDS);
@@ -109,6 +129,7 @@ fn main() {
     let rising: Vec<u8> = words.iter().flat_map(|word| word.to_le_bytes()).collect();
     let falling: Vec<u8> = words.iter().flat_map(|word| word.to_be_bytes()).collect();
     let fields: Vec<usize> = (0..WORDS).map(|n| n * 13).collect();
+    compare(&words, &stream, &rising, &falling, &fields);
     for name in ["load-13-lsb0", "load-13-u8-lsb0"] {
         time(name, "unaligned", WORDS, || {
             assert!(black_box(load_unaligned(black_box(&rising), black_box(&fields))).is_some());

@@ -5,6 +5,7 @@
 #include <cstddef>
 #include <cstdint>
 #include <cstdio>
+#include <cstdlib>
 #include <vector>
 
 constexpr size_t WORDS = 65536;
@@ -74,6 +75,33 @@ inline Words one_bit(size_t at) {
     Words made(WORDS, 0);
     made[at] = uint64_t(1) << 31;
     return made;
+}
+
+// What a plain loop says of the first bits of two memories: how many are one, and the sum of their indices.
+struct Plain {
+    size_t ones = 0, sum = 0;
+};
+
+template <class Bit> Plain plain(const Words &words, const Words &others, size_t count, Bit bit) {
+    Plain made;
+    for (size_t i = 0; i < count; i++)
+        if (bit(words[i / 64] >> (i % 64) & 1, others[i / 64] >> (i % 64) & 1)) {
+            made.ones++;
+            made.sum += i;
+        }
+    return made;
+}
+
+inline Plain plain(const Words &words, size_t count) {
+    return plain(words, words, count, [](bool one, bool) { return one; });
+}
+
+// Ends where an answer is not that of the plain loop, since then it is another job that is timed.
+inline void same(const char *name, const char *peer, size_t answer, size_t wanted) {
+    if (answer == wanted)
+        return;
+    std::fprintf(stderr, "%s of %s: %zu, and not %zu\n", name, peer, answer, wanted);
+    std::exit(1);
 }
 
 // Places in no order.

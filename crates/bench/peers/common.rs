@@ -37,6 +37,12 @@ fn draws(count: usize) -> Vec<u64> {
         .collect()
 }
 
+/// Ends where an answer is not that of a plain loop, since then it is another job that is timed.
+#[allow(dead_code)]
+fn same(name: &str, answer: usize, wanted: impl Iterator<Item = usize>) {
+    assert_eq!(answer, wanted.fold(0, |sum: usize, number| sum.wrapping_add(number)), "{name}");
+}
+
 /// Places in no order.
 #[allow(dead_code)]
 fn places() -> Vec<usize> {

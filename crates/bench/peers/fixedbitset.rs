@@ -16,10 +16,14 @@ fn sum(ones: impl Iterator<Item = usize>) -> usize {
 }
 
 fn reads() {
-    let half = draws(WORDS);
-    let mut turned = half.clone();
+    let words = draws(WORDS);
+    let mut turned = words.clone();
     turned.reverse();
-    let (half, copy, other) = (set(&half, BITS), set(&half, BITS), set(&turned, BITS));
+    let (half, copy, other) = (set(&words, BITS), set(&words, BITS), set(&turned, BITS));
+    same("without", sum(half.difference(&other)), (0..BITS).filter(|i| is_one(&words, *i) && !is_one(&turned, *i)));
+    let either = (0..BITS).filter(|i| is_one(&words, *i) || is_one(&turned, *i));
+    same("either", half.union(&other).count(), either.map(|_| 1));
+    assert!(half == copy && half.is_subset(&copy));
     let mut last = vec![0; WORDS];
     last[WORDS - 1] = 1 << 31;
     let last = set(&last, BITS);
@@ -31,6 +35,7 @@ fn reads() {
     });
     for (name, words) in [("ones-half-lsb0", draws(WORDS)), ("ones-64th-lsb0", sparse(0)), ("ones-4096th-lsb0", sparse(64))] {
         let set = set(&words, BITS);
+        same(name, sum(set.ones()), (0..BITS).filter(|i| is_one(&words, *i)));
         time(name, PEER, WORDS, || {
             black_box(sum(black_box(&set).ones()));
         });

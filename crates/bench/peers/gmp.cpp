@@ -21,7 +21,8 @@ static size_t sum_of_ones(const Number &n) {
     return sum;
 }
 
-static void ask(const char *name, size_t (*question)(const Number &, const Number &), const Number &n, const Number &other) {
+static void ask(const char *name, size_t (*question)(const Number &, const Number &), const Number &n, const Number &other, size_t wanted) {
+    same(name, "gmp", question(n, other), wanted);
     time_job(name, "gmp", WORDS, [&] {
         touch(const_cast<Number &>(n));
         touch(const_cast<Number &>(other));
@@ -39,15 +40,18 @@ static void edit(const char *name, void (*change)(Number &, const Number &), Num
 
 int main() {
     Number half(words()), copy = half, other(turned()), each(sparse(0)), few(sparse(64)), last(one_bit(WORDS - 1));
-    ask("count-ones-lsb0", [](const Number &n, const Number &) { return size_t(mpz_popcount(n.of)); }, half, half);
-    ask("first-one-lsb0", [](const Number &n, const Number &) { return size_t(mpz_scan1(n.of, 0)); }, last, last);
+    const size_t all = WORDS * 64;
+    const Plain of_half = plain(words(), all), either = plain(words(), turned(), all, [](bool a, bool b) { return a || b; });
+    // (the digit above the others is one too)
+    ask("count-ones-lsb0", [](const Number &n, const Number &) { return size_t(mpz_popcount(n.of)); }, half, half, of_half.ones + 1);
+    ask("first-one-lsb0", [](const Number &n, const Number &) { return size_t(mpz_scan1(n.of, 0)); }, last, last, (WORDS - 1) * 64 + 31);
     for (auto name : {"ones-half-lsb0", "next-half-lsb0"})
-        ask(name, [](const Number &n, const Number &) { return sum_of_ones(n); }, half, half);
+        ask(name, [](const Number &n, const Number &) { return sum_of_ones(n); }, half, half, of_half.sum);
     for (auto name : {"ones-64th-lsb0", "next-64th-lsb0"})
-        ask(name, [](const Number &n, const Number &) { return sum_of_ones(n); }, each, each);
+        ask(name, [](const Number &n, const Number &) { return sum_of_ones(n); }, each, each, plain(sparse(0), all).sum);
     for (auto name : {"ones-4096th-lsb0", "next-4096th-lsb0"})
-        ask(name, [](const Number &n, const Number &) { return sum_of_ones(n); }, few, few);
-    ask("equal-lsb0", [](const Number &n, const Number &o) { return size_t(mpz_cmp(n.of, o.of) == 0); }, half, copy);
+        ask(name, [](const Number &n, const Number &) { return sum_of_ones(n); }, few, few, plain(sparse(64), all).sum);
+    ask("equal-lsb0", [](const Number &n, const Number &o) { return size_t(mpz_cmp(n.of, o.of) == 0); }, half, copy, 1);
     Number made = half;
     time_job("count-and-aligned-lsb0", "gmp", WORDS, [&] {
         touch(half);
@@ -61,6 +65,7 @@ int main() {
         size_t answer = mpz_popcount(made.of);
         touch(answer);
     });
+    same("either-counted-lsb0", "gmp", mpz_popcount(made.of), either.ones + 1);
     edit("or-lsb0-aligned", [](Number &n, const Number &o) { mpz_ior(n.of, n.of, o.of); }, made, other);
     edit("copy-lsb0-aligned", [](Number &n, const Number &o) { mpz_set(n.of, o.of); }, made, other);
     edit("copy-lsb0-shifted", [](Number &n, const Number &o) { mpz_mul_2exp(n.of, o.of, 11); }, made, other);

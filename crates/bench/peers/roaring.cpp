@@ -17,14 +17,14 @@ static bool add(uint32_t number, void *sum) {
     return true;
 }
 
-static size_t sum_of_ones(const Set *set) {
+static size_t sum_of_ones(const Set *set, const Set *) {
     size_t sum = 0;
     roaring_iterate(set, add, &sum);
     return sum;
 }
 
 // The same by an iterator's blocks of numbers.
-static size_t sum_by_blocks(const Set *set) {
+static size_t sum_by_blocks(const Set *set, const Set *) {
     uint32_t block[256];
     size_t sum = 0;
     roaring_uint32_iterator_t it;
@@ -35,7 +35,8 @@ static size_t sum_by_blocks(const Set *set) {
     return sum;
 }
 
-static void ask(const char *name, size_t (*question)(const Set *, const Set *), const Set *set, const Set *other) {
+static void ask(const char *name, size_t (*question)(const Set *, const Set *), const Set *set, const Set *other, size_t wanted) {
+    same(name, "croaring", question(set, other), wanted);
     time_job(name, "croaring", WORDS, [&] {
         touch(set);
         touch(other);
@@ -46,22 +47,27 @@ static void ask(const char *name, size_t (*question)(const Set *, const Set *), 
 
 static size_t without(const Set *a, const Set *b) {
     Set *made = roaring_bitmap_andnot(a, b);
-    size_t sum = sum_by_blocks(made);
+    size_t sum = sum_by_blocks(made, made);
     roaring_bitmap_free(made);
     return sum;
 }
 
 int main() {
     Set *half = set(words()), *copy = set(words()), *other = set(turned()), *each = set(sparse(0)), *few = set(sparse(64));
-    for (auto [name, it] : {std::pair("ones-half-lsb0", half), std::pair("ones-64th-lsb0", each), std::pair("ones-4096th-lsb0", few)}) {
-        ask(name, [](const Set *s, const Set *) { return sum_of_ones(s); }, it, it);
-        ask(name, [](const Set *s, const Set *) { return sum_by_blocks(s); }, it, it);
+    const size_t all = WORDS * 64;
+    const Plain of_half = plain(words(), all), of_each = plain(sparse(0), all), of_few = plain(sparse(64), all);
+    for (auto question : {sum_of_ones, sum_by_blocks}) {
+        ask("ones-half-lsb0", question, half, half, of_half.sum);
+        ask("ones-64th-lsb0", question, each, each, of_each.sum);
+        ask("ones-4096th-lsb0", question, few, few, of_few.sum);
     }
-    ask("equal-lsb0", [](const Set *a, const Set *b) { return size_t(roaring_bitmap_equals(a, b)); }, half, copy);
-    ask("subset-aligned-lsb0", [](const Set *a, const Set *b) { return size_t(roaring_bitmap_is_subset(a, b)); }, half, copy);
-    ask("count-and-aligned-lsb0", [](const Set *a, const Set *b) { return size_t(roaring_bitmap_and_cardinality(a, b)); }, half, copy);
-    ask("either-counted-lsb0", [](const Set *a, const Set *b) { return size_t(roaring_bitmap_or_cardinality(a, b)); }, half, other);
-    ask("without-walked-lsb0", without, half, other);
+    const Plain either = plain(words(), turned(), all, [](bool a, bool b) { return a || b; });
+    const Plain alone = plain(words(), turned(), all, [](bool a, bool b) { return a && !b; });
+    ask("equal-lsb0", [](const Set *a, const Set *b) { return size_t(roaring_bitmap_equals(a, b)); }, half, copy, 1);
+    ask("subset-aligned-lsb0", [](const Set *a, const Set *b) { return size_t(roaring_bitmap_is_subset(a, b)); }, half, copy, 1);
+    ask("count-and-aligned-lsb0", [](const Set *a, const Set *b) { return size_t(roaring_bitmap_and_cardinality(a, b)); }, half, copy, of_half.ones);
+    ask("either-counted-lsb0", [](const Set *a, const Set *b) { return size_t(roaring_bitmap_or_cardinality(a, b)); }, half, other, either.ones);
+    ask("without-walked-lsb0", without, half, other, alone.sum);
     Set *made = roaring_bitmap_copy(half);
     time_job("or-lsb0-aligned", "croaring", WORDS, [&] {
         touch(made);
