@@ -39,7 +39,6 @@ pub(crate) mod digits {
         const WIDTH: usize;
 
         /// Whether some are less than 0.
-        #[cfg(feature = "std")]
         const HAS_SIGN: bool;
 
         /// The number of so many digits, at most 64, where those above them are zero.
@@ -107,14 +106,13 @@ macro_rules! numbers {
         impl digits::Digits for $t {
             const WIDTH: usize = $t::BITS as usize;
 
-            #[cfg(feature = "std")]
             const HAS_SIGN: bool = $t::MIN != 0;
 
             #[inline]
             #[allow(clippy::cast_possible_wrap)] // (the highest digit is the sign's)
             fn of_digits(digits: u64, count: usize) -> Self {
-                if count == 0 {
-                    return 0;
+                if count == 0 || !Self::HAS_SIGN {
+                    return digits as Self;
                 }
                 let above = 64 - count;
                 ((digits << above) as $wide >> above) as Self

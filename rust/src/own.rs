@@ -23,6 +23,10 @@ pub trait Owned: Exports {
     /// The words, to be written.
     fn own_mut(words: &mut [Self::Word]) -> &mut [Self];
 
+    /// The 64 bits of the words from one on, where there are so many: the digits of the first are
+    /// the highest where `big`, and the lowest else.
+    fn joined(words: &[Self], from: usize, big: bool) -> Option<u64>;
+
     /// A vector, as the library is to have it.
     #[cfg(feature = "alloc")]
     fn give(words: Vec<Self>) -> Vec<Self::Word>;
@@ -45,6 +49,17 @@ macro_rules! owned {
             #[inline]
             fn own_mut(words: &mut [Self]) -> &mut [Self] {
                 words
+            }
+
+            #[inline]
+            #[allow(clippy::cast_lossless)] // (of a `usize` too)
+            fn joined(words: &[Self], from: usize, big: bool) -> Option<u64> {
+                const WIDTH: usize = $word::BITS as usize;
+                let words: &[Self; 64 / WIDTH] = words.get(from..)?.first_chunk()?;
+                Some(words.iter().enumerate().fold(0, |digits, (i, word)| {
+                    let up = if big { 64 - WIDTH * (i + 1) } else { WIDTH * i };
+                    digits | (*word as u64) << up
+                }))
             }
 
             #[cfg(feature = "alloc")]

@@ -4,7 +4,7 @@ use crate::number::Number;
 use crate::order::Order;
 use crate::refusal::Refusal;
 use crate::register::Register;
-use crate::slice::{BitSlice, granted};
+use crate::slice::{BitSlice, granted, to_boundary};
 
 /// The bits of a slice, and the place among them behind those that were read.
 ///
@@ -31,20 +31,110 @@ use crate::slice::{BitSlice, granted};
 #[derive(Clone, Debug)]
 pub struct BitReader<'a, T: Register, O: Order> {
     bits: BitSlice<'a, T, O>,
-    position: usize,
-    /// The bits from the position on: the first is the highest digit where the order is `BIG`, and
-    /// the lowest else. The other digits are zero.
+    /// How many of the bits were read, passed over, or are in the window.
+    taken: usize,
+    /// The last of these, which are not read yet, fewer than 64: the first is the highest digit
+    /// where the order is `BIG`, and the lowest else. The other digits are zero.
     window: u64,
     held: usize,
 }
 
-/// The first bits of a slice, at most 64, as the window of a reader has them, and how many they are.
+/// So many bits from a place on, at most 64, as the window of a reader has them.
+#[inline]
+fn bits_at<T: Register, O: Order>(words: &[T], place: usize, count: usize) -> u64 {
+    let digits = granted(T::load(O::CODE, O::BIG, words, place, count));
+    if O::BIG && count > 0 {
+        digits << (64 - count)
+    } else {
+        digits
+    }
+}
+
+/// The 64 bits from a place on, of those that are left, where these are whole words.
+#[inline]
+fn whole_at<T: Register, O: Order>(words: &[T], place: usize, left: usize) -> Option<u64> {
+    if left < 64 || !place.is_multiple_of(T::BITS) {
+        return None;
+    }
+    T::joined(words, place / T::BITS, O::BIG)
+}
+
+/// So many bits from a place on at least, and how many they are; `None` where fewer are left.
 #[inline(never)]
-fn next_bits<T: Register, O: Order>(bits: BitSlice<'_, T, O>) -> (u64, usize) {
-    let ((words, start), len) = (bits.place(), bits.len().min(64));
-    let digits = granted(T::load(O::CODE, O::BIG, words, start, len));
-    let unused = if O::BIG && len > 0 { 64 - len } else { 0 };
-    (digits << unused, len)
+fn some_at<T: Register, O: Order>(
+    words: &[T],
+    place: usize,
+    left: usize,
+    lacking: usize,
+) -> Option<(u64, usize)> {
+    if let Some(digits) = whole_at::<T, O>(words, place, left) {
+        return Some((digits, 64));
+    }
+    if lacking > left {
+        return None;
+    }
+    // (up to where whole words begin, if that is far enough)
+    let mut more = to_boundary(place, left);
+    if more < lacking {
+        more = left.min(64);
+    }
+    Some((bits_at::<T, O>(words, place, more), more))
+}
+
+/// The same, where one word has them with no call.
+#[inline]
+fn next_bits<T: Register, O: Order>(
+    words: &[T],
+    place: usize,
+    left: usize,
+    lacking: usize,
+) -> Option<(u64, usize)> {
+    if T::BITS == 64 {
+        if let Some(digits) = whole_at::<T, O>(words, place, left) {
+            return Some((digits, 64));
+        }
+    }
+    some_at::<T, O>(words, place, left, lacking)
+}
+
+/// The first bits of a window, at most 64, as a number has their digits.
+#[inline]
+fn digits_of<O: Order>(window: u64, big: bool, count: usize) -> u64 {
+    if count == 0 {
+        return 0;
+    }
+    let above = 64 - count;
+    match (O::BIG, big) {
+        (true, true) => window >> above,
+        (true, false) => window.reverse_bits() << above >> above,
+        (false, true) => window.reverse_bits() >> above,
+        (false, false) => window << above >> above,
+    }
+}
+
+/// The same of fewer than 64.
+#[inline]
+fn few_digits_of<O: Order>(window: u64, big: bool, count: usize) -> u64 {
+    if big {
+        digits_of::<O>(window, big, count)
+    } else {
+        let window = if O::BIG {
+            window.reverse_bits()
+        } else {
+            window
+        };
+        window & !(!0 << count)
+    }
+}
+
+/// A window whose first bits are gone, fewer than 64.
+#[inline]
+fn behind<O: Order>(window: u64, count: usize) -> u64 {
+    if O::BIG {
+        window << count
+    } else {
+        window >> count
+    }
 }
 
 impl<'a, T: Register, O: Order> BitReader<'a, T, O> {
@@ -63,7 +153,7 @@ impl<'a, T: Register, O: Order> BitReader<'a, T, O> {
     pub fn new(bits: BitSlice<'a, T, O>) -> Self {
         Self {
             bits,
-            position: 0,
+            taken: 0,
             window: 0,
             held: 0,
         }
@@ -85,7 +175,7 @@ impl<'a, T: Register, O: Order> BitReader<'a, T, O> {
     #[inline]
     #[must_use]
     pub fn position(&self) -> usize {
-        self.position
+        self.taken - self.held
     }
 
     /// How many bits are left. Constant time.
@@ -100,7 +190,7 @@ impl<'a, T: Register, O: Order> BitReader<'a, T, O> {
     #[inline]
     #[must_use]
     pub fn remaining(&self) -> usize {
-        self.bits.len() - self.position
+        self.bits.len() - self.position()
     }
 
     /// The bits that are left, as a slice of the same words. Constant time.
@@ -119,7 +209,7 @@ impl<'a, T: Register, O: Order> BitReader<'a, T, O> {
     #[inline]
     #[must_use]
     pub fn rest(&self) -> BitSlice<'a, T, O> {
-        self.bits.rest(self.position)
+        self.bits.rest(self.position())
     }
 
     /// Has a call of the library read from the place on, which it moves.
@@ -129,54 +219,55 @@ impl<'a, T: Register, O: Order> BitReader<'a, T, O> {
         call: impl FnOnce(&[T], &mut usize, usize) -> Result<A, Refusal>,
     ) -> Result<A, Refusal> {
         let (words, start) = self.bits.place();
-        let mut place = start + self.position;
+        let mut place = start + self.position();
         let answer = call(words, &mut place, start + self.bits.len())?;
-        self.pass(place - start - self.position);
+        self.pass(place - start - self.position());
         Ok(answer)
     }
 
     /// Moves the place behind so many of the bits that are left.
     #[inline]
     fn pass(&mut self, count: usize) {
-        self.position += count;
-        if count < self.held {
+        if count <= self.held {
             self.held -= count;
-            self.window = if O::BIG {
-                self.window << count
-            } else {
-                self.window >> count
-            };
+            self.window = behind::<O>(self.window, count);
         } else {
+            self.taken += count - self.held;
             (self.window, self.held) = (0, 0);
         }
     }
 
-    /// Holds so many bits at least, of 64 at most.
+    /// The number of the next so many bits, which are passed over.
     #[inline]
-    fn hold(&mut self, count: usize) -> Result<(), Refusal> {
-        if count > self.held {
-            if count > self.remaining() {
-                return Err(Refusal::TooFew);
-            }
-            (self.window, self.held) = next_bits(self.rest());
+    fn number<N: Number>(&mut self, big: bool, count: usize) -> Result<N, Refusal> {
+        // (fewer than 64 are held: no number of 64 bits wants a second test)
+        if count <= self.held && (N::WIDTH == 64 || count <= N::WIDTH) {
+            let window = self.window;
+            self.window = behind::<O>(window, count);
+            self.held -= count;
+            return Ok(N::of_digits(few_digits_of::<O>(window, big, count), count));
         }
-        Ok(())
-    }
-
-    /// The digits of the next so many bits, at most 64, as a number has them.
-    #[inline]
-    fn digits(&mut self, big: bool, count: usize) -> Result<u64, Refusal> {
-        self.hold(count)?;
-        if count == 0 {
-            return Ok(0);
+        if count > N::WIDTH {
+            return Err(Refusal::TooWide);
         }
-        let above = 64 - count;
-        Ok(match (O::BIG, big) {
-            (true, true) => self.window >> above,
-            (true, false) => (self.window >> above << above).reverse_bits(),
-            (false, true) => self.window.reverse_bits() >> above,
-            (false, false) => self.window << above >> above,
-        })
+        let (left, lacking) = (self.bits.len() - self.taken, count - self.held);
+        let (words, start) = self.bits.place();
+        let found = next_bits::<T, O>(words, start + self.taken, left, lacking);
+        let (next, more) = found.ok_or(Refusal::TooFew)?;
+        let window = self.window
+            | if O::BIG {
+                next >> self.held
+            } else {
+                next << self.held
+            };
+        self.window = if lacking == 64 {
+            0
+        } else {
+            behind::<O>(next, lacking)
+        };
+        self.held = more - lacking;
+        self.taken += more;
+        Ok(N::of_digits(digits_of::<O>(window, big, count), count))
     }
 
     /// Passes over so many bits. Constant time.
@@ -228,8 +319,8 @@ impl<'a, T: Register, O: Order> BitReader<'a, T, O> {
     /// ```
     #[inline]
     pub fn skip_to_multiple_of(&mut self, of: usize) -> Result<(), Refusal> {
-        let to = self.position.checked_next_multiple_of(of);
-        self.skip(to.ok_or(Refusal::TooFew)? - self.position)
+        let to = self.position().checked_next_multiple_of(of);
+        self.skip(to.ok_or(Refusal::TooFew)? - self.position())
     }
 
     /// The next bit. Constant time.
@@ -250,9 +341,7 @@ impl<'a, T: Register, O: Order> BitReader<'a, T, O> {
     /// ```
     #[inline]
     pub fn read_bit(&mut self) -> Result<bool, Refusal> {
-        let bit = self.digits(O::BIG, 1)? == 1;
-        self.pass(1);
-        Ok(bit)
+        Ok(self.number::<u64>(O::BIG, 1)? == 1)
     }
 
     /// The next `count` bits, as a slice of the same words. Constant time.
@@ -350,7 +439,24 @@ impl<'a, T: Register, O: Order> BitReader<'a, T, O> {
         if count > N::WIDTH {
             return Err(Refusal::TooWide);
         }
-        Ok(N::of_digits(self.digits(O::BIG, count)?, count))
+        let mut window = self.window;
+        if count > self.held {
+            if count > self.remaining() {
+                return Err(Refusal::TooFew);
+            }
+            let ((words, start), place) = (self.bits.place(), self.position());
+            let more = self.remaining().min(64);
+            window = bits_at::<T, O>(words, start + place, more);
+            self.held = more.min(63);
+            self.window = if O::BIG {
+                window & !1
+            } else {
+                window & !0 >> 1
+            };
+            self.taken = place + self.held;
+        }
+        let digits = digits_of::<O>(window, O::BIG, count);
+        Ok(N::of_digits(digits, count))
     }
 
     /// The number of the next `count` bits, the first the highest digit; a signed number is in
@@ -400,16 +506,6 @@ impl<'a, T: Register, O: Order> BitReader<'a, T, O> {
     #[inline]
     pub fn read_le<N: Number>(&mut self, count: usize) -> Result<N, Refusal> {
         self.number(false, count)
-    }
-
-    #[inline]
-    fn number<N: Number>(&mut self, big: bool, count: usize) -> Result<N, Refusal> {
-        if count > N::WIDTH {
-            return Err(Refusal::TooWide);
-        }
-        let digits = self.digits(big, count)?;
-        self.pass(count);
-        Ok(N::of_digits(digits, count))
     }
 
     /// How many bits are `bit` before the first that is not, which is read too. Costs by words.

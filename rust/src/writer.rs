@@ -364,7 +364,9 @@ impl<'a, T: Register, O: Order> BitWriter<'a, T, O> {
         self.number(false, count, number)
     }
 
-    #[inline]
+    /// (Always inlined: of a number of bits that is known few tests are left.)
+    #[inline(always)]
+    #[allow(clippy::inline_always)]
     fn number<N: Number>(&mut self, big: bool, count: usize, number: N) -> Result<(), Refusal> {
         if count > N::WIDTH {
             return Err(Refusal::TooWide);
