@@ -97,6 +97,25 @@ fn next_bits<T: Register, O: Order>(
     some_at::<T, O>(words, place, left, lacking)
 }
 
+/// A window of so many bits at least, which begins with those that are held, and how many of those
+/// behind them a reader keeps: fewer than 64 with these, up to where a word ends where that is
+/// enough, so that whole words come next. `None` where they end.
+#[inline(never)]
+fn ahead<T: Register, O: Order>(
+    words: &[T],
+    place: usize,
+    left: usize,
+    (window, held): (u64, usize),
+    count: usize,
+) -> Option<(u64, usize)> {
+    let (next, more) = next_bits::<T, O>(words, place, left, count - held)?;
+    let window = window | if O::BIG { next >> held } else { next << held };
+    let (most, into) = (63 - held, place % T::BITS);
+    let whole = ((into + most) / T::BITS * T::BITS).saturating_sub(into);
+    let kept = if held + whole < count { most } else { whole };
+    Some((window, kept.min(more)))
+}
+
 /// The first bits of a window, at most 64, as a number has their digits.
 #[inline]
 fn digits_of<O: Order>(window: u64, big: bool, count: usize) -> u64 {
@@ -441,19 +460,17 @@ impl<'a, T: Register, O: Order> BitReader<'a, T, O> {
         }
         let mut window = self.window;
         if count > self.held {
-            if count > self.remaining() {
-                return Err(Refusal::TooFew);
-            }
-            let ((words, start), place) = (self.bits.place(), self.position());
-            let more = self.remaining().min(64);
-            window = bits_at::<T, O>(words, start + place, more);
-            self.held = more.min(63);
+            let ((words, start), had) = (self.bits.place(), (window, self.held));
+            let left = self.bits.len() - self.taken;
+            let more = ahead::<T, O>(words, start + self.taken, left, had, count);
+            let (whole, kept) = more.ok_or(Refusal::TooFew)?;
+            (window, self.held) = (whole, self.held + kept);
+            self.taken += kept;
             self.window = if O::BIG {
-                window & !1
+                whole & !(!0 >> self.held)
             } else {
-                window & !0 >> 1
+                whole & !(!0 << self.held)
             };
-            self.taken = place + self.held;
         }
         let digits = digits_of::<O>(window, O::BIG, count);
         Ok(N::of_digits(digits, count))

@@ -153,7 +153,7 @@ pub fn first_one(words: &[u64]) -> Option<usize> {
 }
 
 /// A list of bits that grows.
-#[derive(Default)]
+#[derive(Clone, Default)]
 pub struct Bits {
     pub words: Vec<u64>,
     pub len: usize,
