@@ -312,7 +312,8 @@ class Maker:
 
     def a_all_free(self, xs, i, zeros):
         """The bits are there and false."""
-        return Truth(f"({plus(i, zeros)} <= {xs.length} && {all_of(xs, i, plus(i, zeros), lambda j: turned(xs.bit(j)))})")
+        it = xs.of
+        return Truth(f"free_u{it.bits}{{{it.time}}}({it.order}, {it.memory}, {it.start}, {xs.length}, {i}, {zeros})")
 
     def a_all_free_from(self, xs, i, start, zeros, multiple_of):
         multiple = f"({multiple_of} == 0 || {i} % {multiple_of} == 0)"

@@ -23,6 +23,81 @@
 #ifndef MODEL_JOIN
 #define MODEL_JOIN_(a, b, c) a##b##c
 #define MODEL_JOIN(a, b, c) MODEL_JOIN_(a, b, c)
+
+/* What is known of the powers of two up to the 64th. */
+/*@ ghost
+  /@ assigns \nothing;
+   @ ensures \forall integer m, n; 0 <= m <= n <= 64 ==> 1 <= power_of_two(m) <= power_of_two(n);
+   @ ensures power_of_two(63) == 9223372036854775808;
+   @ ensures power_of_two(64) == 18446744073709551616;
+   @/
+  void model_powers(void) {
+      /@ assert power_of_two(8) == 256; @/
+      /@ assert power_of_two(16) == 65536; @/
+      /@ assert power_of_two(24) == 16777216; @/
+      /@ assert power_of_two(32) == 4294967296; @/
+      /@ assert power_of_two(40) == 1099511627776; @/
+      /@ assert power_of_two(48) == 281474976710656; @/
+      /@ assert power_of_two(56) == 72057594037927936; @/
+      /@ assert power_of_two(64) == 18446744073709551616; @/
+      size_t n = 0;
+      /@ loop invariant 0 <= n <= 64;
+       @ loop invariant \forall integer m, k; 0 <= m <= k <= n ==> 1 <= power_of_two(m) <= power_of_two(k);
+       @ loop assigns n;
+       @ loop variant 64 - n;
+       @/
+      while (n < 64)
+          n++;
+  }
+*/
+
+/* Two to a power. */
+/*@ requires n < 64;
+  @ assigns \nothing;
+  @ ensures \result == power_of_two(n) && 1 <= \result;
+  @*/
+static uint64_t model_power(size_t n) {
+    //@ ghost model_powers();
+    uint64_t power = 1;
+    /*@ loop invariant 0 <= k <= n;
+      @ loop invariant power == power_of_two(k);
+      @ loop assigns k, power;
+      @ loop variant n - k;
+      @*/
+    for (size_t k = 0; k < n; k++)
+        power *= 2;
+    return power;
+}
+
+/* The number whose two's complement of so many digits a number is. */
+/*@ requires count <= 64 && number < power_of_two(count);
+  @ assigns \nothing;
+  @ ensures \result == signed_of(count, number);
+  @*/
+static int64_t model_signed(size_t count, uint64_t number) {
+    //@ ghost model_powers();
+    if (count == 0)
+        return 0;
+    uint64_t half = model_power(count - 1);
+    if (number < half)
+        return (int64_t)number;
+    return (int64_t)(number - half) - (int64_t)(half - 1) - 1;
+}
+
+/* The two's complement of so many digits of a number. */
+/*@ requires count <= 64;
+  @ assigns \nothing;
+  @ ensures \result == complement_of(count, number);
+  @*/
+static uint64_t model_complement(size_t count, int64_t number) {
+    //@ ghost model_powers();
+    if (count == 64)
+        return number < 0 ? UINT64_MAX - (uint64_t)(-1 - number) : (uint64_t)number;
+    if (count == 63)
+        return (uint64_t)(number < 0 ? number + INT64_MAX + 1 : number);
+    int64_t power = (int64_t)model_power(count), left = number % power;
+    return (uint64_t)(left < 0 ? left + power : left);
+}
 #endif
 #ifdef __FRAMAC__
 #define MODEL(call) MODEL_JOIN(bitvec_c_##call, _u, MODEL_BITS)
@@ -34,9 +109,18 @@
 #define PAIRS MODEL_JOIN(pairs, _u, MODEL_BITS)
 #define OTHERS MODEL_JOIN(others, _u, MODEL_BITS)
 #define WORD MODEL_JOIN(uint, MODEL_BITS, _t)
-#define READ MODEL_JOIN(model_read, _u, MODEL_BITS)
+#define READ MODEL_JOIN(model_bit, _u, MODEL_BITS)
 #define PUT MODEL_JOIN(model_put, _u, MODEL_BITS)
 #define STATUS MODEL_JOIN(model_status, _u, MODEL_BITS)
+#define LEFT MODEL_JOIN(model_left, _u, MODEL_BITS)
+#define NUMBER MODEL_JOIN(number, _u, MODEL_BITS)
+#define HOLDS MODEL_JOIN(holds, _u, MODEL_BITS)
+#define PLACE MODEL_JOIN(model_place, _u, MODEL_BITS)
+#define GROWS MODEL_JOIN(model_grows, _u, MODEL_BITS)
+#define TAKEN MODEL_JOIN(model_taken, _u, MODEL_BITS)
+#define GIVEN MODEL_JOIN(model_given, _u, MODEL_BITS)
+#define IS_FREE MODEL_JOIN(free, _u, MODEL_BITS)
+#define FREE MODEL_JOIN(model_free, _u, MODEL_BITS)
 
 /* The bit of a place. */
 /*@ requires order <= 1 && \valid_read(memory + place / MODEL_BITS);
@@ -84,6 +168,16 @@ static uint8_t STATUS(uint8_t order, size_t words, size_t start, size_t count) {
         return BITVEC_TOO_LONG;
     size_t needed = start / MODEL_BITS + (start % MODEL_BITS + count + MODEL_BITS - 1) / MODEL_BITS;
     return needed > words ? BITVEC_OUTSIDE : BITVEC_OK;
+}
+
+/* The status of what is left of a stream. */
+/*@ assigns \nothing;
+  @ ensures \result == left_status(MODEL_BITS, order, words, place, end);
+  @ ensures words * MODEL_BITS <= 18446744073709551615;
+  @*/
+static uint8_t LEFT(uint8_t order, size_t words, size_t place, size_t end) {
+    uint8_t status = STATUS(order, words, place, end < place ? 0 : end - place);
+    return status == BITVEC_OK && end < place ? BITVEC_OUTSIDE : status;
 }
 
 uint8_t MODEL(get)(uint8_t order, const WORD *memory, size_t words, size_t place, bool *bit) {
@@ -459,6 +553,438 @@ uint8_t MODEL(first_difference)(uint8_t order, const WORD *memory, size_t words,
     while (i < count && READ(order, memory, start + i) == READ(other_order, other, other_start + i))
         i++;
     *index = i;
+    return status;
+}
+
+uint8_t MODEL(reverse)(uint8_t order, WORD *memory, size_t words, size_t start, size_t count) {
+    uint8_t status = STATUS(order, words, start, count);
+    if (status != BITVEC_OK)
+        return status;
+    /*@ loop invariant 0 <= i && 2 * i <= count + 1;
+      @ loop invariant \forall integer p; start <= p < start + i ==>
+      @   (BIT{Here}(order, memory, p) <==> BIT{Pre}(order, memory, start + (count - 1 - (p - start))));
+      @ loop invariant \forall integer p; start + count - i <= p < start + count ==>
+      @   (BIT{Here}(order, memory, p) <==> BIT{Pre}(order, memory, start + (count - 1 - (p - start))));
+      @ loop invariant \forall integer p; start + i <= p < start + count - i ==>
+      @   (BIT{Here}(order, memory, p) <==> BIT{Pre}(order, memory, p));
+      @ loop invariant OTHERS{Pre, Here}(order, memory, words, start, count);
+      @ loop assigns i, memory[0 .. words - 1];
+      @ loop variant count - i;
+      @*/
+    for (size_t i = 0; i < count / 2; i++) {
+        size_t first = start + i, last = start + (count - 1 - i);
+        bool here = READ(order, memory, first), there = READ(order, memory, last);
+        PUT(order, memory, first, there);
+        PUT(order, memory, last, here);
+    }
+    return status;
+}
+
+uint8_t MODEL(copy_within)(uint8_t order, WORD *memory, size_t words, size_t target_start, size_t source_start,
+                           size_t count) {
+    uint8_t status = STATUS(order, words, source_start, count);
+    if (status == BITVEC_OK)
+        status = STATUS(order, words, target_start, count);
+    if (status != BITVEC_OK)
+        return status;
+    if (target_start <= source_start) {
+        /*@ loop invariant 0 <= i <= count;
+          @ loop invariant \forall integer p; target_start <= p < target_start + i ==>
+          @   (BIT{Here}(order, memory, p) <==> BIT{Pre}(order, memory, source_start + (p - target_start)));
+          @ loop invariant OTHERS{Pre, Here}(order, memory, words, target_start, i);
+          @ loop assigns i, memory[0 .. words - 1];
+          @ loop variant count - i;
+          @*/
+        for (size_t i = 0; i < count; i++) {
+            bool bit = READ(order, memory, source_start + i);
+            //@ assert bit <==> BIT{Pre}(order, memory, source_start + i);
+            PUT(order, memory, target_start + i, bit);
+            //@ assert BIT{Here}(order, memory, target_start + i) <==> BIT{Pre}(order, memory, source_start + i);
+            /*@ assert \forall integer p; target_start <= p < target_start + i ==>
+              @   (BIT{Here}(order, memory, p) <==> BIT{Pre}(order, memory, source_start + (p - target_start))); */
+        }
+    } else {
+        size_t i = count;
+        /*@ loop invariant 0 <= i <= count;
+          @ loop invariant \forall integer p; target_start + i <= p < target_start + count ==>
+          @   (BIT{Here}(order, memory, p) <==> BIT{Pre}(order, memory, source_start + (p - target_start)));
+          @ loop invariant OTHERS{Pre, Here}(order, memory, words, target_start + i, count - i);
+          @ loop assigns i, memory[0 .. words - 1];
+          @ loop variant i;
+          @*/
+        while (i > 0) {
+            i--;
+            bool bit = READ(order, memory, source_start + i);
+            //@ assert bit <==> BIT{Pre}(order, memory, source_start + i);
+            PUT(order, memory, target_start + i, bit);
+        }
+    }
+    return status;
+}
+
+uint8_t MODEL(shift_left)(uint8_t order, WORD *memory, size_t words, size_t start, size_t count, size_t by) {
+    uint8_t status = STATUS(order, words, start, count);
+    if (status == BITVEC_OK && by > count)
+        status = BITVEC_OUTSIDE;
+    if (status != BITVEC_OK)
+        return status;
+    /*@ loop invariant 0 <= i <= count;
+      @ loop invariant \forall integer p; start <= p < start + i ==> (BIT{Here}(order, memory, p) <==>
+      @   (p - start < count - by && BIT{Pre}(order, memory, start + ((p - start) + by))));
+      @ loop invariant OTHERS{Pre, Here}(order, memory, words, start, i);
+      @ loop assigns i, memory[0 .. words - 1];
+      @ loop variant count - i;
+      @*/
+    for (size_t i = 0; i < count; i++) {
+        bool bit = i < count - by && READ(order, memory, start + (i + by));
+        PUT(order, memory, start + i, bit);
+    }
+    return status;
+}
+
+uint8_t MODEL(shift_right)(uint8_t order, WORD *memory, size_t words, size_t start, size_t count, size_t by) {
+    uint8_t status = STATUS(order, words, start, count);
+    if (status == BITVEC_OK && by > count)
+        status = BITVEC_OUTSIDE;
+    if (status != BITVEC_OK)
+        return status;
+    size_t i = count;
+    /*@ loop invariant 0 <= i <= count;
+      @ loop invariant \forall integer p; start + i <= p < start + count ==> (BIT{Here}(order, memory, p) <==>
+      @   (by <= p - start && BIT{Pre}(order, memory, start + ((p - start) - by))));
+      @ loop invariant OTHERS{Pre, Here}(order, memory, words, start + i, count - i);
+      @ loop assigns i, memory[0 .. words - 1];
+      @ loop variant i;
+      @*/
+    while (i > 0) {
+        i--;
+        bool bit = i >= by && READ(order, memory, start + (i - by));
+        //@ assert bit <==> (by <= i && BIT{Pre}(order, memory, start + (i - by)));
+        PUT(order, memory, start + i, bit);
+    }
+    return status;
+}
+
+/* (the first part is turned round, then the other, then all) */
+uint8_t MODEL(rotate_left)(uint8_t order, WORD *memory, size_t words, size_t start, size_t count, size_t by) {
+    uint8_t status = STATUS(order, words, start, count);
+    if (status == BITVEC_OK && by > count)
+        status = BITVEC_OUTSIDE;
+    if (status != BITVEC_OK)
+        return status;
+    status = MODEL(reverse)(order, memory, words, start, by);
+    //@ assert first_done: status == BITVEC_OK;
+    //@ ghost First: ;
+    status = MODEL(reverse)(order, memory, words, start + by, count - by);
+    //@ assert second_done: status == BITVEC_OK;
+    /*@ assert turned: \forall integer p; start <= p < start + by ==>
+      @   (BIT{Here}(order, memory, p) <==> BIT{Pre}(order, memory, start + (by - 1 - (p - start)))); */
+    /*@ assert other_turned: \forall integer p; start + by <= p < start + count ==>
+      @   (BIT{Here}(order, memory, p) <==> BIT{Pre}(order, memory, start + by + (count - 1 - (p - start)))); */
+    /*@ assert OTHERS{Pre, Here}(order, memory, words, start, count); */
+    status = MODEL(reverse)(order, memory, words, start, count);
+    //@ assert third_done: status == BITVEC_OK;
+    return status;
+}
+
+/* Whether from an index of a range on so many bits are in it and zero. */
+/*@ requires order <= 1 && \valid_read(memory + (0 .. words - 1));
+  @ requires start + count <= words * MODEL_BITS <= 18446744073709551615;
+  @ assigns \nothing;
+  @ ensures \result <==> IS_FREE{Pre}(order, memory, start, count, index, zeros);
+  @*/
+static bool FREE(uint8_t order, const WORD *memory, size_t words, size_t start, size_t count, size_t index,
+                 size_t zeros) {
+    (void)words;
+    if (index > count || zeros > count - index)
+        return false;
+    size_t i = 0;
+    /*@ loop invariant 0 <= i <= zeros;
+      @ loop invariant \forall integer p; start + index <= p < start + index + i ==> !BIT{Pre}(order, memory, p);
+      @ loop assigns i;
+      @ loop variant zeros - i;
+      @*/
+    while (i < zeros && !READ(order, memory, start + index + i))
+        i++;
+    return i == zeros;
+}
+
+uint8_t MODEL(find_zeros)(uint8_t order, const WORD *memory, size_t words, size_t start, size_t count, size_t zeros,
+                          size_t *index) {
+    uint8_t status = STATUS(order, words, start, count);
+    if (status != BITVEC_OK)
+        return status;
+    size_t i = 0;
+    /*@ loop invariant 0 <= i <= count;
+      @ loop invariant \forall integer k; 0 <= k < i ==> !IS_FREE{Pre}(order, memory, start, count, k, zeros);
+      @ loop assigns i;
+      @ loop variant count - i;
+      @*/
+    while (i < count && !FREE(order, memory, words, start, count, i, zeros))
+        i++;
+    *index = i;
+    return status;
+}
+
+uint8_t MODEL(find_zeros_from)(uint8_t order, const WORD *memory, size_t words, size_t start, size_t count,
+                               size_t from, size_t zeros, size_t multiple_of, size_t *index) {
+    uint8_t status = STATUS(order, words, start, count);
+    if (status != BITVEC_OK)
+        return status;
+    size_t i = from < count ? from : count;
+    /*@ loop invariant 0 <= i <= count && (from <= i || i == count);
+      @ loop invariant \forall integer k; from <= k < i ==> !((multiple_of == 0 || k % multiple_of == 0) &&
+      @   IS_FREE{Pre}(order, memory, start, count, k, zeros));
+      @ loop assigns i;
+      @ loop variant count - i;
+      @*/
+    while (i < count &&
+           !((multiple_of == 0 || i % multiple_of == 0) && FREE(order, memory, words, start, count, i, zeros)))
+        i++;
+    *index = i;
+    return status;
+}
+
+/* Which digit of a number a bit of a range is, or of what is read of a stream. */
+/*@ requires j < count <= 64;
+  @ assigns \nothing;
+  @ ensures \result == place_of(stream, big, MODEL_BITS, order, start, count, j);
+  @ ensures \result < count;
+  @*/
+static size_t PLACE(bool stream, bool big, uint8_t order, size_t start, size_t count, size_t j) {
+    //@ assert 0 <= place_of(stream, big, MODEL_BITS, order, start, count, j) < count;
+    size_t digit = j;
+    if (!stream && big == (order == 0)) {
+        size_t head = start % MODEL_BITS, word = (head + j) / MODEL_BITS;
+        size_t first = word == 0 ? 0 : word * MODEL_BITS - head, end = word * MODEL_BITS + MODEL_BITS - head;
+        digit = first + (count < end ? count : end) - 1 - j;
+    }
+    return big ? count - 1 - digit : digit;
+}
+
+/* A number of more bits is no less. */
+/*@ ghost
+  /@ requires 0 <= count <= 64;
+   @ assigns \nothing;
+   @ ensures \forall integer m; 0 <= m <= count ==> NUMBER{Pre}(stream, big, order, memory, start, count, m)
+   @   <= NUMBER{Pre}(stream, big, order, memory, start, count, count);
+   @/
+  void GROWS(bool stream, bool big, uint8_t order, const WORD *memory, size_t start, size_t count) {
+      model_powers();
+      size_t n = 0;
+      /@ loop invariant 0 <= n <= count;
+       @ loop invariant \forall integer m; 0 <= m <= n ==> NUMBER{Pre}(stream, big, order, memory, start, count, m)
+       @   <= NUMBER{Pre}(stream, big, order, memory, start, count, n);
+       @ loop assigns n;
+       @ loop variant count - n;
+       @/
+      while (n < count) {
+          /@ assert 0 <= place_of(stream, big, MODEL_BITS, order, start, count, n) < count; @/
+          n++;
+      }
+  }
+*/
+
+/* The number of which the bits of a range are digits. */
+/*@ requires order <= 1 && \valid_read(memory + (0 .. words - 1));
+  @ requires count <= 64 && start + count <= words * MODEL_BITS <= 18446744073709551615;
+  @ assigns \nothing;
+  @ ensures \result == NUMBER{Pre}(stream, big, order, memory, start, count, count);
+  @ ensures \result < power_of_two(count);
+  @*/
+static uint64_t TAKEN(bool stream, bool big, uint8_t order, const WORD *memory, size_t words, size_t start,
+                      size_t count) {
+    //@ ghost model_powers();
+    //@ ghost GROWS(stream, big, order, memory, start, count);
+    uint64_t number = 0;
+    (void)words;
+    /*@ loop invariant 0 <= i <= count;
+      @ loop invariant number == NUMBER{Pre}(stream, big, order, memory, start, count, i);
+      @ loop assigns i, number;
+      @ loop variant count - i;
+      @*/
+    for (size_t i = 0; i < count; i++) {
+        /*@ assert bounded: NUMBER{Pre}(stream, big, order, memory, start, count, i + 1)
+          @   <= NUMBER{Pre}(stream, big, order, memory, start, count, count) < 18446744073709551616; */
+        if (READ(order, memory, start + i)) {
+            uint64_t power = model_power(PLACE(stream, big, order, start, count, i));
+            //@ assert more: number + power == NUMBER{Pre}(stream, big, order, memory, start, count, i + 1);
+            number += power;
+        }
+    }
+    return number;
+}
+
+/* Makes the bits of a range the digits of a number. */
+/*@ requires order <= 1 && \valid(memory + (0 .. words - 1));
+  @ requires count <= 64 && start + count <= words * MODEL_BITS <= 18446744073709551615;
+  @ assigns memory[0 .. words - 1];
+  @ ensures HOLDS{Post}(stream, big, order, memory, start, count, number);
+  @ ensures OTHERS{Pre, Post}(order, memory, words, start, count);
+  @*/
+static void GIVEN(bool stream, bool big, uint8_t order, WORD *memory, size_t words, size_t start, size_t count,
+                  uint64_t number) {
+    (void)words;
+    /*@ loop invariant 0 <= i <= count;
+      @ loop invariant \forall integer p; start <= p < start + i ==> (BIT{Here}(order, memory, p) <==>
+      @   digit_of(number, place_of(stream, big, MODEL_BITS, order, start, count, p - start)));
+      @ loop invariant OTHERS{Pre, Here}(order, memory, words, start, i);
+      @ loop assigns i, memory[0 .. words - 1];
+      @ loop variant count - i;
+      @*/
+    for (size_t i = 0; i < count; i++) {
+        uint64_t power = model_power(PLACE(stream, big, order, start, count, i));
+        PUT(order, memory, start + i, number / power % 2 == 1);
+    }
+}
+
+uint8_t MODEL(load)(uint8_t order, bool big_endian, const WORD *memory, size_t words, size_t start, size_t count,
+                    uint64_t *number) {
+    uint8_t status = STATUS(order, words, start, count);
+    if (status == BITVEC_OK && count > 64)
+        status = BITVEC_TOO_WIDE;
+    if (status == BITVEC_OK)
+        *number = TAKEN(false, big_endian, order, memory, words, start, count);
+    return status;
+}
+
+uint8_t MODEL(store)(uint8_t order, bool big_endian, WORD *memory, size_t words, size_t start, size_t count,
+                     uint64_t number) {
+    uint8_t status = STATUS(order, words, start, count);
+    if (status == BITVEC_OK && count > 64)
+        status = BITVEC_TOO_WIDE;
+    if (status == BITVEC_OK)
+        GIVEN(false, big_endian, order, memory, words, start, count, number);
+    return status;
+}
+
+uint8_t MODEL(load_signed)(uint8_t order, bool big_endian, const WORD *memory, size_t words, size_t start,
+                           size_t count, int64_t *number) {
+    uint8_t status = STATUS(order, words, start, count);
+    if (status == BITVEC_OK && count > 64)
+        status = BITVEC_TOO_WIDE;
+    if (status == BITVEC_OK)
+        *number = model_signed(count, TAKEN(false, big_endian, order, memory, words, start, count));
+    return status;
+}
+
+uint8_t MODEL(store_signed)(uint8_t order, bool big_endian, WORD *memory, size_t words, size_t start, size_t count,
+                            int64_t number) {
+    uint8_t status = STATUS(order, words, start, count);
+    if (status == BITVEC_OK && count > 64)
+        status = BITVEC_TOO_WIDE;
+    if (status == BITVEC_OK)
+        GIVEN(false, big_endian, order, memory, words, start, count, model_complement(count, number));
+    return status;
+}
+
+uint8_t MODEL(read)(uint8_t order, bool big_endian, const WORD *memory, size_t words, size_t *place, size_t end,
+                    size_t count, uint64_t *number) {
+    uint8_t status = LEFT(order, words, *place, end);
+    if (status == BITVEC_OK && count > 64)
+        status = BITVEC_TOO_WIDE;
+    if (status == BITVEC_OK && count > end - *place)
+        status = BITVEC_TOO_FEW;
+    if (status != BITVEC_OK)
+        return status;
+    size_t from = *place;
+    *number = TAKEN(true, big_endian, order, memory, words, from, count);
+    *place = from + count;
+    return status;
+}
+
+uint8_t MODEL(read_signed)(uint8_t order, bool big_endian, const WORD *memory, size_t words, size_t *place,
+                           size_t end, size_t count, int64_t *number) {
+    uint8_t status = LEFT(order, words, *place, end);
+    if (status == BITVEC_OK && count > 64)
+        status = BITVEC_TOO_WIDE;
+    if (status == BITVEC_OK && count > end - *place)
+        status = BITVEC_TOO_FEW;
+    if (status != BITVEC_OK)
+        return status;
+    size_t from = *place;
+    *number = model_signed(count, TAKEN(true, big_endian, order, memory, words, from, count));
+    *place = from + count;
+    return status;
+}
+
+uint8_t MODEL(write)(uint8_t order, bool big_endian, WORD *memory, size_t words, size_t *place, size_t end,
+                     size_t count, uint64_t number) {
+    //@ ghost model_powers();
+    uint8_t status = LEFT(order, words, *place, end);
+    if (status == BITVEC_OK && count > 64)
+        status = BITVEC_TOO_WIDE;
+    if (status == BITVEC_OK && count > end - *place)
+        status = BITVEC_TOO_FEW;
+    if (status == BITVEC_OK && count < 64 && number >= model_power(count))
+        status = BITVEC_TOO_LARGE;
+    if (status != BITVEC_OK)
+        return status;
+    size_t from = *place;
+    GIVEN(true, big_endian, order, memory, words, from, count, number);
+    *place = from + count;
+    return status;
+}
+
+uint8_t MODEL(write_signed)(uint8_t order, bool big_endian, WORD *memory, size_t words, size_t *place, size_t end,
+                            size_t count, int64_t number) {
+    //@ ghost model_powers();
+    uint8_t status = LEFT(order, words, *place, end);
+    if (status == BITVEC_OK && count > 64)
+        status = BITVEC_TOO_WIDE;
+    if (status == BITVEC_OK && count > end - *place)
+        status = BITVEC_TOO_FEW;
+    if (status == BITVEC_OK && count == 0 && number != 0)
+        status = BITVEC_TOO_LARGE;
+    if (status == BITVEC_OK && count != 0 &&
+        (number < 0 ? (uint64_t)(-1 - number) : (uint64_t)number) >= model_power(count - 1))
+        status = BITVEC_TOO_LARGE;
+    if (status != BITVEC_OK)
+        return status;
+    size_t from = *place;
+    GIVEN(true, big_endian, order, memory, words, from, count, model_complement(count, number));
+    *place = from + count;
+    return status;
+}
+
+uint8_t MODEL(read_unary)(uint8_t order, const WORD *memory, size_t words, size_t *place, size_t end, bool bit,
+                          size_t *count) {
+    uint8_t status = LEFT(order, words, *place, end);
+    if (status != BITVEC_OK)
+        return status;
+    size_t from = *place, i = from;
+    /*@ loop invariant from <= i <= end;
+      @ loop invariant \forall integer p; from <= p < i ==> (BIT{Pre}(order, memory, p) <==> bit);
+      @ loop assigns i;
+      @ loop variant end - i;
+      @*/
+    while (i < end && READ(order, memory, i) == bit)
+        i++;
+    if (i == end)
+        return BITVEC_TOO_FEW;
+    *count = i - from;
+    *place = i + 1;
+    return status;
+}
+
+uint8_t MODEL(write_unary)(uint8_t order, WORD *memory, size_t words, size_t *place, size_t end, bool bit,
+                           size_t count) {
+    uint8_t status = LEFT(order, words, *place, end);
+    if (status == BITVEC_OK && count >= end - *place)
+        status = BITVEC_TOO_FEW;
+    if (status != BITVEC_OK)
+        return status;
+    size_t from = *place;
+    /*@ loop invariant 0 <= i <= count;
+      @ loop invariant \forall integer p; from <= p < from + i ==> (BIT{Here}(order, memory, p) <==> bit);
+      @ loop invariant OTHERS{Pre, Here}(order, memory, words, from, i);
+      @ loop assigns i, memory[0 .. words - 1];
+      @ loop variant count - i;
+      @*/
+    for (size_t i = 0; i < count; i++)
+        PUT(order, memory, from + i, bit);
+    PUT(order, memory, from + count, !bit);
+    *place = from + count + 1;
     return status;
 }
 #endif

@@ -116,6 +116,12 @@
   @   \forall integer k; 0 <= k < words ==> \at(memory[k], L) == \at(memory[k], K);
   @*/
 
+/* From an index of a range of `count` bits on, so many bits are in the range and zero. */
+/*@ predicate free_u8{L}(integer order, uint8_t *memory, integer start, integer count, integer index, integer zeros) =
+  @   index + zeros <= count &&
+  @   (\forall integer p; start + index <= p < start + index + zeros ==> !bit_u8{L}(order, memory, p));
+  @*/
+
 /* How many bits of a range are one, and how many of two ranges in both. The last two lines follow from the first two, by
  * induction. */
 /*@ axiomatic Ones_u8 {
@@ -214,6 +220,12 @@
   @   (bit_u16{L}(order, memory, p) <==> bit_u16{K}(order, memory, p));
   @ predicate kept_u16{K, L}(uint16_t *memory, integer words) =
   @   \forall integer k; 0 <= k < words ==> \at(memory[k], L) == \at(memory[k], K);
+  @*/
+
+/* From an index of a range of `count` bits on, so many bits are in the range and zero. */
+/*@ predicate free_u16{L}(integer order, uint16_t *memory, integer start, integer count, integer index, integer zeros) =
+  @   index + zeros <= count &&
+  @   (\forall integer p; start + index <= p < start + index + zeros ==> !bit_u16{L}(order, memory, p));
   @*/
 
 /* How many bits of a range are one, and how many of two ranges in both. The last two lines follow from the first two, by
@@ -316,6 +328,12 @@
   @   \forall integer k; 0 <= k < words ==> \at(memory[k], L) == \at(memory[k], K);
   @*/
 
+/* From an index of a range of `count` bits on, so many bits are in the range and zero. */
+/*@ predicate free_u32{L}(integer order, uint32_t *memory, integer start, integer count, integer index, integer zeros) =
+  @   index + zeros <= count &&
+  @   (\forall integer p; start + index <= p < start + index + zeros ==> !bit_u32{L}(order, memory, p));
+  @*/
+
 /* How many bits of a range are one, and how many of two ranges in both. The last two lines follow from the first two, by
  * induction. */
 /*@ axiomatic Ones_u32 {
@@ -414,6 +432,12 @@
   @   (bit_u64{L}(order, memory, p) <==> bit_u64{K}(order, memory, p));
   @ predicate kept_u64{K, L}(uint64_t *memory, integer words) =
   @   \forall integer k; 0 <= k < words ==> \at(memory[k], L) == \at(memory[k], K);
+  @*/
+
+/* From an index of a range of `count` bits on, so many bits are in the range and zero. */
+/*@ predicate free_u64{L}(integer order, uint64_t *memory, integer start, integer count, integer index, integer zeros) =
+  @   index + zeros <= count &&
+  @   (\forall integer p; start + index <= p < start + index + zeros ==> !bit_u64{L}(order, memory, p));
   @*/
 
 /* How many bits of a range are one, and how many of two ranges in both. The last two lines follow from the first two, by
@@ -1573,12 +1597,10 @@ static inline uint8_t bitvec_c_previous_zero_u64(
   @ requires \separated(memory + (0 .. words - 1), index);
   @ assigns *index;
   @ ensures status: \result == range_status(8, order, words, start, count);
-  @ ensures answer: \result == BITVEC_OK ==> ((*index + zeros <= count && (\forall integer p; start
-  @   + *index <= p < start + *index + zeros ==> !bit_u8{Pre}(order, memory, p))) || *index ==
-  @   count) && (\forall integer k; 0 <= k && (k < *index || !((*index + zeros <= count && (\forall
-  @   integer p; start + *index <= p < start + *index + zeros ==> !bit_u8{Pre}(order, memory, p)))))
-  @   ==> !((k + zeros <= count && (\forall integer p; start + k <= p < start + k + zeros ==>
-  @   !bit_u8{Pre}(order, memory, p)))));
+  @ ensures answer: \result == BITVEC_OK ==> (free_u8{Pre}(order, memory, start, count, *index,
+  @   zeros) || *index == count) && (\forall integer k; 0 <= k && (k < *index ||
+  @   !(free_u8{Pre}(order, memory, start, count, *index, zeros))) ==> !(free_u8{Pre}(order, memory,
+  @   start, count, k, zeros)));
   @ ensures refused: \result != BITVEC_OK ==> *index == \old(*index);
   @*/
 uint8_t bitvec_c_find_zeros_u8(
@@ -1590,12 +1612,10 @@ uint8_t bitvec_c_find_zeros_u8(
   @ requires \separated(memory + (0 .. words - 1), index);
   @ assigns *index;
   @ ensures status: \result == range_status(16, order, words, start, count);
-  @ ensures answer: \result == BITVEC_OK ==> ((*index + zeros <= count && (\forall integer p; start
-  @   + *index <= p < start + *index + zeros ==> !bit_u16{Pre}(order, memory, p))) || *index ==
-  @   count) && (\forall integer k; 0 <= k && (k < *index || !((*index + zeros <= count && (\forall
-  @   integer p; start + *index <= p < start + *index + zeros ==> !bit_u16{Pre}(order, memory,
-  @   p))))) ==> !((k + zeros <= count && (\forall integer p; start + k <= p < start + k + zeros ==>
-  @   !bit_u16{Pre}(order, memory, p)))));
+  @ ensures answer: \result == BITVEC_OK ==> (free_u16{Pre}(order, memory, start, count, *index,
+  @   zeros) || *index == count) && (\forall integer k; 0 <= k && (k < *index ||
+  @   !(free_u16{Pre}(order, memory, start, count, *index, zeros))) ==> !(free_u16{Pre}(order,
+  @   memory, start, count, k, zeros)));
   @ ensures refused: \result != BITVEC_OK ==> *index == \old(*index);
   @*/
 uint8_t bitvec_c_find_zeros_u16(
@@ -1607,12 +1627,10 @@ uint8_t bitvec_c_find_zeros_u16(
   @ requires \separated(memory + (0 .. words - 1), index);
   @ assigns *index;
   @ ensures status: \result == range_status(32, order, words, start, count);
-  @ ensures answer: \result == BITVEC_OK ==> ((*index + zeros <= count && (\forall integer p; start
-  @   + *index <= p < start + *index + zeros ==> !bit_u32{Pre}(order, memory, p))) || *index ==
-  @   count) && (\forall integer k; 0 <= k && (k < *index || !((*index + zeros <= count && (\forall
-  @   integer p; start + *index <= p < start + *index + zeros ==> !bit_u32{Pre}(order, memory,
-  @   p))))) ==> !((k + zeros <= count && (\forall integer p; start + k <= p < start + k + zeros ==>
-  @   !bit_u32{Pre}(order, memory, p)))));
+  @ ensures answer: \result == BITVEC_OK ==> (free_u32{Pre}(order, memory, start, count, *index,
+  @   zeros) || *index == count) && (\forall integer k; 0 <= k && (k < *index ||
+  @   !(free_u32{Pre}(order, memory, start, count, *index, zeros))) ==> !(free_u32{Pre}(order,
+  @   memory, start, count, k, zeros)));
   @ ensures refused: \result != BITVEC_OK ==> *index == \old(*index);
   @*/
 uint8_t bitvec_c_find_zeros_u32(
@@ -1624,12 +1642,10 @@ uint8_t bitvec_c_find_zeros_u32(
   @ requires \separated(memory + (0 .. words - 1), index);
   @ assigns *index;
   @ ensures status: \result == range_status(64, order, words, start, count);
-  @ ensures answer: \result == BITVEC_OK ==> ((*index + zeros <= count && (\forall integer p; start
-  @   + *index <= p < start + *index + zeros ==> !bit_u64{Pre}(order, memory, p))) || *index ==
-  @   count) && (\forall integer k; 0 <= k && (k < *index || !((*index + zeros <= count && (\forall
-  @   integer p; start + *index <= p < start + *index + zeros ==> !bit_u64{Pre}(order, memory,
-  @   p))))) ==> !((k + zeros <= count && (\forall integer p; start + k <= p < start + k + zeros ==>
-  @   !bit_u64{Pre}(order, memory, p)))));
+  @ ensures answer: \result == BITVEC_OK ==> (free_u64{Pre}(order, memory, start, count, *index,
+  @   zeros) || *index == count) && (\forall integer k; 0 <= k && (k < *index ||
+  @   !(free_u64{Pre}(order, memory, start, count, *index, zeros))) ==> !(free_u64{Pre}(order,
+  @   memory, start, count, k, zeros)));
   @ ensures refused: \result != BITVEC_OK ==> *index == \old(*index);
   @*/
 uint8_t bitvec_c_find_zeros_u64(
@@ -1642,13 +1658,11 @@ uint8_t bitvec_c_find_zeros_u64(
   @ assigns *index;
   @ ensures status: \result == range_status(8, order, words, start, count);
   @ ensures answer: \result == BITVEC_OK ==> ((from <= *index && (multiple_of == 0 || *index %
-  @   multiple_of == 0) && (*index + zeros <= count && (\forall integer p; start + *index <= p <
-  @   start + *index + zeros ==> !bit_u8{Pre}(order, memory, p)))) || *index == count) && (\forall
-  @   integer k; 0 <= k && (k < *index || !((from <= *index && (multiple_of == 0 || *index %
-  @   multiple_of == 0) && (*index + zeros <= count && (\forall integer p; start + *index <= p <
-  @   start + *index + zeros ==> !bit_u8{Pre}(order, memory, p)))))) ==> !((from <= k &&
-  @   (multiple_of == 0 || k % multiple_of == 0) && (k + zeros <= count && (\forall integer p; start
-  @   + k <= p < start + k + zeros ==> !bit_u8{Pre}(order, memory, p))))));
+  @   multiple_of == 0) && free_u8{Pre}(order, memory, start, count, *index, zeros)) || *index ==
+  @   count) && (\forall integer k; 0 <= k && (k < *index || !((from <= *index && (multiple_of == 0
+  @   || *index % multiple_of == 0) && free_u8{Pre}(order, memory, start, count, *index, zeros))))
+  @   ==> !((from <= k && (multiple_of == 0 || k % multiple_of == 0) && free_u8{Pre}(order, memory,
+  @   start, count, k, zeros))));
   @ ensures refused: \result != BITVEC_OK ==> *index == \old(*index);
   @*/
 uint8_t bitvec_c_find_zeros_from_u8(
@@ -1661,13 +1675,11 @@ uint8_t bitvec_c_find_zeros_from_u8(
   @ assigns *index;
   @ ensures status: \result == range_status(16, order, words, start, count);
   @ ensures answer: \result == BITVEC_OK ==> ((from <= *index && (multiple_of == 0 || *index %
-  @   multiple_of == 0) && (*index + zeros <= count && (\forall integer p; start + *index <= p <
-  @   start + *index + zeros ==> !bit_u16{Pre}(order, memory, p)))) || *index == count) && (\forall
-  @   integer k; 0 <= k && (k < *index || !((from <= *index && (multiple_of == 0 || *index %
-  @   multiple_of == 0) && (*index + zeros <= count && (\forall integer p; start + *index <= p <
-  @   start + *index + zeros ==> !bit_u16{Pre}(order, memory, p)))))) ==> !((from <= k &&
-  @   (multiple_of == 0 || k % multiple_of == 0) && (k + zeros <= count && (\forall integer p; start
-  @   + k <= p < start + k + zeros ==> !bit_u16{Pre}(order, memory, p))))));
+  @   multiple_of == 0) && free_u16{Pre}(order, memory, start, count, *index, zeros)) || *index ==
+  @   count) && (\forall integer k; 0 <= k && (k < *index || !((from <= *index && (multiple_of == 0
+  @   || *index % multiple_of == 0) && free_u16{Pre}(order, memory, start, count, *index, zeros))))
+  @   ==> !((from <= k && (multiple_of == 0 || k % multiple_of == 0) && free_u16{Pre}(order, memory,
+  @   start, count, k, zeros))));
   @ ensures refused: \result != BITVEC_OK ==> *index == \old(*index);
   @*/
 uint8_t bitvec_c_find_zeros_from_u16(
@@ -1680,13 +1692,11 @@ uint8_t bitvec_c_find_zeros_from_u16(
   @ assigns *index;
   @ ensures status: \result == range_status(32, order, words, start, count);
   @ ensures answer: \result == BITVEC_OK ==> ((from <= *index && (multiple_of == 0 || *index %
-  @   multiple_of == 0) && (*index + zeros <= count && (\forall integer p; start + *index <= p <
-  @   start + *index + zeros ==> !bit_u32{Pre}(order, memory, p)))) || *index == count) && (\forall
-  @   integer k; 0 <= k && (k < *index || !((from <= *index && (multiple_of == 0 || *index %
-  @   multiple_of == 0) && (*index + zeros <= count && (\forall integer p; start + *index <= p <
-  @   start + *index + zeros ==> !bit_u32{Pre}(order, memory, p)))))) ==> !((from <= k &&
-  @   (multiple_of == 0 || k % multiple_of == 0) && (k + zeros <= count && (\forall integer p; start
-  @   + k <= p < start + k + zeros ==> !bit_u32{Pre}(order, memory, p))))));
+  @   multiple_of == 0) && free_u32{Pre}(order, memory, start, count, *index, zeros)) || *index ==
+  @   count) && (\forall integer k; 0 <= k && (k < *index || !((from <= *index && (multiple_of == 0
+  @   || *index % multiple_of == 0) && free_u32{Pre}(order, memory, start, count, *index, zeros))))
+  @   ==> !((from <= k && (multiple_of == 0 || k % multiple_of == 0) && free_u32{Pre}(order, memory,
+  @   start, count, k, zeros))));
   @ ensures refused: \result != BITVEC_OK ==> *index == \old(*index);
   @*/
 uint8_t bitvec_c_find_zeros_from_u32(
@@ -1699,13 +1709,11 @@ uint8_t bitvec_c_find_zeros_from_u32(
   @ assigns *index;
   @ ensures status: \result == range_status(64, order, words, start, count);
   @ ensures answer: \result == BITVEC_OK ==> ((from <= *index && (multiple_of == 0 || *index %
-  @   multiple_of == 0) && (*index + zeros <= count && (\forall integer p; start + *index <= p <
-  @   start + *index + zeros ==> !bit_u64{Pre}(order, memory, p)))) || *index == count) && (\forall
-  @   integer k; 0 <= k && (k < *index || !((from <= *index && (multiple_of == 0 || *index %
-  @   multiple_of == 0) && (*index + zeros <= count && (\forall integer p; start + *index <= p <
-  @   start + *index + zeros ==> !bit_u64{Pre}(order, memory, p)))))) ==> !((from <= k &&
-  @   (multiple_of == 0 || k % multiple_of == 0) && (k + zeros <= count && (\forall integer p; start
-  @   + k <= p < start + k + zeros ==> !bit_u64{Pre}(order, memory, p))))));
+  @   multiple_of == 0) && free_u64{Pre}(order, memory, start, count, *index, zeros)) || *index ==
+  @   count) && (\forall integer k; 0 <= k && (k < *index || !((from <= *index && (multiple_of == 0
+  @   || *index % multiple_of == 0) && free_u64{Pre}(order, memory, start, count, *index, zeros))))
+  @   ==> !((from <= k && (multiple_of == 0 || k % multiple_of == 0) && free_u64{Pre}(order, memory,
+  @   start, count, k, zeros))));
   @ ensures refused: \result != BITVEC_OK ==> *index == \old(*index);
   @*/
 uint8_t bitvec_c_find_zeros_from_u64(
