@@ -13,6 +13,7 @@ pub mod LentLemmas
 pub mod ListCountLemmas
 mod ListEdits
 mod NextLemmas
+mod NthLemmas
 mod NumberWordLemmas
 pub mod OneCountLemmas
 pub mod OnesLemmas

@@ -42,3 +42,18 @@ fn windows_lie_in_the_slice(rt: HostRuntime) {
     );
     assert!(rt; first_window(slice, 9).is_none());
 }
+
+#[test]
+fn windows_are_passed_over(rt: HostRuntime) {
+    let memory = [0b0110_0101u8];
+    let slice = BitSlice::<u8, Lsb0>::all_unchecked(&memory);
+    let mut windows = slice.windows(3);
+    assert_eq!(rt; windows.nth(1).map(|it| it.first_one()), Some(Some(1)));
+    assert_eq!(rt; windows.nth_back(1).map(|it| it.count_ones()), Some(2));
+    assert_eq!(rt; windows.len(), 2);
+    assert!(rt; windows.nth(2).is_none());
+    assert_eq!(rt; windows.len(), 0);
+    let mut windows = slice.windows(3);
+    assert!(rt; windows.nth_back(6).is_none());
+    assert_eq!(rt; windows.len(), 0);
+}

@@ -1,6 +1,8 @@
 //! The windows of a slice: a number of bits side by side, from each bit on.
 
-ghost use Rattle.std.specs.Prelude.{◌≡◌, ⊤, ◌-◌, ◌<◌, Some, length, IfSome};
+ghost use Rattle.std.specs.Prelude.{◌≡◌, ⊤, ◌+◌, ◌-◌, ◌<◌, ◌≤◌, Some, length, take, drop, IfSome};
+ghost use Rattle.std.specs.Prelude.{MatchOption};
+ghost use Rattle.std.specs.List.{slice_get};
 ghost use Rattle.std.specs.Iterator.{YieldsFirstBy, YieldsLastBy, item_count, at_most, UpTo};
 ghost use Rattle.std.specs.Iterator.{MakesProgress};
 ghost use Rattle.std.specs.Iterator.SizeHint.{IsWithinCount};
@@ -65,6 +67,65 @@ impl<'a, R: BitRegister, O: BitOrder<R>> BitSlice<'a, R, O> {
             rest: *self,
             size: n,
         }
+    }
+}
+
+impl<'a, R: BitRegister, O: BitOrder<R>> Windows<'a, R, O> {
+    ghost use Rattle.bitvec_slice.specs.PieceIters.{windows_left, windows_size};
+
+    /// Takes the window `n` places behind the first of those that are left, and drops those before
+    /// it. Where there is none it returns `None`, and none is left.
+    ///
+    /// Constant time. In the Rust crate it is `nth` of the iterator trait.
+    ///
+    /// # Examples
+    ///
+    /// ```
+    /// let memory = [0x2Cu8];
+    /// let mut windows = BitSlice::<u8, Lsb0>::all_unchecked(&memory).windows(3);
+    /// assert_eq!(rt; windows.nth(2).unwrap().count_ones(), 2);
+    /// assert_eq!(rt; windows.len(), 3);
+    /// assert!(rt; windows.nth(3).is_none());
+    /// assert_eq!(rt; windows.len(), 0);
+    /// ```
+    pub fn nth(&mut self, n: usize) -> Option<BitSlice<'a, R, O>>
+        ensures item { let left = windows_left self.old
+            in MatchOption result (length left ≤ n)
+            (λ window. slice_get left n ≡ Some (slice_bits window)) }
+        ensures left { windows_left self.new ≡ drop (n + 1) (windows_left self.old) }
+        ensures size { windows_size self.new ≡ windows_size self.old }
+    {
+        let (_, rest) = self.rest.split_at(n.min(self.rest.len()));
+        self.rest = rest;
+        self.next()
+    }
+
+    /// Takes the window `n` places before the last of those that are left, and drops those behind
+    /// it. Where there is none it returns `None`, and none is left.
+    ///
+    /// Constant time. In the Rust crate it is `nth_back` of the iterator trait.
+    ///
+    /// # Examples
+    ///
+    /// ```
+    /// let memory = [0x2Cu8];
+    /// let mut windows = BitSlice::<u8, Lsb0>::all_unchecked(&memory).windows(3);
+    /// assert_eq!(rt; windows.nth_back(2).unwrap().first_one(), Some(0));
+    /// assert_eq!(rt; windows.len(), 3);
+    /// assert!(rt; windows.nth_back(3).is_none());
+    /// assert_eq!(rt; windows.len(), 0);
+    /// ```
+    pub fn nth_back(&mut self, n: usize) -> Option<BitSlice<'a, R, O>>
+        ensures item { let left = windows_left self.old
+            in MatchOption result (length left ≤ n)
+            (λ window. slice_get left (length left - (n + 1)) ≡ Some (slice_bits window)) }
+        ensures left { let left = windows_left self.old
+            in windows_left self.new ≡ take (length left - (n + 1)) left }
+        ensures size { windows_size self.new ≡ windows_size self.old }
+    {
+        let (rest, _) = self.rest.split_at(self.rest.len().saturating_sub(n));
+        self.rest = rest;
+        self.next_back()
     }
 }
 

@@ -1,0 +1,21 @@
+use Rattle.std.proofs.Common.{◌∙◌, ◌-◌, take, ap}
+use Rattle.bitvec_slice.specs.BitSlice.{slice_bits}
+use Rattle.bitvec_slice.specs.Pieces.{windows_of}
+use Rattle.bitvec_slice.proofs.NthLemmas.{nth_back_item, nth_back_left, windows_take}
+use Rattle.bitvec_slice.proofs.slice.windows.Windows.nth_back.Goals as goal
+
+pub returns-clause-item : goal.returns-clause-item
+returns-clause-item g c =
+    let it = c.args.self.now in
+    let xs = slice_bits it.rest in
+    let cut = c.saturating_sub.ensures ∙ ap (λ l. l - c.args.n) c.len.ensures.list in
+    let before = ap (windows_of it.size) (c.split_at.ensures.front ∙ ap (λ l. take l xs) cut) ∙ windows_take it.size c.args.n xs it.some in
+    nth_back_item slice_bits c.args.n _ _ _ before c.next_back.result c.next_back.ensures.steps
+
+pub returns-clause-left : goal.returns-clause-left
+returns-clause-left g c =
+    let it = c.args.self.now in
+    let xs = slice_bits it.rest in
+    let cut = c.saturating_sub.ensures ∙ ap (λ l. l - c.args.n) c.len.ensures.list in
+    let before = ap (windows_of it.size) (c.split_at.ensures.front ∙ ap (λ l. take l xs) cut) ∙ windows_take it.size c.args.n xs it.some in
+    nth_back_left slice_bits c.args.n _ _ _ before c.next_back.result c.next_back.ensures.steps
