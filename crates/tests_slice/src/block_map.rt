@@ -1,12 +1,13 @@
 //! A map of blocks, a bit each, in words that its user lends: set where a block is in use.
 
-ghost use Rattle.std.specs.Prelude.{◌≡◌, ◌↔◌, ℕ, ◌+◌, ◌*◌, ◌≤◌, true, false, IfSome, MatchOption};
-ghost use Rattle.std.specs.Prelude.{length, map, replicate};
+ghost use Rattle.std.specs.Prelude.{◌≡◌, ℕ, ◌+◌, ◌*◌, ◌≤◌, true, false, IfSome, MatchOption};
+ghost use Rattle.std.specs.Prelude.{length, replicate};
 ghost use Rattle.bitvec.specs.Memory.{memory_bits};
 ghost use Rattle.bitvec.specs.Place.{region_max_bits};
 ghost use Rattle.bitvec.specs.Span.{with_filled};
 ghost use Rattle.bitvec.specs.Truths.{ones_in};
 ghost use Rattle.bitvec_slice.specs.Bits.{AreFree};
+ghost use Rattle.tests_slice.specs.Blocks.{used_blocks};
 
 use bitvec::mem::BitRegister;
 use bitvec::order::{BitOrder, Lsb0, Msb0};
@@ -22,7 +23,7 @@ fn free_map() -> [u64; 64]
 /// How many blocks are in use.
 fn count_used<R: BitRegister, O: BitOrder<R>>(words: &[R]) -> usize
     requires { length words.now * R.BITS ≤ region_max_bits }
-    ensures { result ≡ ones_in (memory_bits R.BITS O.at_of (map R.number words.now)) }
+    ensures { result ≡ ones_in (used_blocks R.number R.BITS O.at_of words.now) }
 {
     BitSlice::<R, O>::all_unchecked(words).count_ones()
 }
@@ -30,13 +31,11 @@ fn count_used<R: BitRegister, O: BitOrder<R>>(words: &[R]) -> usize
 /// Takes the first `count` blocks in a row that are free, and returns the first of them.
 fn alloc_run<R: BitRegister, O: BitOrder<R>>(words: &mut [R], count: usize) -> Option<usize>
     requires { length words.old * R.BITS ≤ region_max_bits }
-    ensures none { let used = memory_bits R.BITS O.at_of (map R.number words.old)
-        in MatchOption result ((at : ℕ) → ¬ AreFree used at count) (λ at. AreFree used at count) }
+    ensures none { let used = used_blocks R.number R.BITS O.at_of words.old in MatchOption result
+        ((at : ℕ) → ¬ AreFree used at count) (λ at. AreFree used at count) }
     ensures fits { IfSome result (λ at. at + count ≤ length words.old * R.BITS) }
-    ensures taken { let used = memory_bits R.BITS O.at_of (map R.number words.old)
-        in MatchOption result (words.new ≡ words.old)
-        (λ at. memory_bits R.BITS O.at_of (map R.number words.new)
-        ≡ with_filled used at (at + count) true) }
+    ensures taken { let used = used_blocks R.number R.BITS O.at_of in MatchOption result (words.new
+        ≡ words.old) (λ at. used words.new ≡ with_filled (used words.old) at (at + count) true) }
 {
     let Some(at) = BitSlice::<R, O>::all_unchecked(words).find_zeros(count) else {
         return None;
@@ -50,8 +49,8 @@ fn alloc_run<R: BitRegister, O: BitOrder<R>>(words: &mut [R], count: usize) -> O
 fn free_run<R: BitRegister, O: BitOrder<R>>(words: &mut [R], at: usize, count: usize)
     requires short { length words.old * R.BITS ≤ region_max_bits }
     requires inside { at + count ≤ length words.old * R.BITS }
-    ensures { memory_bits R.BITS O.at_of (map R.number words.new)
-        ≡ with_filled (memory_bits R.BITS O.at_of (map R.number words.old)) at (at + count) false }
+    ensures { let used = used_blocks R.number R.BITS O.at_of in used words.new ≡ with_filled (used
+        words.old) at (at + count) false }
 {
     let mut blocks = BitSliceMut::<R, O>::all_unchecked(words);
     blocks.fill_range(at, at + count, false);

@@ -17,6 +17,7 @@ ghost use Rattle.bitvec_stream.specs.Numbers.{digits_be};
 ghost use Rattle.bitvec_stream.specs.Reader.{unread};
 ghost use Rattle.bitvec_stream.specs.Refusals.{IsCodeRefusal};
 ghost use Rattle.bitvec_stream.specs.Writer.{written, room};
+ghost use Rattle.tests_stream.specs.Starts.{with_start, HasWritten};
 
 use bitvec::mem::BitRegister;
 use bitvec::order::BitOrder;
@@ -90,9 +91,8 @@ fn write_signed_code<R: BitRegister, O: BitOrder<R>>(
     writer: &mut BitWriter<'_, R, O>,
     number: i32,
 ) -> Result<(), WriteError>
-    ensures { MatchResult result
-        (λ _. written writer.new ≡ written writer.old ++ golomb (signed_place number))
-        (λ error. (error ≡ WriteError.NoRoom) × (writer.new ≡ writer.old)) }
+    ensures { MatchResult result (λ _. HasWritten writer.old writer.new (golomb (signed_place
+        number))) (λ error. (error ≡ WriteError.NoRoom) × (writer.new ≡ writer.old)) }
 {
     writer.write_signed_exp_golomb(number)
 }
@@ -102,9 +102,8 @@ fn write_zeros<R: BitRegister, O: BitOrder<R>>(
     writer: &mut BitWriter<'_, R, O>,
     count: usize,
 ) -> Result<(), WriteError>
-    ensures { MatchResult result
-        (λ _. written writer.new ≡ written writer.old ++ replicate count false ++ (true ∷ []))
-        (λ error. (length (room writer.old) ≤ count) × (writer.new ≡ writer.old)) }
+    ensures { MatchResult result (λ _. HasWritten writer.old writer.new (replicate count false ++
+        (true ∷ []))) (λ error. (length (room writer.old) ≤ count) × (writer.new ≡ writer.old)) }
 {
     if writer.remaining() <= count {
         return Err(WriteError::NoRoom);
@@ -123,9 +122,8 @@ fn put_number<R: BitRegister, O: BitOrder<R>>(
     requires few { count ≤ 64 }
     ensures accepted { IsOk result
         ↔ ((number < 2 ^ count) × (count ≤ (span_of span).len)) }
-    ensures written { IfOk result (λ _. Becomes span O.at_of memory.old memory.new
-        (digits_be count number ++ drop (length (digits_be count number))
-        (list_by span O.at_of memory.old))) }
+    ensures written { IfOk result (λ _. Becomes span O.at_of memory.old memory.new (with_start
+        (list_by span O.at_of memory.old) (digits_be count number))) }
     ensures kept { IfErr result (λ _. memory.new ≡ memory.old) }
 {
     let mut writer = BitWriter::over_unchecked(span, memory);
@@ -142,9 +140,8 @@ fn put_first<R: BitRegister, O: BitOrder<R>>(
     requires few { count ≤ 64 }
     ensures accepted { IsOk result
         ↔ ((number < 2 ^ count) × (count ≤ length memory.old * R.BITS)) }
-    ensures written { IfOk result (λ _. memory_bits R.BITS O.at_of (map R.number memory.new)
-        ≡ digits_be count number ++ drop (length (digits_be count number))
-        (memory_bits R.BITS O.at_of (map R.number memory.old))) }
+    ensures written { IfOk result (λ _. memory_bits R.BITS O.at_of (map R.number memory.new) ≡
+        with_start (memory_bits R.BITS O.at_of (map R.number memory.old)) (digits_be count number)) }
     ensures kept { IfErr result (λ _. memory.new ≡ memory.old) }
 {
     let mut writer = BitWriter::<R, O>::all_unchecked(memory);
