@@ -4,6 +4,7 @@ pub mod Items
 pub mod Multiples
 pub mod Reader
 pub mod Refusals
+pub mod Rows
 pub mod Window
 pub mod Writer
 pub use Rattle.bitvec_slice.specs.Numbers
