@@ -53,7 +53,8 @@ impl<T: Register, O: Order> BitSliceMut<'_, T, O> {
     pub fn and_not_from(&mut self, source: impl AsBitSlice) -> Result<(), Refusal> {
         let source = source.as_bitslice();
         if source.len() != self.len() {
-            return Err(Refusal::Lengths);
+            let (len, other) = (self.len(), source.len());
+            return Err(Refusal::Lengths { len, other });
         }
         self.combine(&source, T::and_not, |here, there| here & !there);
         Ok(())

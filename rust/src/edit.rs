@@ -109,6 +109,28 @@ crate::refusal::or_panics! {
 }
 
 impl<T: Register, O: Order> BitSliceMut<'_, T, O> {
+    /// Refused where there is no bit at an index.
+    #[inline]
+    fn has(&self, index: usize) -> Result<(), Refusal> {
+        let len = self.len();
+        if index < len {
+            Ok(())
+        } else {
+            Err(Refusal::Outside { index, len })
+        }
+    }
+
+    /// Refused where bits are to be moved by more places than there are.
+    #[inline]
+    fn can_move(&self, by: usize) -> Result<(), Refusal> {
+        let (index, len) = (by, self.len());
+        if index <= len {
+            Ok(())
+        } else {
+            Err(Refusal::Outside { index, len })
+        }
+    }
+
     /// Makes the bit at an index the same as `bit`. Constant time.
     ///
     /// # Errors
@@ -123,15 +145,13 @@ impl<T: Register, O: Order> BitSliceMut<'_, T, O> {
     /// let mut words = [0_u8];
     /// let mut bits = BitSliceMut::<_, Lsb0>::new(&mut words, 2..6)?;
     /// bits.try_set(1, true)?;
-    /// assert_eq!(bits.try_set(4, true), Err(Refusal::Outside));
+    /// assert_eq!(bits.try_set(4, true), Err(Refusal::Outside { index: 4, len: 4 }));
     /// assert_eq!(words, [0b0000_1000]);
     /// # Ok::<(), Refusal>(())
     /// ```
     #[inline]
     pub fn try_set(&mut self, index: usize, bit: bool) -> Result<(), Refusal> {
-        if index >= self.len() {
-            return Err(Refusal::Outside);
-        }
+        self.has(index)?;
         let (words, start) = self.place_mut();
         T::set(O::CODE, words, start + index, bit)
     }
@@ -154,9 +174,7 @@ impl<T: Register, O: Order> BitSliceMut<'_, T, O> {
     /// # Ok::<(), worghulen::Refusal>(())
     /// ```
     pub fn try_replace(&mut self, index: usize, bit: bool) -> Result<bool, Refusal> {
-        if index >= self.len() {
-            return Err(Refusal::Outside);
-        }
+        self.has(index)?;
         let (words, start) = self.place_mut();
         T::replace(O::CODE, words, start + index, bit)
     }
@@ -178,9 +196,8 @@ impl<T: Register, O: Order> BitSliceMut<'_, T, O> {
     /// # Ok::<(), worghulen::Refusal>(())
     /// ```
     pub fn try_swap(&mut self, i: usize, j: usize) -> Result<(), Refusal> {
-        if i >= self.len() || j >= self.len() {
-            return Err(Refusal::Outside);
-        }
+        self.has(i)?;
+        self.has(j)?;
         let (words, start) = self.place_mut();
         T::swap(O::CODE, words, start + i, start + j)
     }
@@ -392,7 +409,8 @@ impl<T: Register, O: Order> BitSliceMut<'_, T, O> {
         let source = source.as_bitslice();
         let len = self.len();
         if source.len() != len {
-            return Err(Refusal::Lengths);
+            let other = source.len();
+            return Err(Refusal::Lengths { len, other });
         }
         match T::same(&source.seen()) {
             Some(words) if O::CODE == B::Order::CODE => {
@@ -435,7 +453,7 @@ impl<T: Register, O: Order> BitSliceMut<'_, T, O> {
         start: usize,
     ) -> Result<(), Refusal> {
         let (from, count) = within(range, self.len())?;
-        let (to, count) = within(run_of(start, count)?, self.len())?;
+        let (to, count) = within(run_of(start, count, self.len())?, self.len())?;
         let (words, first) = self.place_mut();
         T::copy_within(O::CODE, words, first + from, first + to, count)
     }
@@ -475,6 +493,7 @@ impl<T: Register, O: Order> BitSliceMut<'_, T, O> {
     /// # Ok::<(), worghulen::Refusal>(())
     /// ```
     pub fn try_shift_left(&mut self, by: usize) -> Result<(), Refusal> {
+        self.can_move(by)?;
         let len = self.len();
         let (words, start) = self.place_mut();
         T::shift_left(O::CODE, words, start, len, by)
@@ -498,6 +517,7 @@ impl<T: Register, O: Order> BitSliceMut<'_, T, O> {
     /// # Ok::<(), worghulen::Refusal>(())
     /// ```
     pub fn try_shift_right(&mut self, by: usize) -> Result<(), Refusal> {
+        self.can_move(by)?;
         let len = self.len();
         let (words, start) = self.place_mut();
         T::shift_right(O::CODE, words, start, len, by)
@@ -520,6 +540,7 @@ impl<T: Register, O: Order> BitSliceMut<'_, T, O> {
     /// # Ok::<(), worghulen::Refusal>(())
     /// ```
     pub fn try_rotate_left(&mut self, by: usize) -> Result<(), Refusal> {
+        self.can_move(by)?;
         let len = self.len();
         let (words, start) = self.place_mut();
         T::rotate_left(O::CODE, words, start, len, by)
@@ -542,8 +563,8 @@ impl<T: Register, O: Order> BitSliceMut<'_, T, O> {
     /// # Ok::<(), worghulen::Refusal>(())
     /// ```
     pub fn try_rotate_right(&mut self, by: usize) -> Result<(), Refusal> {
-        let left = self.len().checked_sub(by).ok_or(Refusal::Outside)?;
-        self.try_rotate_left(left)
+        self.can_move(by)?;
+        self.try_rotate_left(self.len() - by)
     }
 
     /// Makes of the first bits what a function makes of at most 64 of them, as digits, the first

@@ -3,6 +3,7 @@
 use crate::order::code::Code;
 use crate::order::{Lsb0, Order};
 use crate::proved::freemap;
+use crate::range::bits_of;
 use crate::refusal::{Refusal, refused};
 use core::fmt::{self, Debug, Formatter};
 use core::iter::FusedIterator;
@@ -23,7 +24,7 @@ use core::iter::FusedIterator;
 /// let mut map = FreeMap::<Lsb0>::new(&mut words, 100)?;
 /// assert_eq!((map.alloc_run(20), map.alloc()), (Some(0), Some(20)));
 /// map.free(4, 12);
-/// assert_eq!(map.try_free(4, 1), Err(Refusal::Outside));
+/// assert_eq!(map.try_free(4, 1), Err(Refusal::NotInUse));
 /// assert_eq!(map.alloc_run_aligned(8, 8), Some(8));
 /// assert_eq!(map.count_free(), 83);
 /// # Ok::<(), Refusal>(())
@@ -60,15 +61,16 @@ impl<'a, O: Order> FreeMap<'a, O> {
     /// use worghulen::{FreeMap, Lsb0, Refusal};
     ///
     /// let mut words = [5];
-    /// assert_eq!(FreeMap::<Lsb0>::new(&mut words, 65).err(), Some(Refusal::Outside));
+    /// assert_eq!(FreeMap::<Lsb0>::new(&mut words, 65).err(), Some(Refusal::Outside { index: 65, len: 64 }));
     /// assert_eq!(words, [5]);
     /// assert_eq!(FreeMap::<Lsb0>::new(&mut words, 60)?.count_free(), 60);
     /// # Ok::<(), Refusal>(())
     /// ```
     pub fn new(words: &'a mut [u64], blocks: usize) -> Result<Self, Refusal> {
+        let len = bits_of(words.len(), 64);
         Proved::<'a, O>::new(words, blocks)
             .map(Self)
-            .map_err(|_| Refusal::Outside)
+            .map_err(|_| Refusal::Outside { index: blocks, len })
     }
 
     /// The map of so many blocks that words have, as they were stored. Constant time.
@@ -86,9 +88,10 @@ impl<'a, O: Order> FreeMap<'a, O> {
     /// # Ok::<(), worghulen::Refusal>(())
     /// ```
     pub fn from_words(words: &'a mut [u64], blocks: usize) -> Result<Self, Refusal> {
+        let len = bits_of(words.len(), 64);
         Proved::<'a, O>::from_words(words, blocks)
             .map(Self)
-            .map_err(|_| Refusal::Outside)
+            .map_err(|_| Refusal::Outside { index: blocks, len })
     }
 
     /// How many blocks there are. Constant time.
@@ -264,7 +267,8 @@ impl<'a, O: Order> FreeMap<'a, O> {
     ///
     /// # Errors
     ///
-    /// [`Refusal::Outside`] where there are not so many, or one is not in use. The map stays then.
+    /// [`Refusal::Outside`] where there are not so many, otherwise [`Refusal::NotInUse`] where one
+    /// is not in use. The map stays then.
     ///
     /// # Examples
     ///
@@ -273,14 +277,19 @@ impl<'a, O: Order> FreeMap<'a, O> {
     ///
     /// let mut words = [0b0110];
     /// let mut map = FreeMap::<Lsb0>::from_words(&mut words, 8)?;
-    /// assert_eq!(map.try_free(2, 2), Err(Refusal::Outside));
+    /// assert_eq!(map.try_free(2, 2), Err(Refusal::NotInUse));
+    /// assert_eq!(map.try_free(2, 7), Err(Refusal::Outside { index: 9, len: 8 }));
     /// map.try_free(1, 2)?;
     /// assert_eq!(words, [0]);
     /// # Ok::<(), Refusal>(())
     /// ```
     pub fn try_free(&mut self, at: usize, count: usize) -> Result<(), Refusal> {
+        let (index, len) = (at.saturating_add(count), self.blocks());
+        if index > len {
+            return Err(Refusal::Outside { index, len });
+        }
         if !self.0.is_in_use(at, count) {
-            return Err(Refusal::Outside);
+            return Err(Refusal::NotInUse);
         }
         self.0.free(at, count);
         Ok(())

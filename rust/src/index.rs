@@ -191,7 +191,7 @@ impl<T: Register, O: Order> BitSlice<'_, T, O> {
     /// let words = [0x5a_u8];
     /// let bits = words.view_bits::<Lsb0>();
     /// assert_eq!(bits.part(2..7)?.part(1..3)?, bits.part(3..5)?);
-    /// assert_eq!(bits.part(2..9).err(), Some(Refusal::Outside));
+    /// assert_eq!(bits.part(2..9).err(), Some(Refusal::Outside { index: 9, len: 8 }));
     /// # Ok::<(), Refusal>(())
     /// ```
     #[inline]

@@ -791,7 +791,7 @@ impl<W: Write, O: Order> IoWriter<W, O> {
     /// ```
     pub fn pad_to_multiple_of(&mut self, of: u64, bit: bool) -> Result<()> {
         let to = self.position.checked_next_multiple_of(of);
-        self.fill(bit, to.ok_or(Refusal::Outside)? - self.position)
+        self.fill(bit, to.ok_or(ErrorKind::InvalidInput)? - self.position)
     }
 
     /// Writes a number's Exp-Golomb code: `ue(v)` of ITU-T H.264 and H.265, or for a signed type

@@ -16,6 +16,8 @@ extern crate std;
 mod array;
 #[cfg(feature = "alloc")]
 mod boxed;
+#[cfg(feature = "std")]
+mod bytes;
 mod combine;
 mod compare;
 mod domain;

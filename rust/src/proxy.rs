@@ -196,7 +196,7 @@ impl<T: Register, O: Order> BitSliceMut<'_, T, O> {
         let source = source.as_bitslice();
         assert!(
             self.copy_from(source).is_ok(),
-            "copy_from_bitslice of {} bits to {}: the slices have different lengths (`copy_from` answers that)",
+            "copy_from_bitslice of {} bits to {}: these are not as many (`copy_from` answers that)",
             source.len(),
             self.len(),
         );

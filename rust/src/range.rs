@@ -28,10 +28,11 @@ pub(crate) fn within(
         Bound::Excluded(&end) => Some(end),
         Bound::Unbounded => Some(bits),
     };
-    let (start, end) = start.zip(end).ok_or(Refusal::Outside)?;
+    let outside = |index| Refusal::Outside { index, len: bits };
+    let (start, end) = start.zip(end).ok_or(outside(usize::MAX))?;
     let len = length(start, end)?;
     if end > bits {
-        return Err(Refusal::Outside);
+        return Err(outside(end));
     }
     Ok((start, len))
 }
@@ -46,9 +47,10 @@ pub(crate) fn length(start: usize, end: usize) -> Result<usize, Refusal> {
     Ok(len)
 }
 
-/// The range of a number of places from one on.
+/// The range of a number of places from one on, of so many bits.
 #[inline]
-pub(crate) fn run_of(start: usize, count: usize) -> Result<Range<usize>, Refusal> {
-    let end = start.checked_add(count).ok_or(Refusal::Outside)?;
-    Ok(start..end)
+pub(crate) fn run_of(start: usize, count: usize, len: usize) -> Result<Range<usize>, Refusal> {
+    let index = usize::MAX;
+    let end = start.checked_add(count);
+    Ok(start..end.ok_or(Refusal::Outside { index, len })?)
 }

@@ -1,5 +1,6 @@
 //! Why a call is refused.
 
+use crate::range::MAX_BITS;
 use core::error::Error;
 use core::fmt::{self, Debug, Display, Formatter};
 
@@ -12,8 +13,8 @@ use core::fmt::{self, Debug, Display, Formatter};
 /// use worghulen::{BitSlice, Lsb0, Refusal};
 ///
 /// let refused = BitSlice::<u8, Lsb0>::new(&[0; 2], 3..17).unwrap_err();
-/// assert_eq!(refused, Refusal::Outside);
-/// assert_eq!(refused.to_string(), "a range does not lie in its memory");
+/// assert_eq!(refused, Refusal::Outside { index: 17, len: 16 });
+/// assert_eq!(refused.to_string(), "17 lies outside of 16 bits");
 /// ```
 #[derive(Clone, Copy, PartialEq, Eq, Hash, Debug)]
 #[non_exhaustive]
@@ -26,7 +27,13 @@ pub enum Refusal {
     TooLong,
     /// A range ends past the last bit of its memory or slice, there is no bit at an index, or bits
     /// are to be moved by more places than there are.
-    Outside,
+    Outside {
+        /// The index, one more than that of the range's last bit, or the number of places: the
+        /// greatest `usize` where it is more.
+        index: usize,
+        /// How many bits there are.
+        len: usize,
+    },
     /// A number is to have more bits than its type, or more than 64.
     TooWide,
     /// Two spans of a run have a bit in common.
@@ -44,9 +51,16 @@ pub enum Refusal {
     /// A range starts past its end.
     Reversed,
     /// Two slices that are to have the same length have not.
-    Lengths,
+    Lengths {
+        /// How many bits the slice has that is to be edited.
+        len: usize,
+        /// How many the other has.
+        other: usize,
+    },
     /// A cut does not lie between two words, so that both parts would have bits of one word.
     SharedWord,
+    /// A block that is to be freed is not in use.
+    NotInUse,
     /// There is no memory for so many bits. What was to grow is as it was.
     NoMemory,
     /// The character of a text at this place, counted from 0, is neither `0` nor `1`.
@@ -56,6 +70,10 @@ pub enum Refusal {
 }
 
 impl Refusal {
+    /// What the library's status says, which has no numbers: who asks for what the crate has not
+    /// tested puts them in.
+    pub(crate) const OUTSIDE: Self = Self::Outside { index: 0, len: 0 };
+
     /// What a status of the library says.
     #[inline]
     pub(crate) fn check(status: u8) -> Result<(), Self> {
@@ -73,7 +91,7 @@ impl Refusal {
             1 => Self::NoOrder,
             2 => Self::TooManySpans,
             3 => Self::TooLong,
-            4 => Self::Outside,
+            4 => Self::OUTSIDE,
             5 => Self::TooWide,
             6 => Self::Overlap,
             7 => Self::NoRoom,
@@ -90,8 +108,10 @@ impl Display for Refusal {
         f.write_str(match self {
             Self::NoOrder => "the order is none of the two",
             Self::TooManySpans => "a run has more than 64 spans",
-            Self::TooLong => "a range has more than 2305843009213693951 bits",
-            Self::Outside => "a range does not lie in its memory",
+            Self::TooLong => return write!(f, "a range has more than {MAX_BITS} bits"),
+            Self::Outside { index, len } => {
+                return write!(f, "{index} lies outside of {len} bits");
+            }
             Self::TooWide => "a number is to have more bits than its type",
             Self::Overlap => "two spans of a run have a bit in common",
             Self::NoRoom => "a run has no room for all replies or spans",
@@ -99,8 +119,11 @@ impl Display for Refusal {
             Self::TooFew => "fewer bits are left of a stream",
             Self::TooLarge => "a number has too many digits",
             Self::Reversed => "a range starts past its end",
-            Self::Lengths => "the slices have different lengths",
+            Self::Lengths { len, other } => {
+                return write!(f, "a slice has {len} bits, and the other {other}");
+            }
             Self::SharedWord => "a cut does not lie between two words",
+            Self::NotInUse => "a block is not in use",
             Self::NoMemory => "there is no memory for so many bits",
             Self::NotADigit(at) => return write!(f, "character {at} is neither 0 nor 1"),
             Self::Unknown(number) => return write!(f, "the library answered {number}"),

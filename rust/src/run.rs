@@ -1,7 +1,7 @@
 //! Commands through disjoint ranges of one memory.
 
 use crate::order::Order;
-use crate::range::length;
+use crate::range::{bits_of, length};
 use crate::refusal::Refusal;
 use crate::register::Register;
 use crate::sys::{self, Span};
@@ -213,12 +213,14 @@ impl<O: Order> Spans<O> {
     ///
     /// let words = [0_u8];
     /// assert_eq!(Spans::<Lsb0>::new(&[0..3, 3..8])?.can_run(&words), Ok(()));
-    /// assert_eq!(Spans::<Lsb0>::new(&[0..3, 3..9])?.can_run(&words), Err(Refusal::Outside));
     /// assert_eq!(Spans::<Lsb0>::new(&[0..3, 2..8])?.can_run(&words), Err(Refusal::Overlap));
+    /// let refused = Spans::<Lsb0>::new(&[0..3, 3..9])?.can_run(&words);
+    /// assert_eq!(refused, Err(Refusal::Outside { index: 9, len: 8 }));
     /// # Ok::<(), Refusal>(())
     /// ```
     pub fn can_run<T: Register>(&self, words: &[T]) -> Result<(), Refusal> {
-        T::can_run(O::CODE, self.own(), words.len())
+        let tested = T::can_run(O::CODE, self.own(), words.len());
+        tested.map_err(|why| with_place::<T>(why, self.own(), words))
     }
 
     /// Gives the spans the commands of the requests, in their order, and writes reply n to request
@@ -285,13 +287,9 @@ impl<O: Order> Spans<O> {
     /// ```
     pub fn serve<T: Register>(&self, words: &mut [T], request: &Request) -> Result<Reply, Refusal> {
         let mut answer = [sys::Reply::default()];
-        T::run(
-            O::CODE,
-            self.own(),
-            words,
-            &[own_request(request)],
-            &mut answer,
-        )?;
+        let request = own_request(request);
+        let served = T::run(O::CODE, self.own(), words, &[request], &mut answer);
+        served.map_err(|why| with_place::<T>(why, self.own(), words))?;
         answered(answer[0])
     }
 }
@@ -406,7 +404,8 @@ impl<'a, O: Order> ManySpans<'a, O> {
     /// # Ok::<(), Refusal>(())
     /// ```
     pub fn can_run<T: Register>(&mut self, words: &[T]) -> Result<(), Refusal> {
-        T::can_run_in(O::CODE, self.list, words.len(), self.room)
+        let tested = T::can_run_in(O::CODE, self.list, words.len(), self.room);
+        tested.map_err(|why| with_place::<T>(why, self.list, words))
     }
 
     /// Gives the spans the commands of the requests, as [`Spans::run`] does. Costs one test of the
@@ -452,6 +451,17 @@ impl<'a, O: Order> ManySpans<'a, O> {
             let room = &mut named.room[..named.count];
             T::run_in(O::CODE, spans, words, asked, answers, room)
         })
+    }
+}
+
+/// Why spans are refused, with the end of the first that is outside of the words.
+#[cold]
+fn with_place<T: Register>(why: Refusal, spans: &[Span], words: &[T]) -> Refusal {
+    let len = bits_of(words.len(), T::BITS);
+    let mut ends = spans.iter().map(|it| it.start.saturating_add(it.count));
+    match (why, ends.find(|end| *end > len)) {
+        (Refusal::Outside { .. }, Some(index)) => Refusal::Outside { index, len },
+        _ => why,
     }
 }
 

@@ -85,7 +85,7 @@ impl<'a, T: Register, O: Order> BitSlice<'a, T, O> {
     ///
     /// let words = [0_u64; 4];
     /// assert_eq!(BitSlice::<_, Msb0>::new(&words, 3..200)?.len(), 197);
-    /// assert_eq!(BitSlice::<_, Msb0>::new(&words, 3..257).err(), Some(Refusal::Outside));
+    /// assert_eq!(BitSlice::<_, Msb0>::new(&words, 3..257).err(), Some(Refusal::Outside { index: 257, len: 256 }));
     /// assert_eq!(BitSlice::<_, Msb0>::new(&words, ..)?.len(), 256);
     /// # Ok::<(), Refusal>(())
     /// ```

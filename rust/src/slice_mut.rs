@@ -217,7 +217,7 @@ impl<'a, T: Register, O: Order> BitSliceMut<'a, T, O> {
     ) -> Result<(BitSliceMut<'_, T, O>, BitSliceMut<'_, T, O>), Refusal> {
         let (start, len) = (self.start, self.len);
         if mid > len {
-            return Err(Refusal::Outside);
+            return Err(Refusal::Outside { index: mid, len });
         }
         if mid == 0 {
             return Ok((
@@ -272,7 +272,7 @@ impl<T: Register, O: Order> Default for BitSliceMut<'_, T, O> {
 /// copy_bits::<_, Lsb0>(&[0xabcd, 0x0ef0], 4..28, &mut target, 8)?;
 /// assert_eq!(target, [0xbc00, 0xef0a]);
 /// let refused = copy_bits::<_, Lsb0>(&[0xabcd, 0x0ef0], 4..28, &mut target, 9);
-/// assert_eq!(refused, Err(Refusal::Outside));
+/// assert_eq!(refused, Err(Refusal::Outside { index: 33, len: 32 }));
 /// # Ok::<(), Refusal>(())
 /// ```
 pub fn copy_bits<T: Register, O: Order>(
@@ -282,5 +282,6 @@ pub fn copy_bits<T: Register, O: Order>(
     start: usize,
 ) -> Result<(), Refusal> {
     let source = BitSlice::<T, O>::new(source, range)?;
-    BitSliceMut::<T, O>::new(target, run_of(start, source.len())?)?.copy_from(source)
+    let len = bits_of(target.len(), T::BITS);
+    BitSliceMut::<T, O>::new(target, run_of(start, source.len(), len)?)?.copy_from(source)
 }

@@ -516,15 +516,13 @@ impl<T: Register, O: Order> BitVec<T, O> {
     /// use worghulen::{Refusal, bitvec};
     ///
     /// let mut bits = bitvec![0, 1];
-    /// assert_eq!(bits.try_insert(3, true), Err(Refusal::Outside));
+    /// assert_eq!(bits.try_insert(3, true), Err(Refusal::Outside { index: 3, len: 2 }));
     /// bits.try_insert(2, false)?;
     /// assert_eq!(bits.to_string(), "010");
     /// # Ok::<(), Refusal>(())
     /// ```
     pub fn try_insert(&mut self, index: usize, bit: bool) -> Result<(), Refusal> {
-        if index > self.0.len() {
-            return Err(Refusal::Outside);
-        }
+        self.has_place(index)?;
         self.0.insert(index, bit).map_err(no_memory)
     }
 
@@ -540,7 +538,8 @@ impl<T: Register, O: Order> BitVec<T, O> {
     /// use worghulen::{Refusal, bitvec};
     ///
     /// let mut bits = bitvec![0, 1];
-    /// assert_eq!((bits.try_remove(1), bits.try_remove(1)), (Ok(true), Err(Refusal::Outside)));
+    /// assert_eq!(bits.try_remove(1), Ok(true));
+    /// assert_eq!(bits.try_remove(1), Err(Refusal::Outside { index: 1, len: 1 }));
     /// ```
     pub fn try_remove(&mut self, index: usize) -> Result<bool, Refusal> {
         self.has(index)?;
@@ -569,10 +568,22 @@ impl<T: Register, O: Order> BitVec<T, O> {
 
     /// Whether there is a bit of this index.
     fn has(&self, index: usize) -> Result<(), Refusal> {
-        if index < self.0.len() {
+        let len = self.0.len();
+        if index < len {
             Ok(())
         } else {
-            Err(Refusal::Outside)
+            Err(Refusal::Outside { index, len })
+        }
+    }
+
+    /// Refused where an index is past the length.
+    #[inline]
+    fn has_place(&self, index: usize) -> Result<(), Refusal> {
+        let len = self.0.len();
+        if index <= len {
+            Ok(())
+        } else {
+            Err(Refusal::Outside { index, len })
         }
     }
 
@@ -588,12 +599,11 @@ impl<T: Register, O: Order> BitVec<T, O> {
     /// ```
     /// use worghulen::{Refusal, bitvec};
     ///
-    /// assert_eq!(bitvec![0, 1].try_split_off(3).err(), Some(Refusal::Outside));
+    /// let refused = bitvec![0, 1].try_split_off(3).err();
+    /// assert_eq!(refused, Some(Refusal::Outside { index: 3, len: 2 }));
     /// ```
     pub fn try_split_off(&mut self, at: usize) -> Result<Self, Refusal> {
-        if at > self.0.len() {
-            return Err(Refusal::Outside);
-        }
+        self.has_place(at)?;
         self.0.split_off(at).map(Self).map_err(no_memory)
     }
 
@@ -790,7 +800,7 @@ impl<T: Register, O: Order> BitVec<T, O> {
     /// use worghulen::{Refusal, bitvec};
     ///
     /// let mut bits = bitvec![0, 1];
-    /// assert_eq!(bits.try_drain(1..3).err(), Some(Refusal::Outside));
+    /// assert_eq!(bits.try_drain(1..3).err(), Some(Refusal::Outside { index: 3, len: 2 }));
     /// assert_eq!(bits.try_drain(1..)?.next(), Some(true));
     /// # Ok::<(), Refusal>(())
     /// ```

@@ -406,7 +406,8 @@ mod cases {
                 model[range].copy_from_slice(&other_model);
                 Ok(())
             } else {
-                Err(Refusal::Lengths)
+                let (len, other) = (range.len(), other_model.len());
+                Err(Refusal::Lengths { len, other })
             };
             assert_eq!(bits.copy_from(other), expected);
             assert_eq!(bits_of::<T, O>(&words), model);
@@ -431,7 +432,8 @@ mod cases {
                 _ => {
                     let answer = bits.and_not_from(other.as_bitslice());
                     if range.len() != other_model.len() {
-                        assert_eq!(answer, Err(Refusal::Lengths));
+                        let (len, other) = (range.len(), other_model.len());
+                        assert_eq!(answer, Err(Refusal::Lengths { len, other }));
                         assert_eq!(bits_of::<T, O>(&words), model);
                         return;
                     }
@@ -463,15 +465,20 @@ mod cases {
             random.place(own.len()),
             random.bit(),
         );
-        let expected = own.get(i).copied().ok_or(Refusal::Outside);
+        let outside = |index| Refusal::Outside {
+            index,
+            len: range.len(),
+        };
+        let expected = own.get(i).copied().ok_or(outside(i));
         assert_eq!(bits.try_replace(i, bit), expected);
         if expected.is_ok() {
             own[i] = bit;
         }
         let both = i.max(j) < own.len();
+        let first = if i < own.len() { j } else { i };
         assert_eq!(
             bits.try_swap(i, j),
-            if both { Ok(()) } else { Err(Refusal::Outside) }
+            if both { Ok(()) } else { Err(outside(first)) }
         );
         if both {
             own.swap(i, j);
@@ -492,10 +499,11 @@ mod cases {
         let own = &mut model[range.clone()];
         let mut bits = BitSliceMut::<T, O>::new(&mut words, range.clone()).unwrap();
         let by = random.place(own.len());
-        let expected = if by <= own.len() {
+        let (index, len) = (by, own.len());
+        let expected = if index <= len {
             Ok(())
         } else {
-            Err(Refusal::Outside)
+            Err(Refusal::Outside { index, len })
         };
         let kind = random.below(5);
         let answer = match kind {
@@ -551,7 +559,10 @@ mod cases {
                 own[..mid].iter_mut().for_each(|bit| *bit = !*bit);
                 own[mid..].fill(true);
             }
-            Err(refusal) if mid > own.len() => assert_eq!(refusal, Refusal::Outside),
+            Err(refusal) if mid > own.len() => {
+                let (index, len) = (mid, own.len());
+                assert_eq!(refusal, Refusal::Outside { index, len });
+            }
             Err(refusal) => {
                 assert!(!between);
                 assert_eq!(refusal, Refusal::SharedWord);

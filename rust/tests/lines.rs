@@ -95,3 +95,18 @@ fn owned() {
     assert_eq!(names.remove(&bitvec![0, 1]), Some("one"));
     assert_eq!(format!("{:?}", bitvec![u8, Msb0; 0, 1, 1]), "[0, 1, 1]");
 }
+
+/// Bits as inputs and outputs of bytes.
+#[cfg(feature = "std")]
+#[test]
+fn bytes() {
+    use std::io::{Read, Write};
+    let mut data = [0x12_u8, 0x34, 0x56];
+    let (mut buf, mut bits) = ([0; 2], data.view_bits::<Msb0>());
+    bits.read_exact(&mut buf).unwrap(); // 45
+    assert_eq!((buf, bits.len()), ([0x12, 0x34], 8));
+    data.view_bits_mut::<Msb0>().write_all(&[0xff]).unwrap();
+    let mut bv = BitVec::<u8, Msb0>::new();
+    bv.write_all(&data).unwrap();
+    assert_eq!(bv.into_vec(), [0xff, 0x34, 0x56]);
+}

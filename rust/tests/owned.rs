@@ -64,7 +64,7 @@ fn step<T: Word, O: Layout>(
         4 => assert_eq!(bits.pop(), model.pop()),
         5 | 6 => {
             let expected = if index > len {
-                Err(Refusal::Outside)
+                Err(Refusal::Outside { index, len })
             } else {
                 Ok(())
             };
@@ -77,7 +77,7 @@ fn step<T: Word, O: Layout>(
             let expected = if index < len {
                 Ok(model.remove(index))
             } else {
-                Err(Refusal::Outside)
+                Err(Refusal::Outside { index, len })
             };
             assert_eq!(bits.try_remove(index), expected);
         }
@@ -85,14 +85,14 @@ fn step<T: Word, O: Layout>(
             let expected = if index < len {
                 Ok(model.swap_remove(index))
             } else {
-                Err(Refusal::Outside)
+                Err(Refusal::Outside { index, len })
             };
             assert_eq!(bits.try_swap_remove(index), expected);
         }
         10 => {
             let rest = bits.try_split_off(index);
             if index > len {
-                assert_eq!(rest.err(), Some(Refusal::Outside));
+                assert_eq!(rest.err(), Some(Refusal::Outside { index, len }));
             } else {
                 assert_eq!(rest.unwrap(), model.split_off(index)[..]);
             }
@@ -162,7 +162,7 @@ fn step<T: Word, O: Layout>(
             let expected = if index < len {
                 Ok(())
             } else {
-                Err(Refusal::Outside)
+                Err(Refusal::Outside { index, len })
             };
             assert_eq!(bits.try_set(index, bit), expected);
             if index < len {
@@ -494,19 +494,19 @@ fn what_is_refused_is_said_and_changes_nothing() {
         panics(|| assert_eq!(bits![0; 65].load_le::<u64>(), 0)),
     ];
     let expected = [
-        "insert (4, true) of 3 bits: a range does not lie in its memory (`try_insert` answers that)",
-        "remove 3 of 3 bits: a range does not lie in its memory (`try_remove` answers that)",
-        "swap_remove 3 of 3 bits: a range does not lie in its memory (`try_swap_remove` answers that)",
-        "split_off 4 of 3 bits: a range does not lie in its memory (`try_split_off` answers that)",
-        "drain (Included(2), Excluded(4)) of 3 bits: a range does not lie in its memory (`try_drain` answers that)",
-        "set (3, true) of 3 bits: a range does not lie in its memory (`try_set` answers that)",
-        "swap (0, 3) of 3 bits: a range does not lie in its memory (`try_swap` answers that)",
-        "rotate_left 4 of 3 bits: a range does not lie in its memory (`try_rotate_left` answers that)",
-        "copy_within ((Included(2), Excluded(4)), 0) of 3 bits: a range does not lie in its memory (`try_copy_within` answers that)",
+        "insert (4, true) of 3 bits: 4 lies outside of 3 bits (`try_insert` answers that)",
+        "remove 3 of 3 bits: 3 lies outside of 3 bits (`try_remove` answers that)",
+        "swap_remove 3 of 3 bits: 3 lies outside of 3 bits (`try_swap_remove` answers that)",
+        "split_off 4 of 3 bits: 4 lies outside of 3 bits (`try_split_off` answers that)",
+        "drain (Included(2), Excluded(4)) of 3 bits: 4 lies outside of 3 bits (`try_drain` answers that)",
+        "set (3, true) of 3 bits: 3 lies outside of 3 bits (`try_set` answers that)",
+        "swap (0, 3) of 3 bits: 3 lies outside of 3 bits (`try_swap` answers that)",
+        "rotate_left 4 of 3 bits: 4 lies outside of 3 bits (`try_rotate_left` answers that)",
+        "copy_within ((Included(2), Excluded(4)), 0) of 3 bits: 4 lies outside of 3 bits (`try_copy_within` answers that)",
         "resize (18446744073709551615, true) of 3 bits: there is no memory for so many bits (`try_resize` answers that)",
         "reserve () of 18446744073709551615 bits: there is no memory for so many bits (`try_reserve` answers that)",
         "there is no bit 3 in a slice of 3 bits",
-        "copy_from_bitslice of 2 bits to 3: the slices have different lengths (`copy_from` answers that)",
+        "copy_from_bitslice of 2 bits to 3: these are not as many (`copy_from` answers that)",
         "repeat () of 18446744073709551615 bits: there is no memory for so many bits (`try_repeat` answers that)",
         "load_le () of 65 bits: a number is to have more bits than its type (`try_load_le` answers that)",
     ];

@@ -63,7 +63,9 @@ mod cases {
         let answer = BitSliceMut::<T, O>::new(&mut words, range.clone())
             .and_then(|mut bits| bits.try_set(index, bit));
         let expected = checked(&range, model.len()).and_then(|range| {
-            let place = model[range].get_mut(index).ok_or(Refusal::Outside)?;
+            let len = range.len();
+            let outside = Refusal::Outside { index, len };
+            let place = model[range].get_mut(index).ok_or(outside)?;
             *place = bit;
             Ok(())
         });
@@ -230,7 +232,8 @@ mod cases {
             model[to].copy_from_slice(&read[from]);
             Ok(())
         } else {
-            Err(Refusal::Lengths)
+            let (len, other) = (to.len(), from.len());
+            Err(Refusal::Lengths { len, other })
         };
         assert_eq!(bits.copy_from(source), expected);
         assert_eq!(bits_of::<T, O>(&target), model);
@@ -281,12 +284,10 @@ fn a_range_has_any_bounds() {
     assert_eq!(of(included(3), all), BitSlice::new(&words, 3..16));
     assert_eq!(of(excluded(3), included(15)), BitSlice::new(&words, 4..16));
     assert_eq!(of(excluded(3), excluded(3)), Err(Refusal::Reversed));
-    assert_eq!(of(included(3), included(16)), Err(Refusal::Outside));
-    assert_eq!(
-        of(included(last - 3), included(last)),
-        Err(Refusal::Outside)
-    );
-    assert_eq!(of(excluded(last), all), Err(Refusal::Outside));
+    let outside = |index| Err(Refusal::Outside { index, len: 16 });
+    assert_eq!(of(included(3), included(16)), outside(17));
+    assert_eq!(of(included(last - 3), included(last)), outside(last));
+    assert_eq!(of(excluded(last), all), outside(last));
     assert_eq!(of(all, excluded(last)), Err(Refusal::TooLong));
 }
 

@@ -12,6 +12,7 @@ for_all_memories!(bits_and_slices_are_read, 43);
 for_all_memories!(numbers_are_written, 44);
 for_all_memories!(runs_and_codes_are_written, 45);
 for_all_memories!(bits_and_slices_are_written, 46);
+for_all_memories!(reads_take_turns, 47);
 
 mod cases {
     use crate::common::{Layout, Random, Word, bits_of, checked, with_any_other};
@@ -207,6 +208,67 @@ mod cases {
         let mut code = vec![false; zeros];
         code.extend(digits_of(above, zeros + 1, true));
         code
+    }
+
+    /// A read of a number, or a look at it.
+    fn takes<T: Word, O: Layout, N: Plain>(
+        random: &mut Random,
+        reader: &mut BitReader<'_, T, O>,
+        left: &[bool],
+    ) -> usize {
+        let (count, big) = (random.below(N::DIGITS + 2), random.bit());
+        let number = |big| {
+            if count > N::DIGITS {
+                return Err(Refusal::TooWide);
+            }
+            let bits = left.get(..count).ok_or(Refusal::TooFew)?;
+            Ok(number_of::<N>(bits, big))
+        };
+        let (is_msb0, looks) = (O::digit(0, 8) == 7, random.bit());
+        let (answer, expected) = match (looks, big) {
+            (true, _) => (reader.peek::<N>(count), number(is_msb0)),
+            (_, true) => (reader.read_be::<N>(count), number(true)),
+            (_, false) => (reader.read_le::<N>(count), number(false)),
+        };
+        assert_eq!(answer, expected);
+        if looks || answer.is_err() { 0 } else { count }
+    }
+
+    pub fn reads_take_turns<T: Word, O: Layout>(random: &mut Random) {
+        let words: Vec<T> = (0..random.below(14))
+            .map(|_| T::of(random.number()))
+            .collect();
+        let bits = bits_of::<T, O>(&words);
+        let from = random.below(bits.len() + 1);
+        let model = &bits[from..];
+        let mut reader = BitReader::new(BitSlice::<T, O>::new(&words, from..).unwrap());
+        let mut place = 0;
+        for _ in 0..random.below(24) {
+            let left = &model[place..];
+            place += match random.below(8) {
+                0 => takes::<T, O, u8>(random, &mut reader, left),
+                1 => takes::<T, O, i16>(random, &mut reader, left),
+                2 => takes::<T, O, u32>(random, &mut reader, left),
+                3 => takes::<T, O, i64>(random, &mut reader, left),
+                4 | 5 => takes::<T, O, u64>(random, &mut reader, left),
+                6 => {
+                    let bit = left.first().copied().ok_or(Refusal::TooFew);
+                    assert_eq!(reader.read_bit(), bit);
+                    usize::from(bit.is_ok())
+                }
+                _ => {
+                    let count = random.below(90);
+                    let is_there = count <= left.len();
+                    assert_eq!(reader.skip(count).is_ok(), is_there);
+                    if is_there { count } else { 0 }
+                }
+            };
+            assert_eq!(
+                (reader.position(), reader.remaining()),
+                (place, model.len() - place)
+            );
+        }
+        assert_eq!(reader.rest().iter().collect::<Vec<_>>(), model[place..]);
     }
 
     /// A number of any count of digits.

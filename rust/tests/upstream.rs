@@ -65,7 +65,7 @@ mod slices_made {
         );
         assert_eq!(
             BitSlice::<u8, Msb0>::new(&[0; 3], 1..25).err(),
-            Some(Refusal::Outside)
+            Some(Refusal::Outside { index: 25, len: 24 })
         );
     }
 

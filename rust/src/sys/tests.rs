@@ -186,7 +186,7 @@ mod cases {
 
     pub fn ranges_are_short_enough<T: Word>() {
         for start in [0, 7, 3 * T::WIDTH, MOST, usize::MAX] {
-            assert_eq!(of_range::<T>(0, start, MOST), Err(Refusal::Outside));
+            assert_eq!(of_range::<T>(0, start, MOST), Err(Refusal::OUTSIDE));
             assert_eq!(of_range::<T>(1, start, MOST + 1), Err(Refusal::TooLong));
             assert_eq!(of_range::<T>(0, start, usize::MAX), Err(Refusal::TooLong));
             assert_eq!(of_number::<T>(0, start, usize::MAX), Err(Refusal::TooLong));
@@ -199,7 +199,7 @@ mod cases {
             assert_eq!(of_range::<T>(1, start, bits - start), Ok(()));
             assert_eq!(
                 of_range::<T>(1, start, bits - start + 1),
-                Err(Refusal::Outside)
+                Err(Refusal::OUTSIDE)
             );
             assert_eq!(of_bit::<T>(0, start), Ok(()));
         }
@@ -211,12 +211,12 @@ mod cases {
             usize::MAX - 1,
             usize::MAX,
         ] {
-            assert_eq!(of_range::<T>(0, far, 1), Err(Refusal::Outside));
-            assert_eq!(of_range::<T>(0, far, 2), Err(Refusal::Outside));
-            assert_eq!(of_bit::<T>(1, far), Err(Refusal::Outside));
+            assert_eq!(of_range::<T>(0, far, 1), Err(Refusal::OUTSIDE));
+            assert_eq!(of_range::<T>(0, far, 2), Err(Refusal::OUTSIDE));
+            assert_eq!(of_bit::<T>(1, far), Err(Refusal::OUTSIDE));
         }
         assert_eq!(of_range::<T>(0, bits, 0), Ok(()));
-        assert_eq!(of_range::<T>(0, bits + 1, 0), Err(Refusal::Outside));
+        assert_eq!(of_range::<T>(0, bits + 1, 0), Err(Refusal::OUTSIDE));
     }
 
     pub fn numbers_are_narrow_enough<T: Word>() {
@@ -226,7 +226,7 @@ mod cases {
             let past = if start == 0 {
                 Refusal::TooWide
             } else {
-                Refusal::Outside
+                Refusal::OUTSIDE
             };
             assert_eq!(of_number::<T>(0, start, 9 * T::WIDTH), Err(past));
         }
@@ -238,7 +238,7 @@ mod cases {
             of_range::<T>(0, usize::MAX, usize::MAX),
             Err(Refusal::TooLong)
         );
-        assert_eq!(of_number::<T>(0, usize::MAX, 65), Err(Refusal::Outside));
+        assert_eq!(of_number::<T>(0, usize::MAX, 65), Err(Refusal::OUTSIDE));
         assert_eq!(of_bit::<T>(2, usize::MAX), Err(Refusal::NoOrder));
     }
 
@@ -274,15 +274,15 @@ mod cases {
             assert_eq!(of_stream::<T>(1, place, bits), Ok(()));
             assert_eq!(of_stream::<T>(0, place, place), Ok(()));
             assert_eq!(of_stream::<T>(2, place, bits), Err(Refusal::NoOrder));
-            assert_eq!(of_stream::<T>(0, place, bits + 1), Err(Refusal::Outside));
-            assert_eq!(of_stream::<T>(1, place + 1, place), Err(Refusal::Outside));
+            assert_eq!(of_stream::<T>(0, place, bits + 1), Err(Refusal::OUTSIDE));
+            assert_eq!(of_stream::<T>(1, place + 1, place), Err(Refusal::OUTSIDE));
         }
         for far in [bits + 1, MOST, usize::MAX - 1, usize::MAX] {
-            assert_eq!(of_stream::<T>(0, far, far), Err(Refusal::Outside));
-            assert_eq!(of_stream::<T>(1, far, 0), Err(Refusal::Outside));
-            assert_eq!(of_stream::<T>(1, far, bits), Err(Refusal::Outside));
+            assert_eq!(of_stream::<T>(0, far, far), Err(Refusal::OUTSIDE));
+            assert_eq!(of_stream::<T>(1, far, 0), Err(Refusal::OUTSIDE));
+            assert_eq!(of_stream::<T>(1, far, bits), Err(Refusal::OUTSIDE));
         }
-        assert_eq!(of_stream::<T>(0, 0, MOST), Err(Refusal::Outside));
+        assert_eq!(of_stream::<T>(0, 0, MOST), Err(Refusal::OUTSIDE));
         assert_eq!(of_stream::<T>(0, 0, MOST + 1), Err(Refusal::TooLong));
         assert_eq!(of_stream::<T>(2, 0, usize::MAX), Err(Refusal::NoOrder));
     }
@@ -345,15 +345,15 @@ mod cases {
             assert_eq!(of_target::<T>(1, place, bits), Ok(()));
             assert_eq!(of_target::<T>(0, place, place), Ok(()));
             assert_eq!(of_target::<T>(2, place, bits), Err(Refusal::NoOrder));
-            assert_eq!(of_target::<T>(0, place, bits + 1), Err(Refusal::Outside));
-            assert_eq!(of_target::<T>(1, place + 1, place), Err(Refusal::Outside));
+            assert_eq!(of_target::<T>(0, place, bits + 1), Err(Refusal::OUTSIDE));
+            assert_eq!(of_target::<T>(1, place + 1, place), Err(Refusal::OUTSIDE));
         }
         for far in [bits + 1, MOST, usize::MAX - 1, usize::MAX] {
-            assert_eq!(of_target::<T>(0, far, far), Err(Refusal::Outside));
-            assert_eq!(of_target::<T>(1, far, 0), Err(Refusal::Outside));
-            assert_eq!(of_target::<T>(1, far, bits), Err(Refusal::Outside));
+            assert_eq!(of_target::<T>(0, far, far), Err(Refusal::OUTSIDE));
+            assert_eq!(of_target::<T>(1, far, 0), Err(Refusal::OUTSIDE));
+            assert_eq!(of_target::<T>(1, far, bits), Err(Refusal::OUTSIDE));
         }
-        assert_eq!(of_target::<T>(0, 0, MOST), Err(Refusal::Outside));
+        assert_eq!(of_target::<T>(0, 0, MOST), Err(Refusal::OUTSIDE));
         assert_eq!(of_target::<T>(0, 0, MOST + 1), Err(Refusal::TooLong));
         assert_eq!(of_target::<T>(2, 0, usize::MAX), Err(Refusal::NoOrder));
     }
@@ -418,7 +418,7 @@ mod cases {
             (vec![span(0, 0); 65], Refusal::TooManySpans),
             (vec![long; 65], Refusal::TooManySpans),
             (vec![far, few, few, long], Refusal::TooLong),
-            (vec![few, few, far], Refusal::Outside),
+            (vec![few, few, far], Refusal::OUTSIDE),
             (vec![few, span(9, 9), span(8, 1)], Refusal::Overlap),
         ] {
             let mut memory = [T::ZERO; 9];

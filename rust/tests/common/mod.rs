@@ -78,7 +78,8 @@ pub fn checked(range: &Range<usize>, len: usize) -> Result<Range<usize>, Refusal
     } else if range.end - range.start > MAX_BITS {
         Err(Refusal::TooLong)
     } else if range.end > len {
-        Err(Refusal::Outside)
+        let index = range.end;
+        Err(Refusal::Outside { index, len })
     } else {
         Ok(range.clone())
     }
@@ -86,8 +87,9 @@ pub fn checked(range: &Range<usize>, len: usize) -> Result<Range<usize>, Refusal
 
 /// The range of as many places as another from a place on, where it lies among `len` bits.
 pub fn moved(range: &Range<usize>, start: usize, len: usize) -> Result<Range<usize>, Refusal> {
-    let end = start.checked_add(range.len()).ok_or(Refusal::Outside)?;
-    checked(&(start..end), len)
+    let index = usize::MAX;
+    let end = start.checked_add(range.len());
+    checked(&(start..end.ok_or(Refusal::Outside { index, len })?), len)
 }
 
 /// Numbers without a pattern, from a seed.
