@@ -1,7 +1,6 @@
 //! A reader of numbers that stand one behind the other in a slice of bits.
 
 ghost use Rattle.std.specs.Prelude.{◌≡◌, ⊤, ◌+◌, ◌-◌, ◌<◌, ◌≤◌, ◌%◌, ◌↔◌, IsTrue, IsOk, IfOk};
-ghost use Rattle.std.specs.Prelude.{MatchResult};
 ghost use Rattle.std.specs.Prelude.{IfErr, length, take};
 ghost use Rattle.bitvec.specs.Span.{element};
 ghost use Rattle.bitvec_slice.specs.BitSlice.{slice_memory, slice_span, slice_len, slice_bits};
@@ -68,7 +67,7 @@ impl<'a, R: BitRegister, O: BitOrder<R>> Clone for BitReader<'a, R, O> {
 }
 
 impl<'a, R: BitRegister, O: BitOrder<R>> BitReader<'a, R, O> {
-    ghost use Rattle.bitvec_stream.specs.Reader.{source, bits_read, unread, next_span, Passes};
+    ghost use Rattle.bitvec_stream.specs.Reader.{source, bits_read, unread, next_span, Passes, PassesOrTooFew};
 
     /// A reader before the first bit of a slice. Constant time. Not in the Rust crate.
     pub fn new(slice: BitSlice<'a, R, O>) -> Self
@@ -136,8 +135,7 @@ impl<'a, R: BitRegister, O: BitOrder<R>> BitReader<'a, R, O> {
     pub fn read_bit(&mut self) -> Result<bool, ReadError>
         ensures accepted { IsOk result ↔ (0 < length (unread self.old)) }
         ensures value { IfOk result (λ bit. bit ≡ element (unread self.old) 0) }
-        ensures moved { MatchResult result (λ _. Passes self.old self.new 1)
-            (λ error. (error ≡ ReadError.TooFew) × (self.new ≡ self.old)) }
+        ensures moved { PassesOrTooFew self.old self.new 1 result }
     {
         let position = self.position();
         if self.slice.len() <= position {
@@ -186,8 +184,7 @@ impl<'a, R: BitRegister, O: BitOrder<R>> BitReader<'a, R, O> {
         ensures len { IfOk result (λ part. slice_len part ≡ count) }
         ensures memory { IfOk result (λ part. slice_memory part ≡ slice_memory (source self.old)) }
         ensures span { IfOk result (λ part. slice_span part ≡ next_span R.BITS self.old count) }
-        ensures moved { MatchResult result (λ _. Passes self.old self.new count)
-            (λ error. (error ≡ ReadError.TooFew) × (self.new ≡ self.old)) }
+        ensures moved { PassesOrTooFew self.old self.new count result }
     {
         let part = self.peek_slice(count)?;
         self.pass(count);
@@ -198,8 +195,7 @@ impl<'a, R: BitRegister, O: BitOrder<R>> BitReader<'a, R, O> {
     /// time. Not in the Rust crate.
     pub fn skip(&mut self, count: usize) -> Result<(), ReadError>
         ensures accepted { IsOk result ↔ (count ≤ length (unread self.old)) }
-        ensures moved { MatchResult result (λ _. Passes self.old self.new count)
-            (λ error. (error ≡ ReadError.TooFew) × (self.new ≡ self.old)) }
+        ensures moved { PassesOrTooFew self.old self.new count result }
     {
         if self.remaining() < count {
             return Err(ReadError::TooFew);
@@ -216,9 +212,8 @@ impl<'a, R: BitRegister, O: BitOrder<R>> BitReader<'a, R, O> {
         requires { 0 < of }
         ensures accepted { let count = to_multiple of (bits_read self.old)
             in IsOk result ↔ (count ≤ length (unread self.old)) }
-        ensures moved { let count = to_multiple of (bits_read self.old)
-            in MatchResult result (λ _. Passes self.old self.new count)
-            (λ error. (error ≡ ReadError.TooFew) × (self.new ≡ self.old)) }
+        ensures moved { let count = to_multiple of (bits_read self.old) in PassesOrTooFew self.old
+            self.new count result }
         ensures multiple { IfOk result (λ _. bits_read self.new % of ≡ 0) }
         ensures near { IfOk result (λ _. bits_read self.new < bits_read self.old + of) }
     {

@@ -1,6 +1,6 @@
 //! Numbers of `count` bits, where the caller says the count.
 
-ghost use Rattle.std.specs.Prelude.{◌≡◌, ◌≤◌, ◌↔◌, IsOk, IfOk, IfErr, MatchResult, length, take};
+ghost use Rattle.std.specs.Prelude.{◌≡◌, ◌≤◌, ◌↔◌, IsOk, IfOk, IfErr, length, take};
 ghost use Rattle.bitvec_stream.specs.Numbers.{number_le, number_be};
 ghost use Rattle.bitvec_stream.specs.Reader.{unread};
 
@@ -41,7 +41,7 @@ fn far_le<R: BitRegister, O: BitOrder<R>, N: BitRegister>(
 }
 
 impl<'a, R: BitRegister, O: BitOrder<R>> BitReader<'a, R, O> {
-    ghost use Rattle.bitvec_stream.specs.Reader.{unread, Passes};
+    ghost use Rattle.bitvec_stream.specs.Reader.{unread, PassesOrTooFew};
 
     // What `read_be` does where the bits are neither kept nor those of one more word, or where
     // positions do not fall.
@@ -51,8 +51,7 @@ impl<'a, R: BitRegister, O: BitOrder<R>> BitReader<'a, R, O> {
         ensures accepted { IsOk result ↔ (count ≤ length (unread self.old)) }
         ensures number { IfOk result (λ value. N.number value
             ≡ number_be (take count (unread self.old))) }
-        ensures moved { MatchResult result (λ _. Passes self.old self.new count)
-            (λ error. (error ≡ ReadError.TooFew) × (self.new ≡ self.old)) }
+        ensures moved { PassesOrTooFew self.old self.new count result }
     {
         if self.remaining() < count {
             return Err(ReadError::TooFew);
@@ -69,8 +68,7 @@ impl<'a, R: BitRegister, O: BitOrder<R>> BitReader<'a, R, O> {
         ensures accepted { IsOk result ↔ (count ≤ length (unread self.old)) }
         ensures number { IfOk result (λ value. N.number value
             ≡ number_le (take count (unread self.old))) }
-        ensures moved { MatchResult result (λ _. Passes self.old self.new count)
-            (λ error. (error ≡ ReadError.TooFew) × (self.new ≡ self.old)) }
+        ensures moved { PassesOrTooFew self.old self.new count result }
     {
         if self.remaining() < count {
             return Err(ReadError::TooFew);
@@ -91,8 +89,7 @@ impl<'a, R: BitRegister, O: BitOrder<R>> BitReader<'a, R, O> {
         ensures accepted { IsOk result ↔ (count ≤ length (unread self.old)) }
         ensures number { IfOk result (λ value. N.number value
             ≡ number_be (take count (unread self.old))) }
-        ensures moved { MatchResult result (λ _. Passes self.old self.new count)
-            (λ error. (error ≡ ReadError.TooFew) × (self.new ≡ self.old)) }
+        ensures moved { PassesOrTooFew self.old self.new count result }
     {
         if direction_of::<R, O>() == Direction::Falls {
             if let Some(value) = self.read_near(count) {
@@ -124,8 +121,7 @@ impl<'a, R: BitRegister, O: BitOrder<R>> BitReader<'a, R, O> {
         ensures accepted { IsOk result ↔ (count ≤ length (unread self.old)) }
         ensures number { IfOk result (λ value. N.number value
             ≡ number_le (take count (unread self.old))) }
-        ensures moved { MatchResult result (λ _. Passes self.old self.new count)
-            (λ error. (error ≡ ReadError.TooFew) × (self.new ≡ self.old)) }
+        ensures moved { PassesOrTooFew self.old self.new count result }
     {
         if direction_of::<R, O>() == Direction::Rises {
             if let Some(value) = self.read_near(count) {

@@ -1,6 +1,6 @@
 //! Signed numbers of `count` bits, as two's complements, where the caller says the count.
 
-ghost use Rattle.std.specs.Prelude.{◌≡◌, ◌≤◌, ◌↔◌, IsOk, IfOk, MatchResult, length, take};
+ghost use Rattle.std.specs.Prelude.{◌≡◌, ◌≤◌, ◌↔◌, IsOk, IfOk, length, take};
 ghost use Rattle.bitvec_slice.specs.Signed.{signed_of};
 ghost use Rattle.bitvec_stream.specs.Numbers.{number_le, number_be};
 
@@ -12,7 +12,7 @@ use bitvec::order::BitOrder;
 use bitvec_slice::field::SignedNumber;
 
 impl<'a, R: BitRegister, O: BitOrder<R>> BitReader<'a, R, O> {
-    ghost use Rattle.bitvec_stream.specs.Reader.{unread, Passes};
+    ghost use Rattle.bitvec_stream.specs.Reader.{unread, PassesOrTooFew};
 
     /// The signed number whose two's complement the next `count` bits are, the first the highest
     /// digit. No bits are 0. It refuses with `TooFew` exactly where fewer are left.
@@ -34,8 +34,7 @@ impl<'a, R: BitRegister, O: BitOrder<R>> BitReader<'a, R, O> {
         ensures accepted { IsOk result ↔ (count ≤ length (unread self.old)) }
         ensures number { IfOk result (λ value. N.number value
             ≡ signed_of count (number_be (take count (unread self.old)))) }
-        ensures moved { MatchResult result (λ _. Passes self.old self.new count)
-            (λ error. (error ≡ ReadError.TooFew) × (self.new ≡ self.old)) }
+        ensures moved { PassesOrTooFew self.old self.new count result }
     {
         let part = self.read_slice(count)?;
         Ok(load_signed_be(part))
@@ -51,8 +50,7 @@ impl<'a, R: BitRegister, O: BitOrder<R>> BitReader<'a, R, O> {
         ensures accepted { IsOk result ↔ (count ≤ length (unread self.old)) }
         ensures number { IfOk result (λ value. N.number value
             ≡ signed_of count (number_le (take count (unread self.old)))) }
-        ensures moved { MatchResult result (λ _. Passes self.old self.new count)
-            (λ error. (error ≡ ReadError.TooFew) × (self.new ≡ self.old)) }
+        ensures moved { PassesOrTooFew self.old self.new count result }
     {
         let part = self.read_slice(count)?;
         Ok(load_signed_le(part))
