@@ -77,6 +77,10 @@ fn clauses_of_functions_go() {
         "fn f(x: u8) { g(x); h(x) }",
     );
     becomes(
+        "fn f(x: &mut u8) ensures { x.new ≡ 3 } { *x = 1; *x += 2; }",
+        "fn f(x: &mut u8) { *x = 1; *x += 2; }",
+    );
+    becomes(
         "fn f(x: &mut u8) ghost top: { ℕ } requires* { ⌜ x ⌝ } ensures* rest { λ y. y' } {}",
         "fn f(x: &mut u8) {}",
     );
