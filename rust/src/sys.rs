@@ -29,6 +29,65 @@ fn asked<A: Default>(call: impl FnOnce(&mut A) -> u8) -> Result<A, Refusal> {
     Refusal::check(call(&mut answer)).map(|()| answer)
 }
 
+/// What a call makes of words, by their type.
+macro_rules! of_words {
+    ($seen:expr, $words:ident: $t:ident => $call:expr) => {
+        of_words!($seen, $words: $t => $call, U8 u8, U16 u16, U32 u32, U64 u64, Usize usize)
+    };
+    ($seen:expr, $words:ident: $t:ident => $call:expr, $($width:ident $word:ident),*) => {
+        match $seen {
+            $(Words::$width($words) => {
+                type $t = $word;
+                $call
+            })*
+        }
+    };
+}
+
+/// The calls that make of two bits one.
+macro_rules! combines {
+    ($($(#[$doc:meta])* $name:ident by $by:ident;)*) => { $(
+        $(#[$doc])*
+        #[inline]
+        fn $name(
+            source_order: u8,
+            source: (&[Self], usize),
+            order: u8,
+            target: (&mut [Self], usize),
+            count: usize,
+        ) -> Result<(), Refusal> {
+            let (source, from) = (Self::words(source.0), source.1);
+            let (target, to) = (Self::words_mut(target.0), target.1);
+            Refusal::check(combine::combine::<$by, Self::Word, Self::Word>(
+                source_order, source, from, order, target, to, count,
+            ))
+        }
+    )* };
+}
+
+/// The calls that ask of two ranges.
+macro_rules! asks {
+    ($($(#[$doc:meta])* $name:ident by $call:ident, $by:ident;)*) => { $(
+        $(#[$doc])*
+        #[inline]
+        fn $name(
+            order: u8,
+            one: (&[Self], usize),
+            other_order: u8,
+            other: (&[Self], usize),
+            count: usize,
+        ) -> Result<usize, Refusal> {
+            let (one, here) = (Self::words(one.0), one.1);
+            let (other, there) = (Self::words(other.0), other.1);
+            asked(|answer| {
+                question::$call::<$by, Self::Word, Self::Word>(
+                    order, one, here, other_order, other, there, count, answer,
+                )
+            })
+        }
+    )* };
+}
+
 /// The calls for words of one type. Each is refused as the library's is.
 pub trait Exports: Copy {
     /// The words as the library has them: this very type, whose names are not those of the library's.
@@ -298,178 +357,34 @@ pub trait Exports: Copy {
         ))
     }
 
-    /// Leaves one those of `count` bits whose bit in the source is one.
-    #[inline]
-    fn and(
-        source_order: u8,
-        source: (&[Self], usize),
-        order: u8,
-        target: (&mut [Self], usize),
-        count: usize,
-    ) -> Result<(), Refusal> {
-        Refusal::check(combine::combine::<And, Self::Word, Self::Word>(
-            source_order,
-            Self::words(source.0),
-            source.1,
-            order,
-            Self::words_mut(target.0),
-            target.1,
-            count,
-        ))
+    combines! {
+        /// Leaves one those of `count` bits whose bit in the source is one.
+        and by And;
+
+        /// Makes one those of `count` bits whose bit in the source is one.
+        or by Or;
+
+        /// Turns over those of `count` bits whose bit in the source is one.
+        xor by Xor;
+
+        /// Makes zero those of `count` bits whose bit in the source is one.
+        and_not by AndNot;
     }
 
-    /// Makes one those of `count` bits whose bit in the source is one.
-    #[inline]
-    fn or(
-        source_order: u8,
-        source: (&[Self], usize),
-        order: u8,
-        target: (&mut [Self], usize),
-        count: usize,
-    ) -> Result<(), Refusal> {
-        Refusal::check(combine::combine::<Or, Self::Word, Self::Word>(
-            source_order,
-            Self::words(source.0),
-            source.1,
-            order,
-            Self::words_mut(target.0),
-            target.1,
-            count,
-        ))
-    }
+    asks! {
+        /// Counts the bits that are one in two ranges.
+        count_and by count_with, And;
 
-    /// Turns over those of `count` bits whose bit in the source is one.
-    #[inline]
-    fn xor(
-        source_order: u8,
-        source: (&[Self], usize),
-        order: u8,
-        target: (&mut [Self], usize),
-        count: usize,
-    ) -> Result<(), Refusal> {
-        Refusal::check(combine::combine::<Xor, Self::Word, Self::Word>(
-            source_order,
-            Self::words(source.0),
-            source.1,
-            order,
-            Self::words_mut(target.0),
-            target.1,
-            count,
-        ))
-    }
+        /// Finds the first bit that is one in two ranges, and answers `count` where there is none.
+        first_and by first_with, And;
 
-    /// Makes zero those of `count` bits whose bit in the source is one.
-    #[inline]
-    fn and_not(
-        source_order: u8,
-        source: (&[Self], usize),
-        order: u8,
-        target: (&mut [Self], usize),
-        count: usize,
-    ) -> Result<(), Refusal> {
-        Refusal::check(combine::combine::<AndNot, Self::Word, Self::Word>(
-            source_order,
-            Self::words(source.0),
-            source.1,
-            order,
-            Self::words_mut(target.0),
-            target.1,
-            count,
-        ))
-    }
+        /// Finds the first bit that is one in one range and zero in the other, and answers `count`
+        /// where there is none.
+        first_and_not by first_with, AndNot;
 
-    /// Counts the bits that are one in two ranges.
-    #[inline]
-    fn count_and(
-        order: u8,
-        one: (&[Self], usize),
-        other_order: u8,
-        other: (&[Self], usize),
-        count: usize,
-    ) -> Result<usize, Refusal> {
-        asked(|answer| {
-            question::count_with::<And, Self::Word, Self::Word>(
-                order,
-                Self::words(one.0),
-                one.1,
-                other_order,
-                Self::words(other.0),
-                other.1,
-                count,
-                answer,
-            )
-        })
-    }
-
-    /// Finds the first bit that is one in two ranges, and answers `count` where there is none.
-    #[inline]
-    fn first_and(
-        order: u8,
-        one: (&[Self], usize),
-        other_order: u8,
-        other: (&[Self], usize),
-        count: usize,
-    ) -> Result<usize, Refusal> {
-        asked(|answer| {
-            question::first_with::<And, Self::Word, Self::Word>(
-                order,
-                Self::words(one.0),
-                one.1,
-                other_order,
-                Self::words(other.0),
-                other.1,
-                count,
-                answer,
-            )
-        })
-    }
-
-    /// Finds the first bit that is one in one range and zero in the other, and answers `count`
-    /// where there is none.
-    #[inline]
-    fn first_and_not(
-        order: u8,
-        one: (&[Self], usize),
-        other_order: u8,
-        other: (&[Self], usize),
-        count: usize,
-    ) -> Result<usize, Refusal> {
-        asked(|answer| {
-            question::first_with::<AndNot, Self::Word, Self::Word>(
-                order,
-                Self::words(one.0),
-                one.1,
-                other_order,
-                Self::words(other.0),
-                other.1,
-                count,
-                answer,
-            )
-        })
-    }
-
-    /// Finds the first bit that is not the same in two ranges, and answers `count` where there is
-    /// none.
-    #[inline]
-    fn first_difference(
-        order: u8,
-        one: (&[Self], usize),
-        other_order: u8,
-        other: (&[Self], usize),
-        count: usize,
-    ) -> Result<usize, Refusal> {
-        asked(|answer| {
-            question::first_with::<Xor, Self::Word, Self::Word>(
-                order,
-                Self::words(one.0),
-                one.1,
-                other_order,
-                Self::words(other.0),
-                other.1,
-                count,
-                answer,
-            )
-        })
+        /// Finds the first bit that is not the same in two ranges, and answers `count` where there is
+        /// none.
+        first_difference by first_with, Xor;
     }
 
     /// Copies `count` bits from a place of one memory, of words of any width, to a place of
@@ -484,53 +399,10 @@ pub trait Exports: Copy {
         target: (&mut [Self], usize),
         count: usize,
     ) -> Result<(), Refusal> {
-        Refusal::check(match source {
-            Words::U8(words) => convert::convert::<u8, Self::Word>(
-                source_order,
-                words,
-                from,
-                order,
-                Self::words_mut(target.0),
-                target.1,
-                count,
-            ),
-            Words::U16(words) => convert::convert::<u16, Self::Word>(
-                source_order,
-                words,
-                from,
-                order,
-                Self::words_mut(target.0),
-                target.1,
-                count,
-            ),
-            Words::U32(words) => convert::convert::<u32, Self::Word>(
-                source_order,
-                words,
-                from,
-                order,
-                Self::words_mut(target.0),
-                target.1,
-                count,
-            ),
-            Words::U64(words) => convert::convert::<u64, Self::Word>(
-                source_order,
-                words,
-                from,
-                order,
-                Self::words_mut(target.0),
-                target.1,
-                count,
-            ),
-            Words::Usize(words) => convert::convert::<usize, Self::Word>(
-                source_order,
-                words,
-                from,
-                order,
-                Self::words_mut(target.0),
-                target.1,
-                count,
-            ),
-        })
+        Refusal::check(of_words!(source, words: W => {
+            let (target, to) = (Self::words_mut(target.0), target.1);
+            convert::convert::<W, Self::Word>(source_order, words, from, order, target, to, count)
+        }))
     }
 
     /// Writes the bit at a place, and answers it as it was.
@@ -682,57 +554,11 @@ pub trait Exports: Copy {
         other: (&[Self], usize),
         count: usize,
     ) -> Result<usize, Refusal> {
-        asked(|answer| match one.0 {
-            Words::U8(words) => question::first_with::<Xor, u8, Self::Word>(
-                order,
-                words,
-                one.1,
-                other_order,
-                Self::words(other.0),
-                other.1,
-                count,
-                answer,
-            ),
-            Words::U16(words) => question::first_with::<Xor, u16, Self::Word>(
-                order,
-                words,
-                one.1,
-                other_order,
-                Self::words(other.0),
-                other.1,
-                count,
-                answer,
-            ),
-            Words::U32(words) => question::first_with::<Xor, u32, Self::Word>(
-                order,
-                words,
-                one.1,
-                other_order,
-                Self::words(other.0),
-                other.1,
-                count,
-                answer,
-            ),
-            Words::U64(words) => question::first_with::<Xor, u64, Self::Word>(
-                order,
-                words,
-                one.1,
-                other_order,
-                Self::words(other.0),
-                other.1,
-                count,
-                answer,
-            ),
-            Words::Usize(words) => question::first_with::<Xor, usize, Self::Word>(
-                order,
-                words,
-                one.1,
-                other_order,
-                Self::words(other.0),
-                other.1,
-                count,
-                answer,
-            ),
+        let (other, there) = (Self::words(other.0), other.1);
+        asked(|answer| {
+            of_words!(one.0, words: W => question::first_with::<Xor, W, Self::Word>(
+                order, words, one.1, other_order, other, there, count, answer,
+            ))
         })
     }
 
