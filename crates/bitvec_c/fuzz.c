@@ -8,7 +8,7 @@
  * The last lines are how many calls there were of each export, and a sum of all answers, by which
  * two archives are compared; the status is 1 where one is wrong. */
 #define _DEFAULT_SOURCE
-#include "model.h"
+#include "model_pairs.h"
 
 #include <inttypes.h>
 #include <stdio.h>
@@ -169,29 +169,6 @@ static uint8_t range_status(unsigned width, uint8_t order, size_t words, size_t 
     if (start > bits || count > bits - start)
         return BITVEC_OUTSIDE;
     return BITVEC_OK;
-}
-
-static uint8_t number_status(unsigned width, uint8_t order, size_t words, size_t start,
-                             size_t count) {
-    uint8_t status = range_status(width, order, words, start, count);
-    return status == BITVEC_OK && count > 64 ? BITVEC_TOO_WIDE : status;
-}
-
-/* The place of the digit of that number of a number in a range. */
-static size_t digit_place(unsigned width, uint8_t order, bool big, size_t start, size_t count,
-                          size_t digit) {
-    size_t end = start + count, first = start / width, last = (end - 1) / width;
-    for (size_t i = 0; i <= last - first; i++) {
-        size_t word = big ? last - i : first + i;
-        size_t from = word == first ? start % width : 0;
-        size_t to = word == last ? (end - 1) % width + 1 : width;
-        if (digit < to - from) {
-            size_t index = order == BITVEC_LSB0 ? from + digit : to - 1 - digit;
-            return word * width + index;
-        }
-        digit -= to - from;
-    }
-    abort();
 }
 
 static const char *name;
@@ -432,15 +409,10 @@ static void sorted_room(struct buffer room, const struct bitvec_span *spans, uin
         size_t words = memory.size / sizeof(T), bits = words * width;                              \
         struct range from = any_range(bits);                                                       \
         size_t to = one_in(4) || from.count > bits ? mostly(bits) : below(bits - from.count + 1);  \
-        uint8_t expected = range_status(width, order, words, from.start, from.count);              \
-        if (expected == BITVEC_OK)                                                                 \
-            expected = range_status(width, order, words, to, from.count);                          \
         uint8_t status = bitvec_c_copy_within_##W(order, (T *)(void *)memory.at, words, to,        \
                                                   from.start, from.count);                         \
-        same_status(status, expected);                                                             \
-        memcpy(old_model, model, ROOM);                                                            \
-        if (status == BITVEC_OK)                                                                   \
-            model_copy(width, order, old_model, from.start, model, to, from.count);                \
+        same_status(status, model_copy_within_##W(order, (T *)(void *)model, words, to,            \
+                                                  from.start, from.count));                        \
         same_bytes(memory, model);                                                                 \
     }                                                                                              \
     static void fill_##W(uint8_t order, unsigned width) {                                              \
@@ -483,20 +455,17 @@ static void sorted_room(struct buffer room, const struct bitvec_span *spans, uin
         size_t words = memory.size / sizeof(T);                                                    \
         struct range range = narrow_range(words * width);                                          \
         bool big = one_in(2);                                                                      \
-        uint64_t before = any(), expected = 0, number;                                             \
+        uint64_t before = (uint64_t)any(), expected = before, number;                              \
         memcpy(answer.at, &before, 8);                                                             \
         protect(memory, PROT_READ);                                                                \
         uint8_t status =                                                                           \
             bitvec_c_load_##W(order, big, (const T *)(void *)memory.at, words, range.start,        \
-                              range.count, (uint64_t *)(void *)answer.at);                         \
+                                   range.count, (uint64_t *)(void *)answer.at);                    \
         protect(memory, PROT_READ | PROT_WRITE);                                                   \
-        same_status(status, number_status(width, order, words, range.start, range.count));         \
-        for (size_t i = 0; status == BITVEC_OK && i < range.count; i++) {                          \
-            size_t place = digit_place(width, order, big, range.start, range.count, i);            \
-            expected |= (uint64_t)bit_at(model, width, order, place) << i;                         \
-        }                                                                                          \
+        same_status(status, model_load_##W(order, big, (const T *)(void *)model, words,            \
+                                            range.start, range.count, &expected));                 \
         memcpy(&number, answer.at, 8);                                                             \
-        if (number != (status == BITVEC_OK ? expected : before))                                   \
+        if (number != expected)                                                                    \
             wrong("the number");                                                                   \
         same_bytes(memory, model);                                                                 \
     }                                                                                              \
@@ -505,14 +474,11 @@ static void sorted_room(struct buffer room, const struct bitvec_span *spans, uin
         size_t words = memory.size / sizeof(T);                                                    \
         struct range range = narrow_range(words * width);                                          \
         bool big = one_in(2);                                                                      \
-        uint64_t number = any();                                                                   \
+        uint64_t number = (uint64_t)any();                                                         \
         uint8_t status = bitvec_c_store_##W(order, big, (T *)(void *)memory.at, words,             \
                                             range.start, range.count, number);                     \
-        same_status(status, number_status(width, order, words, range.start, range.count));         \
-        for (size_t i = 0; status == BITVEC_OK && i < range.count; i++)                            \
-            put_bit(model, width, order,                                                           \
-                    digit_place(width, order, big, range.start, range.count, i),                   \
-                    number >> i & 1);                                                              \
+        same_status(status, model_store_##W(order, big, (T *)(void *)model, words,                 \
+                                             range.start, range.count, number));                   \
         same_bytes(memory, model);                                                                 \
     }                                                                                              \
     static void count_ones_##W(uint8_t order, unsigned width) {                                        \
@@ -672,184 +638,9 @@ RUNS(u16, uint16_t, _in, true, ROOM_OF_RUN)
 RUNS(u32, uint32_t, _in, true, ROOM_OF_RUN)
 RUNS(u64, uint64_t, _in, true, ROOM_OF_RUN)
 
-/* The first, or the last, bit of a range that is `bit`, and the first run of so many zeros; `count`
- * where there is none. */
-static size_t model_first(unsigned width, uint8_t order, struct range range, size_t bit) {
-    size_t i = 0;
-    while (i < range.count && bit_at(model, width, order, range.start + i) != (bit != 0))
-        i++;
-    return i;
-}
-
-static size_t model_last(unsigned width, uint8_t order, struct range range, size_t bit) {
-    for (size_t i = range.count; i > 0; i--)
-        if (bit_at(model, width, order, range.start + i - 1) == (bit != 0))
-            return i - 1;
-    return range.count;
-}
-
-static size_t model_find_zeros(unsigned width, uint8_t order, struct range range, size_t zeros) {
-    size_t run = 0;
-    if (zeros == 0)
-        return 0;
-    for (size_t i = 0; i < range.count; i++) {
-        run = bit_at(model, width, order, range.start + i) ? 0 : run + 1;
-        if (run == zeros)
-            return i + 1 - zeros;
-    }
-    return range.count;
-}
-
-/* The same from an index on, and before one; a multiple of 0 is one of 1. */
-struct seek {
-    size_t from, asked, multiple;
-};
-
-static size_t model_next(unsigned width, uint8_t order, struct range range, struct seek seek) {
-    if (seek.from >= range.count)
-        return range.count;
-    struct range rest = {range.start + seek.from, range.count - seek.from};
-    return seek.from + model_first(width, order, rest, seek.asked);
-}
-
-static size_t model_previous(unsigned width, uint8_t order, struct range range, struct seek seek) {
-    struct range part = {range.start, seek.from < range.count ? seek.from : range.count};
-    size_t found = model_last(width, order, part, seek.asked);
-    return found == part.count ? range.count : found;
-}
-
-static size_t model_find_zeros_from(unsigned width, uint8_t order, struct range range,
-                                    struct seek seek) {
-    for (size_t i = seek.from; i <= range.count; i++) {
-        size_t j = 0;
-        if ((seek.multiple != 0 && i % seek.multiple != 0) || seek.asked > range.count - i)
-            continue;
-        while (j < seek.asked && !bit_at(model, width, order, range.start + i + j))
-            j++;
-        if (j == seek.asked)
-            return i;
-    }
-    return range.count;
-}
-
-/* What an edit makes of the bits of a range: bit i of which old bit, or none for a zero. */
-enum edit { INVERT, REVERSE, SHIFT_LEFT, SHIFT_RIGHT, ROTATE_LEFT };
-
-static void model_edit(unsigned width, uint8_t order, struct range range, size_t by,
-                       enum edit edit) {
-    memcpy(old_model, model, ROOM);
-    for (size_t i = 0; i < range.count; i++) {
-        size_t from = i, n = range.count;
-        bool there = true;
-        switch (edit) {
-        case INVERT:
-            break;
-        case REVERSE:
-            from = n - 1 - i;
-            break;
-        case SHIFT_LEFT:
-            there = i < n - by;
-            from = there ? i + by : 0;
-            break;
-        case SHIFT_RIGHT:
-            there = i >= by;
-            from = there ? i - by : 0;
-            break;
-        case ROTATE_LEFT:
-            from = i < n - by ? i + by : i - (n - by);
-            break;
-        }
-        bool bit = there && bit_at(old_model, width, order, range.start + from);
-        put_bit(model, width, order, range.start + i, edit == INVERT ? !bit : bit);
-    }
-}
-
-/* What an operator makes of two bits. */
-enum operator { AND, OR, XOR, AND_NOT, SOURCE };
-
-static bool model_operator(enum operator operator, bool target, bool source) {
-    switch (operator) {
-    case AND:
-        return target && source;
-    case OR:
-        return target || source;
-    case XOR:
-        return target != source;
-    case AND_NOT:
-        return target && !source;
-    default:
-        return source;
-    }
-}
-
-/* The status of two ranges, of which each has words and an order of its own. */
-static uint8_t pair_status(unsigned width, uint8_t order, size_t words, size_t start,
-                           unsigned other_width, uint8_t other_order, size_t other_words,
-                           size_t other_start, size_t count) {
-    uint8_t status = range_status(width, order, words, start, count);
-    return status != BITVEC_OK ? status
-                               : range_status(other_width, other_order, other_words, other_start,
-                                              count);
-}
-
 /* A place from which on so many bits mostly lie among `bits`. */
 static size_t any_start(size_t bits, size_t count) {
     return one_in(4) ? mostly(bits) : count < bits ? below(bits - count + 1) : 0;
-}
-
-/* An export that answers an index of a range, of which an argument is `argument`. */
-#define SEEK(C, W, T, argument)                                                                    \
-    static void C##_##W(uint8_t order, unsigned width) {                                           \
-        struct buffer memory = any_memory(MEMORY, width, model), answer = take(ANSWER, 8);         \
-        size_t words = memory.size / sizeof(T), before = any(), index;                             \
-        struct range range = any_range(words * width);                                             \
-        size_t asked = argument;                                                                   \
-        memcpy(answer.at, &before, 8);                                                             \
-        protect(memory, PROT_READ);                                                                \
-        uint8_t status =                                                                           \
-            bitvec_c_##C##_##W(order, (const T *)(void *)memory.at, words, range.start,            \
-                               range.count, asked, (size_t *)(void *)answer.at);                   \
-        protect(memory, PROT_READ | PROT_WRITE);                                                   \
-        same_status(status, range_status(width, order, words, range.start, range.count));          \
-        memcpy(&index, answer.at, 8);                                                              \
-        if (index != (status == BITVEC_OK ? model_##C(width, order, range, asked) : before))       \
-            wrong("the index");                                                                    \
-        same_bytes(memory, model);                                                                 \
-    }
-
-/* The two's complement of a number's lowest digits, of which the highest says the sign. */
-static uint64_t with_sign(uint64_t digits, size_t count) {
-    if (count == 0)
-        return 0;
-    uint64_t low = UINT64_MAX >> (64 - count);
-    return digits >> (count - 1) & 1 ? digits | ~low : digits & low;
-}
-
-/* The same of an export that looks from an index on. */
-#define SEEK_FROM(C, W, T, ASKED, ...)                                                             \
-    static void C##_##W(uint8_t order, unsigned width) {                                           \
-        struct buffer memory = any_memory(MEMORY, width, model), answer = take(ANSWER, 8);         \
-        size_t words = memory.size / sizeof(T), before = any(), index;                             \
-        struct range range = any_range(words * width);                                             \
-        struct seek seek = {mostly(range.count), ASKED, one_in(8) ? mostly(9) : below(9)};         \
-        memcpy(answer.at, &before, 8);                                                             \
-        protect(memory, PROT_READ);                                                                \
-        uint8_t status =                                                                           \
-            bitvec_c_##C##_##W(order, (const T *)(void *)memory.at, words, range.start,            \
-                               range.count, __VA_ARGS__, (size_t *)(void *)answer.at);             \
-        protect(memory, PROT_READ | PROT_WRITE);                                                   \
-        same_status(status, range_status(width, order, words, range.start, range.count));          \
-        memcpy(&index, answer.at, 8);                                                              \
-        if (index != (status == BITVEC_OK ? model_##C(width, order, range, seek) : before))        \
-            wrong("the index");                                                                    \
-        same_bytes(memory, model);                                                                 \
-    }
-
-static size_t model_zeros(unsigned width, uint8_t order, struct range range) {
-    size_t zeros = 0;
-    for (size_t i = 0; i < range.count; i++)
-        zeros += !bit_at(model, width, order, range.start + i);
-    return zeros;
 }
 
 /* A call that the header adds, which answers an `A` of a range: the arguments behind its count. */
@@ -860,6 +651,7 @@ static size_t model_zeros(unsigned width, uint8_t order, struct range range) {
         struct range range = any_range(words * width);                                             \
         size_t from = mostly(range.count);                                                         \
         A before = (A)any(), expected = before, found;                                             \
+        size_t told = 0;                                                                           \
         (void)from;                                                                                \
         memcpy(answer.at, &before, sizeof(A));                                                     \
         protect(memory, PROT_READ);                                                                \
@@ -876,10 +668,12 @@ static size_t model_zeros(unsigned width, uint8_t order, struct range range) {
         same_bytes(memory, model);                                                                 \
     }
 
-#define SEEK_NAMED(C, W, T, MODEL, BIT)                                                            \
-    NAMED(C, W, T, size_t, MODEL(width, order, range, BIT), )
-#define SEEK_FROM_NAMED(C, W, T, MODEL, BIT)                                                       \
-    NAMED(C, W, T, size_t, MODEL(width, order, range, (struct seek){from, BIT, 0}), from, )
+/* What the model of another call answers of the same range, by these arguments behind the count. */
+#define TOLD(C, ...)                                                                               \
+    (model_##C(order, (const void *)model, words, range.start, range.count, __VA_ARGS__ &told) ==  \
+             BITVEC_OK                                                                             \
+         ? told                                                                                    \
+         : 0)
 
 /* The exports that replace a bit, or exchange two. */
 #define EXCHANGE(W, T)                                                                             \
@@ -912,20 +706,17 @@ static size_t model_zeros(unsigned width, uint8_t order, struct range range) {
         size_t words = memory.size / sizeof(T);                                                    \
         struct range range = narrow_range(words * width);                                          \
         bool big = one_in(2);                                                                      \
-        uint64_t before = any(), expected = 0, number;                                             \
+        int64_t before = (int64_t)any(), expected = before, number;                                \
         memcpy(answer.at, &before, 8);                                                             \
         protect(memory, PROT_READ);                                                                \
         uint8_t status =                                                                           \
-            bitvec_c_load_signed_##W(order, big, (const T *)(void *)memory.at, words,              \
-                                     range.start, range.count, (int64_t *)(void *)answer.at);      \
+            bitvec_c_load_signed_##W(order, big, (const T *)(void *)memory.at, words, range.start, \
+                                   range.count, (int64_t *)(void *)answer.at);                     \
         protect(memory, PROT_READ | PROT_WRITE);                                                   \
-        same_status(status, number_status(width, order, words, range.start, range.count));         \
-        for (size_t i = 0; status == BITVEC_OK && i < range.count; i++) {                          \
-            size_t place = digit_place(width, order, big, range.start, range.count, i);            \
-            expected |= (uint64_t)bit_at(model, width, order, place) << i;                         \
-        }                                                                                          \
+        same_status(status, model_load_signed_##W(order, big, (const T *)(void *)model, words,     \
+                                            range.start, range.count, &expected));                 \
         memcpy(&number, answer.at, 8);                                                             \
-        if (number != (status == BITVEC_OK ? with_sign(expected, range.count) : before))           \
+        if (number != expected)                                                                    \
             wrong("the number");                                                                   \
         same_bytes(memory, model);                                                                 \
     }                                                                                              \
@@ -934,37 +725,31 @@ static size_t model_zeros(unsigned width, uint8_t order, struct range range) {
         size_t words = memory.size / sizeof(T);                                                    \
         struct range range = narrow_range(words * width);                                          \
         bool big = one_in(2);                                                                      \
-        uint64_t number = any();                                                                   \
+        int64_t number = (int64_t)any();                                                           \
         uint8_t status = bitvec_c_store_signed_##W(order, big, (T *)(void *)memory.at, words,      \
-                                                   range.start, range.count, (int64_t)number);     \
-        same_status(status, number_status(width, order, words, range.start, range.count));         \
-        for (size_t i = 0; status == BITVEC_OK && i < range.count; i++)                            \
-            put_bit(model, width, order,                                                           \
-                    digit_place(width, order, big, range.start, range.count, i),                   \
-                    number >> i & 1);                                                              \
+                                            range.start, range.count, number);                     \
+        same_status(status, model_store_signed_##W(order, big, (T *)(void *)model, words,          \
+                                             range.start, range.count, number));                   \
         same_bytes(memory, model);                                                                 \
     }
 
-/* An export that edits a range, with the arguments behind its count. */
-#define EDIT(C, W, T, KIND, by, ...)                                                               \
+/* An export that edits a range, with the arguments behind its start. */
+#define EDIT(C, W, T, ...)                                                                         \
     static void C##_##W(uint8_t order, unsigned width) {                                           \
         struct buffer memory = any_memory(MEMORY, width, model);                                   \
         size_t words = memory.size / sizeof(T);                                                    \
         struct range range = any_range(words * width);                                             \
-        size_t moved = by;                                                                         \
-        uint8_t status = bitvec_c_##C##_##W(order, (T *)(void *)memory.at, words, range.start,     \
-                                            __VA_ARGS__);                                          \
-        uint8_t expected = range_status(width, order, words, range.start, range.count);            \
-        if (expected == BITVEC_OK && moved > range.count)                                          \
-            expected = BITVEC_OUTSIDE;                                                             \
-        same_status(status, expected);                                                             \
-        if (status == BITVEC_OK)                                                                   \
-            model_edit(width, order, range, moved, KIND);                                          \
+        size_t by = mostly(range.count);                                                           \
+        (void)by;                                                                                  \
+        uint8_t status =                                                                           \
+            bitvec_c_##C##_##W(order, (T *)(void *)memory.at, words, range.start, __VA_ARGS__);    \
+        same_status(status, model_##C##_##W(order, (T *)(void *)model, words, range.start,         \
+                                            __VA_ARGS__));                                         \
         same_bytes(memory, model);                                                                 \
     }
 
-/* An export that makes the bits of a range of words `T` by an operator of those of words `S`. */
-#define COMBINE(C, NAME, S, T, OPERATOR)                                                           \
+/* An export that copies bits of words `S` to words `T`. */
+#define CONVERT(NAME, S, T)                                                                        \
     static void NAME(uint8_t order, unsigned width) {                                              \
         unsigned other_width = 8 * sizeof(S);                                                      \
         uint8_t other_order = any_order();                                                         \
@@ -973,31 +758,28 @@ static size_t model_zeros(unsigned width, uint8_t order, struct range range) {
         size_t words = source.size / sizeof(S), target_words = target.size / sizeof(T);            \
         struct range from = any_range(words * other_width);                                        \
         size_t to = any_start(target_words * width, from.count);                                   \
-        uint8_t expected = pair_status(other_width, other_order, words, from.start, width, order,  \
-                                       target_words, to, from.count);                              \
         protect(source, PROT_READ);                                                                \
         uint8_t status =                                                                           \
-            bitvec_c_##C(order, (T *)(void *)target.at, target_words, to, other_order,             \
-                         (const S *)(void *)source.at, words, from.start, from.count);             \
+            bitvec_c_##NAME(order, (T *)(void *)target.at, target_words, to, other_order,          \
+                            (const S *)(void *)source.at, words, from.start, from.count);          \
         protect(source, PROT_READ | PROT_WRITE);                                                   \
-        same_status(status, expected);                                                             \
-        for (size_t i = 0; status == BITVEC_OK && i < from.count; i++) {                           \
-            bool here = bit_at(model, width, order, to + i);                                       \
-            bool there = bit_at(other_model, other_width, other_order, from.start + i);            \
-            put_bit(model, width, order, to + i, model_operator(OPERATOR, here, there));           \
-        }                                                                                          \
+        same_status(status, model_##NAME(order, (T *)(void *)model, target_words, to, other_order, \
+                                         (const S *)(void *)other_model, words, from.start,        \
+                                         from.count));                                             \
         same_bytes(target, model);                                                                 \
     }
 
-/* Calls of which model.h has the model: one that looks for a bit, and one that combines two ranges. */
+/* An export that looks for something, and one that combines two ranges. */
 #define SOUGHT(C, W, T, ...)                                                                       \
     static void C##_##W(uint8_t order, unsigned width) {                                           \
         struct buffer memory = any_memory(MEMORY, width, model), answer = take(ANSWER, 8);         \
         size_t words = memory.size / sizeof(T), before = any(), expected = before, index;          \
         struct range range = any_range(words * width);                                             \
         size_t from = mostly(range.count);                                                         \
+        size_t zeros = one_in(2) ? below(9) : mostly(range.count < 600 ? range.count : 9);         \
+        size_t multiple = one_in(8) ? mostly(9) : below(9);                                        \
         bool bit = one_in(2);                                                                      \
-        (void)from;                                                                                \
+        (void)from, (void)zeros, (void)multiple, (void)bit;                                        \
         memcpy(answer.at, &before, 8);                                                             \
         protect(memory, PROT_READ);                                                                \
         uint8_t status =                                                                           \
@@ -1031,24 +813,22 @@ static size_t model_zeros(unsigned width, uint8_t order, struct range range) {
         same_bytes(target, model);                                                                 \
     }
 
-/* What model.h answers in one. */
-#define BY_MODEL(C, T)                                                                             \
-    (model_##C(order, (const T *)(void *)model, words, range.start, other_order,                   \
-               (const T *)(void *)other_model, other_words, there, range.count, &told) == BITVEC_OK\
+/* And of the same two ranges. */
+#define TOLD_OF_TWO(C)                                                                             \
+    (model_##C(order, (const void *)model, words, range.start, other_order,                        \
+               (const void *)other_model, other_words, there, range.count, &told) == BITVEC_OK     \
          ? told                                                                                    \
          : 0)
 
-/* A call that answers how many pairs of bits an operator makes one, or of the first such. */
-#define QUESTION(C, T, S, OPERATOR, A, ANSWERED)                                                   \
+/* A call that answers an `A` of two ranges. */
+#define QUESTION(C, T, S, A, MODELLED)                                                             \
     static void C(uint8_t order, unsigned width) {                                                 \
         struct buffer memory = any_memory(MEMORY, width, model), answer = take(ANSWER, sizeof(A)); \
         unsigned other_width = 8 * sizeof(S);                                                      \
         struct buffer other = any_memory(OTHER, other_width, other_model);                         \
         uint8_t other_order = any_order();                                                         \
-        size_t words = memory.size / sizeof(T), other_words = other.size / sizeof(S);              \
-        size_t told = 0, seen = 0;                                                                 \
-        A before = (A)any(), answered;                                                             \
-        (void)told;                                                                                \
+        size_t words = memory.size / sizeof(T), other_words = other.size / sizeof(S), told = 0;    \
+        A before = (A)any(), expected = before, answered;                                          \
         struct range range = any_range(words * width);                                             \
         size_t there = any_start(other_words * other_width, range.count);                          \
         if (width == other_width && one_in(2)) { /* the same bits, so that they seldom differ */   \
@@ -1075,17 +855,14 @@ static size_t model_zeros(unsigned width, uint8_t order, struct range range) {
                                range.count, (A *)(void *)answer.at);                               \
         protect(memory, PROT_READ | PROT_WRITE);                                                   \
         protect(other, PROT_READ | PROT_WRITE);                                                    \
-        same_status(status, pair_status(width, order, words, range.start, other_width,             \
-                                        other_order,                                               \
-                                        other_words, there, range.count));                         \
-        for (; status == BITVEC_OK && seen < range.count; seen++) {                                \
-            bool here = bit_at(model, width, order, range.start + seen);                           \
-            bool is = bit_at(other_model, other_width, other_order, there + seen);                 \
-            if (model_operator(OPERATOR, here, is))                                                \
-                break;                                                                             \
-        }                                                                                          \
+        uint8_t wanted = range_status(width, order, words, range.start, range.count);              \
+        if (wanted == BITVEC_OK)                                                                   \
+            wanted = range_status(other_width, other_order, other_words, there, range.count);      \
+        same_status(status, wanted);                                                               \
+        if (status == BITVEC_OK)                                                                   \
+            expected = MODELLED;                                                                   \
         memcpy(&answered, answer.at, sizeof(A));                                                   \
-        if (answered != (status == BITVEC_OK ? (A)(ANSWERED) : before))                            \
+        if (answered != expected)                                                                  \
             wrong("the answer");                                                                   \
         same_bytes(memory, model);                                                                 \
     }
@@ -1093,63 +870,54 @@ static size_t model_zeros(unsigned width, uint8_t order, struct range range) {
 #define MORE_CALLS(W, T)                                                                           \
     SOUGHT(first, W, T, bit)                                                                       \
     SOUGHT(last, W, T, bit)                                                                        \
-    SEEK_NAMED(first_zero, W, T, model_first, 0)                                                   \
-    SEEK_NAMED(last_one, W, T, model_last, 1)                                                      \
-    SEEK_NAMED(last_zero, W, T, model_last, 0)                                                     \
-    SEEK(find_zeros, W, T, one_in(2) ? below(9) : mostly(range.count < 600 ? range.count : 9))     \
     SOUGHT(next, W, T, from, bit)                                                                  \
     SOUGHT(previous, W, T, from, bit)                                                              \
-    SEEK_FROM_NAMED(next_one, W, T, model_next, 1)                                                 \
-    SEEK_FROM_NAMED(next_zero, W, T, model_next, 0)                                                \
-    SEEK_FROM_NAMED(previous_one, W, T, model_previous, 1)                                         \
-    SEEK_FROM_NAMED(previous_zero, W, T, model_previous, 0)                                        \
-    NAMED(count_zeros, W, T, size_t, model_zeros(width, order, range), )                           \
-    NAMED(is_empty, W, T, bool, model_first(width, order, range, 1) == range.count, )              \
-    NAMED(is_full, W, T, bool, model_first(width, order, range, 0) == range.count, )               \
-    SEEK_FROM(find_zeros_from, W, T, one_in(2) ? below(9) : mostly(30), seek.from, seek.asked,     \
-              seek.multiple)                                                                       \
+    SOUGHT(find_zeros, W, T, zeros)                                                                \
+    SOUGHT(find_zeros_from, W, T, from, zeros, multiple)                                           \
+    NAMED(first_zero, W, T, size_t, TOLD(first_##W, false, ), )                                    \
+    NAMED(last_one, W, T, size_t, TOLD(last_##W, true, ), )                                        \
+    NAMED(last_zero, W, T, size_t, TOLD(last_##W, false, ), )                                      \
+    NAMED(next_one, W, T, size_t, TOLD(next_##W, from, true, ), from, )                            \
+    NAMED(next_zero, W, T, size_t, TOLD(next_##W, from, false, ), from, )                          \
+    NAMED(previous_one, W, T, size_t, TOLD(previous_##W, from, true, ), from, )                    \
+    NAMED(previous_zero, W, T, size_t, TOLD(previous_##W, from, false, ), from, )                  \
+    NAMED(count_zeros, W, T, size_t, range.count - TOLD(count_ones_##W, ), )                       \
+    NAMED(is_empty, W, T, bool, TOLD(first_##W, true, ) == range.count, )                          \
+    NAMED(is_full, W, T, bool, TOLD(first_##W, false, ) == range.count, )                          \
     EXCHANGE(W, T)                                                                                 \
     SIGNED_NUMBERS(W, T)                                                                           \
-    EDIT(invert, W, T, INVERT, 0, range.count)                                                     \
-    EDIT(reverse, W, T, REVERSE, 0, range.count)                                                   \
-    EDIT(shift_left, W, T, SHIFT_LEFT, mostly(range.count), range.count, moved)                    \
-    EDIT(shift_right, W, T, SHIFT_RIGHT, mostly(range.count), range.count, moved)                  \
-    EDIT(rotate_left, W, T, ROTATE_LEFT, mostly(range.count), range.count, moved)                  \
+    EDIT(invert, W, T, range.count)                                                                \
+    EDIT(reverse, W, T, range.count)                                                               \
+    EDIT(shift_left, W, T, range.count, by)                                                        \
+    EDIT(shift_right, W, T, range.count, by)                                                       \
+    EDIT(rotate_left, W, T, range.count, by)                                                       \
     COMBINED(and, W, T)                                                                            \
     COMBINED(or, W, T)                                                                             \
     COMBINED(xor, W, T)                                                                            \
     COMBINED(and_not, W, T)                                                                        \
-    COMBINE(copy_u8_to_##W, copy_u8_to_##W, uint8_t, T, SOURCE)                                    \
-    COMBINE(copy_u16_to_##W, copy_u16_to_##W, uint16_t, T, SOURCE)                                 \
-    COMBINE(copy_u32_to_##W, copy_u32_to_##W, uint32_t, T, SOURCE)                                 \
-    COMBINE(copy_u64_to_##W, copy_u64_to_##W, uint64_t, T, SOURCE)                                 \
-    QUESTION(count_and_##W, T, T, AND, size_t, BY_MODEL(count_and_##W, T))                         \
-    QUESTION(first_and_##W, T, T, AND, size_t, BY_MODEL(first_and_##W, T))                         \
-    QUESTION(first_and_not_##W, T, T, AND_NOT, size_t, BY_MODEL(first_and_not_##W, T))             \
-    QUESTION(first_difference_##W, T, T, XOR, size_t, BY_MODEL(first_difference_##W, T))           \
-    QUESTION(is_subset_##W, T, T, AND_NOT, bool, seen == range.count)                              \
-    QUESTION(intersects_##W, T, T, AND, bool, seen != range.count)
+    CONVERT(copy_u8_to_##W, uint8_t, T)                                                            \
+    CONVERT(copy_u16_to_##W, uint16_t, T)                                                          \
+    CONVERT(copy_u32_to_##W, uint32_t, T)                                                          \
+    CONVERT(copy_u64_to_##W, uint64_t, T)                                                          \
+    QUESTION(count_and_##W, T, T, size_t, TOLD_OF_TWO(count_and_##W))                              \
+    QUESTION(first_and_##W, T, T, size_t, TOLD_OF_TWO(first_and_##W))                              \
+    QUESTION(first_and_not_##W, T, T, size_t, TOLD_OF_TWO(first_and_not_##W))                      \
+    QUESTION(first_difference_##W, T, T, size_t, TOLD_OF_TWO(first_difference_##W))                \
+    QUESTION(first_difference_##W##_with_u8, T, uint8_t, size_t,                                   \
+             TOLD_OF_TWO(first_difference_##W##_with_u8))                                          \
+    QUESTION(first_difference_##W##_with_u16, T, uint16_t, size_t,                                 \
+             TOLD_OF_TWO(first_difference_##W##_with_u16))                                         \
+    QUESTION(first_difference_##W##_with_u32, T, uint32_t, size_t,                                 \
+             TOLD_OF_TWO(first_difference_##W##_with_u32))                                         \
+    QUESTION(first_difference_##W##_with_u64, T, uint64_t, size_t,                                 \
+             TOLD_OF_TWO(first_difference_##W##_with_u64))                                         \
+    QUESTION(is_subset_##W, T, T, bool, TOLD_OF_TWO(first_and_not_##W) == range.count)             \
+    QUESTION(intersects_##W, T, T, bool, TOLD_OF_TWO(first_and_##W) != range.count)
 
 MORE_CALLS(u8, uint8_t)
 MORE_CALLS(u16, uint16_t)
 MORE_CALLS(u32, uint32_t)
 MORE_CALLS(u64, uint64_t)
-QUESTION(first_difference_u8_with_u8, uint8_t, uint8_t, XOR, size_t, seen)
-QUESTION(first_difference_u8_with_u16, uint8_t, uint16_t, XOR, size_t, seen)
-QUESTION(first_difference_u8_with_u32, uint8_t, uint32_t, XOR, size_t, seen)
-QUESTION(first_difference_u8_with_u64, uint8_t, uint64_t, XOR, size_t, seen)
-QUESTION(first_difference_u16_with_u8, uint16_t, uint8_t, XOR, size_t, seen)
-QUESTION(first_difference_u16_with_u16, uint16_t, uint16_t, XOR, size_t, seen)
-QUESTION(first_difference_u16_with_u32, uint16_t, uint32_t, XOR, size_t, seen)
-QUESTION(first_difference_u16_with_u64, uint16_t, uint64_t, XOR, size_t, seen)
-QUESTION(first_difference_u32_with_u8, uint32_t, uint8_t, XOR, size_t, seen)
-QUESTION(first_difference_u32_with_u16, uint32_t, uint16_t, XOR, size_t, seen)
-QUESTION(first_difference_u32_with_u32, uint32_t, uint32_t, XOR, size_t, seen)
-QUESTION(first_difference_u32_with_u64, uint32_t, uint64_t, XOR, size_t, seen)
-QUESTION(first_difference_u64_with_u8, uint64_t, uint8_t, XOR, size_t, seen)
-QUESTION(first_difference_u64_with_u16, uint64_t, uint16_t, XOR, size_t, seen)
-QUESTION(first_difference_u64_with_u32, uint64_t, uint32_t, XOR, size_t, seen)
-QUESTION(first_difference_u64_with_u64, uint64_t, uint64_t, XOR, size_t, seen)
 
 /* A stream: its place and its end, which mostly lie in a memory, and what may be asked of it, or
  * written to it. */
@@ -1186,65 +954,6 @@ static uint8_t left_status(unsigned width, uint8_t order, size_t words, struct s
     return status == BITVEC_OK && stream.end < stream.place ? BITVEC_OUTSIDE : status;
 }
 
-/* What a call on a stream of that status answers, and how many bits it takes. */
-struct taken {
-    uint8_t status;
-    size_t count;
-    uint64_t number;
-};
-
-static struct taken refused(uint8_t status) { return (struct taken){status, 0, 0}; }
-
-/* The digit of that index, of `count`, of the number of bits from the place on. */
-static size_t place_of_digit(struct stream stream, size_t digit) {
-    return stream.place + (stream.big ? stream.count - 1 - digit : digit);
-}
-
-static struct taken model_read(unsigned width, uint8_t order, struct stream stream,
-                               bool is_signed) {
-    struct taken taken = {BITVEC_OK, stream.count, 0};
-    if (stream.count > 64)
-        return refused(BITVEC_TOO_WIDE);
-    if (stream.count > stream.end - stream.place)
-        return refused(BITVEC_TOO_FEW);
-    for (size_t i = 0; i < stream.count; i++)
-        taken.number |= (uint64_t)bit_at(model, width, order, place_of_digit(stream, i)) << i;
-    taken.number = of_digits(taken.number, stream.count, is_signed);
-    return taken;
-}
-
-static struct taken model_read_unary(unsigned width, uint8_t order, struct stream stream) {
-    size_t place = stream.place;
-    while (place < stream.end && bit_at(model, width, order, place) == stream.bit)
-        place++;
-    if (place == stream.end)
-        return refused(BITVEC_TOO_FEW);
-    return (struct taken){BITVEC_OK, place - stream.place + 1, place - stream.place};
-}
-
-/* The number of a code is one less than that of its digits, of which there may be 65. */
-static struct taken model_read_code(unsigned width, uint8_t order, struct stream stream,
-                                    bool is_signed) {
-    stream.bit = false;
-    struct taken zeros = model_read_unary(width, order, stream);
-    if (zeros.status != BITVEC_OK || zeros.number + zeros.count > stream.end - stream.place)
-        return refused(BITVEC_TOO_FEW);
-    struct taken taken = {BITVEC_OK, zeros.number + zeros.count, 0};
-    uint64_t low = 0; /* the digits behind the first */
-    for (size_t i = zeros.count; i < taken.count; i++)
-        low = low << 1 | bit_at(model, width, order, stream.place + i);
-    bool more = zeros.number > 64 || (zeros.number == 64 && low > (is_signed ? 1 : 0));
-    if (more || (is_signed && zeros.number == 64 && low == 0))
-        return refused(BITVEC_TOO_LARGE);
-    uint64_t number = (zeros.number < 64 ? UINT64_C(1) << zeros.number : 0) + low - 1;
-    taken.number = number;
-    if (is_signed && zeros.number == 64)
-        taken.number = UINT64_C(1) << 63;
-    else if (is_signed)
-        taken.number = number % 2 == 1 ? number / 2 + 1 : 0 - number / 2;
-    return taken;
-}
-
 /* In the memory and the model: sometimes a long code at the place, where there is room. */
 static void plant_code(struct buffer memory, unsigned width, uint8_t order, size_t words,
                        struct stream stream) {
@@ -1263,48 +972,39 @@ static void plant_code(struct buffer memory, unsigned width, uint8_t order, size
 #define PLAIN_HEAD order
 #define BIG_HEAD order, stream.big
 
-/* An export that reads a number from a stream of words `T`. */
-#define STREAM_READ(C, W, T, MODELLED, HEAD, ...)                                                  \
+/* An export that reads an `A` from a stream of words `T`, with the arguments behind its end. */
+#define STREAM_READ(C, W, T, A, HEAD, ...)                                                         \
     static void C##_##W(uint8_t order, unsigned width) {                                           \
         struct buffer memory = any_memory(MEMORY, width, model);                                   \
         struct buffer at = take(PLACE, 8), answer = take(ANSWER, 8);                               \
         size_t words = memory.size / sizeof(T), place;                                             \
         struct stream stream = any_stream(words * width);                                          \
-        uint64_t before = any(), number;                                                           \
+        A before = (A)any(), expected = before, number;                                            \
         plant_code(memory, width, order, words, stream);                                           \
         memcpy(at.at, &stream.place, 8);                                                           \
         memcpy(answer.at, &before, 8);                                                             \
         protect(memory, PROT_READ);                                                                \
-        uint8_t status =                                                                           \
-            bitvec_c_##C##_##W(HEAD, (const T *)(void *)memory.at, words,                          \
-                               (size_t *)(void *)at.at, stream.end, __VA_ARGS__);                  \
+        uint8_t status = bitvec_c_##C##_##W(HEAD, (const T *)(void *)memory.at, words,             \
+                                            (size_t *)(void *)at.at, stream.end,                   \
+                                            __VA_ARGS__(A *)(void *)answer.at);                    \
         protect(memory, PROT_READ | PROT_WRITE);                                                   \
-        struct taken taken = refused(left_status(width, order, words, stream));                    \
-        if (taken.status == BITVEC_OK)                                                             \
-            taken = MODELLED;                                                                      \
-        same_status(status, taken.status);                                                         \
+        same_status(status, model_##C##_##W(HEAD, (const T *)(void *)model, words, &stream.place,  \
+                                            stream.end, __VA_ARGS__ &expected));                   \
         memcpy(&place, at.at, 8);                                                                  \
         memcpy(&number, answer.at, 8);                                                             \
-        if (place != stream.place + taken.count)                                                   \
+        if (place != stream.place)                                                                 \
             wrong("the place");                                                                    \
-        if (number != (status == BITVEC_OK ? taken.number : before))                               \
+        if (number != expected)                                                                    \
             wrong("the number");                                                                   \
         same_bytes(memory, model);                                                                 \
     }
 
-#define TO(A) (A *)(void *)answer.at
-
 #define STREAMS(W, T)                                                                              \
-    STREAM_READ(read, W, T, model_read(width, order, stream, false), BIG_HEAD, stream.count,       \
-                TO(uint64_t))                                                                      \
-    STREAM_READ(read_signed, W, T, model_read(width, order, stream, true), BIG_HEAD, stream.count, \
-                TO(int64_t))                                                                       \
-    STREAM_READ(read_unary, W, T, model_read_unary(width, order, stream), PLAIN_HEAD, stream.bit,  \
-                TO(size_t))                                                                        \
-    STREAM_READ(read_exp_golomb, W, T, model_read_code(width, order, stream, false), PLAIN_HEAD,   \
-                TO(uint64_t))                                                                      \
-    STREAM_READ(read_signed_exp_golomb, W, T, model_read_code(width, order, stream, true),         \
-                PLAIN_HEAD, TO(int64_t))
+    STREAM_READ(read, W, T, uint64_t, BIG_HEAD, stream.count, )                                    \
+    STREAM_READ(read_signed, W, T, int64_t, BIG_HEAD, stream.count, )                              \
+    STREAM_READ(read_unary, W, T, size_t, PLAIN_HEAD, stream.bit, )                                \
+    STREAM_READ(read_exp_golomb, W, T, uint64_t, PLAIN_HEAD, )                                     \
+    STREAM_READ(read_signed_exp_golomb, W, T, int64_t, PLAIN_HEAD, )
 
 STREAMS(u8, uint8_t)
 STREAMS(u16, uint16_t)
@@ -1337,53 +1037,8 @@ static struct stream any_target(size_t bits, bool is_signed) {
     return stream;
 }
 
-/* These answer as a call that writes does, and write to the model. */
-static struct taken model_write(unsigned width, uint8_t order, struct stream stream,
-                                bool is_signed) {
-    if (stream.count > 64)
-        return refused(BITVEC_TOO_WIDE);
-    if (stream.count > stream.end - stream.place)
-        return refused(BITVEC_TOO_FEW);
-    if (stream.number != of_digits(stream.number, stream.count, is_signed))
-        return refused(BITVEC_TOO_LARGE);
-    for (size_t i = 0; i < stream.count; i++)
-        put_bit(model, width, order, place_of_digit(stream, i), stream.number >> i & 1);
-    return (struct taken){BITVEC_OK, stream.count, 0};
-}
-
-static struct taken model_write_unary(unsigned width, uint8_t order, struct stream stream) {
-    if (stream.count >= stream.end - stream.place)
-        return refused(BITVEC_TOO_FEW);
-    for (size_t i = 0; i <= stream.count; i++)
-        put_bit(model, width, order, stream.place + i, stream.bit == (i < stream.count));
-    return (struct taken){BITVEC_OK, stream.count + 1, 0};
-}
-
-/* The digits of a code are those of one more than its number, of which there may be 65: `above`
- * then has all but the first. */
-static struct taken model_write_code(unsigned width, uint8_t order, struct stream stream,
-                                     bool is_signed) {
-    uint64_t number = stream.number, above = number + 1;
-    bool more = above == 0;
-    if (is_signed) {
-        bool positive = number != 0 && number >> 63 == 0;
-        above = positive ? 2 * number : 2 * (0 - number) + 1;
-        more = number == UINT64_C(1) << 63;
-    }
-    size_t zeros = more ? 64 : 0;
-    while (zeros < 63 && above >> zeros > 1)
-        zeros++;
-    if (2 * zeros + 1 > stream.end - stream.place)
-        return refused(BITVEC_TOO_FEW);
-    for (size_t i = 0; i <= zeros; i++)
-        put_bit(model, width, order, stream.place + i, i == zeros);
-    for (size_t i = 0; i < zeros; i++)
-        put_bit(model, width, order, stream.place + 2 * zeros - i, above >> i & 1);
-    return (struct taken){BITVEC_OK, 2 * zeros + 1, 0};
-}
-
 /* An export that writes a number to a stream of words `T`. */
-#define STREAM_WRITE(C, W, T, IS_SIGNED, MODELLED, HEAD, ...)                                      \
+#define STREAM_WRITE(C, W, T, IS_SIGNED, HEAD, ...)                                                \
     static void C##_##W(uint8_t order, unsigned width) {                                           \
         struct buffer memory = any_memory(MEMORY, width, model), at = take(PLACE, 8);              \
         size_t words = memory.size / sizeof(T), place;                                             \
@@ -1392,28 +1047,20 @@ static struct taken model_write_code(unsigned width, uint8_t order, struct strea
         uint8_t status =                                                                           \
             bitvec_c_##C##_##W(HEAD, (T *)(void *)memory.at, words, (size_t *)(void *)at.at,       \
                                stream.end, __VA_ARGS__);                                           \
-        struct taken taken = refused(left_status(width, order, words, stream));                    \
-        if (taken.status == BITVEC_OK)                                                             \
-            taken = MODELLED;                                                                      \
-        same_status(status, taken.status);                                                         \
+        same_status(status, model_##C##_##W(HEAD, (T *)(void *)model, words, &stream.place,        \
+                                            stream.end, __VA_ARGS__));                             \
         memcpy(&place, at.at, 8);                                                                  \
-        if (place != stream.place + taken.count)                                                   \
+        if (place != stream.place)                                                                 \
             wrong("the place");                                                                    \
         same_bytes(memory, model);                                                                 \
     }
 
 #define STREAM_WRITES(W, T)                                                                        \
-    STREAM_WRITE(write, W, T, false, model_write(width, order, stream, false), BIG_HEAD,           \
-                 stream.count, stream.number)                                                      \
-    STREAM_WRITE(write_signed, W, T, true, model_write(width, order, stream, true), BIG_HEAD,      \
-                 stream.count, (int64_t)stream.number)                                             \
-    STREAM_WRITE(write_unary, W, T, false, model_write_unary(width, order, stream), PLAIN_HEAD,    \
-                 stream.bit, stream.count)                                                         \
-    STREAM_WRITE(write_exp_golomb, W, T, false, model_write_code(width, order, stream, false),     \
-                 PLAIN_HEAD, stream.number)                                                        \
-    STREAM_WRITE(write_signed_exp_golomb, W, T, true,                                              \
-                 model_write_code(width, order, stream, true), PLAIN_HEAD,                         \
-                 (int64_t)stream.number)
+    STREAM_WRITE(write, W, T, false, BIG_HEAD, stream.count, stream.number)                        \
+    STREAM_WRITE(write_signed, W, T, true, BIG_HEAD, stream.count, (int64_t)stream.number)         \
+    STREAM_WRITE(write_unary, W, T, false, PLAIN_HEAD, stream.bit, stream.count)                   \
+    STREAM_WRITE(write_exp_golomb, W, T, false, PLAIN_HEAD, stream.number)                         \
+    STREAM_WRITE(write_signed_exp_golomb, W, T, true, PLAIN_HEAD, (int64_t)stream.number)
 
 STREAM_WRITES(u8, uint8_t)
 STREAM_WRITES(u16, uint16_t)

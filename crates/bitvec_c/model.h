@@ -115,6 +115,9 @@ static uint64_t model_complement(size_t count, int64_t number) {
 #define LEFT MODEL_JOIN(model_left, _u, MODEL_BITS)
 #define NUMBER MODEL_JOIN(number, _u, MODEL_BITS)
 #define HOLDS MODEL_JOIN(holds, _u, MODEL_BITS)
+#define CODE MODEL_JOIN(model_code, _u, MODEL_BITS)
+#define PUT_CODE MODEL_JOIN(model_put_code, _u, MODEL_BITS)
+#define SPANS MODEL_JOIN(model_spans, _u, MODEL_BITS)
 #define PLACE MODEL_JOIN(model_place, _u, MODEL_BITS)
 #define GROWS MODEL_JOIN(model_grows, _u, MODEL_BITS)
 #define TAKEN MODEL_JOIN(model_taken, _u, MODEL_BITS)
@@ -985,6 +988,190 @@ uint8_t MODEL(write_unary)(uint8_t order, WORD *memory, size_t words, size_t *pl
         PUT(order, memory, from + i, bit);
     PUT(order, memory, from + count, !bit);
     *place = from + count + 1;
+    return status;
+}
+
+/* Of an Exp-Golomb code how many zeros it begins with, and the digits behind the first one, of which it has as many. */
+static uint8_t CODE(uint8_t order, const WORD *memory, size_t words, size_t place, size_t end, size_t *zeros,
+                    uint64_t *low) {
+    uint8_t status = LEFT(order, words, place, end);
+    if (status != BITVEC_OK)
+        return status;
+    size_t one = place;
+    while (one < end && !READ(order, memory, one))
+        one++;
+    *zeros = one - place;
+    if (one == end || *zeros > end - one - 1)
+        return BITVEC_TOO_FEW;
+    *low = 0;
+    for (size_t i = 1; i <= *zeros; i++)
+        *low = *low << 1 | READ(order, memory, one + i);
+    return *zeros > 64 ? BITVEC_TOO_LARGE : status;
+}
+
+uint8_t MODEL(read_exp_golomb)(uint8_t order, const WORD *memory, size_t words, size_t *place, size_t end,
+                               uint64_t *number) {
+    size_t zeros = 0;
+    uint64_t low = 0;
+    uint8_t status = CODE(order, memory, words, *place, end, &zeros, &low);
+    if (status == BITVEC_OK && zeros == 64 && low != 0)
+        status = BITVEC_TOO_LARGE;
+    if (status != BITVEC_OK)
+        return status;
+    *number = (zeros < 64 ? model_power(zeros) : 0) + low - 1;
+    *place += 2 * zeros + 1;
+    return status;
+}
+
+uint8_t MODEL(read_signed_exp_golomb)(uint8_t order, const WORD *memory, size_t words, size_t *place, size_t end,
+                                      int64_t *number) {
+    size_t zeros = 0;
+    uint64_t low = 0;
+    uint8_t status = CODE(order, memory, words, *place, end, &zeros, &low);
+    if (status == BITVEC_OK && zeros == 64 && low != 1)
+        status = BITVEC_TOO_LARGE;
+    if (status != BITVEC_OK)
+        return status;
+    uint64_t code = (zeros < 64 ? model_power(zeros) : 0) + low - 1;
+    if (zeros == 64)
+        *number = -INT64_MAX - 1;
+    else
+        *number = code % 2 == 1 ? (int64_t)(code / 2) + 1 : -(int64_t)(code / 2);
+    *place += 2 * zeros + 1;
+    return status;
+}
+
+/* Writes a code: as many zeros as are said, a one, and as many digits. */
+static uint8_t PUT_CODE(uint8_t order, WORD *memory, size_t words, size_t *place, size_t end, size_t zeros,
+                        uint64_t low) {
+    uint8_t status = LEFT(order, words, *place, end);
+    if (status == BITVEC_OK && 2 * zeros + 1 > end - *place)
+        status = BITVEC_TOO_FEW;
+    if (status != BITVEC_OK)
+        return status;
+    for (size_t i = 0; i <= zeros; i++)
+        PUT(order, memory, *place + i, i == zeros);
+    for (size_t i = 0; i < zeros; i++)
+        PUT(order, memory, *place + 2 * zeros - i, low / model_power(i) % 2 == 1);
+    *place += 2 * zeros + 1;
+    return status;
+}
+
+/* (one more than a number has 65 digits where the number is the greatest) */
+uint8_t MODEL(write_exp_golomb)(uint8_t order, WORD *memory, size_t words, size_t *place, size_t end,
+                                uint64_t number) {
+    size_t zeros = number == UINT64_MAX ? 64 : 0;
+    while (zeros < 64 && (number + 1) / model_power(zeros) > 1)
+        zeros++;
+    return PUT_CODE(order, memory, words, place, end, zeros, number + 1);
+}
+
+uint8_t MODEL(write_signed_exp_golomb)(uint8_t order, WORD *memory, size_t words, size_t *place, size_t end,
+                                       int64_t number) {
+    if (number == -INT64_MAX - 1)
+        return PUT_CODE(order, memory, words, place, end, 64, 1);
+    return MODEL(write_exp_golomb)(order, memory, words, place, end,
+                                   number > 0 ? 2 * (uint64_t)number - 1 : 2 * (uint64_t)-number);
+}
+
+/* The status of spans that may be as many as they are. */
+/*@ requires \valid_read(spans + (0 .. count - 1));
+  @ assigns \nothing;
+  @ ensures is_spans_status{Pre}(\result, MODEL_BITS, 0, BITVEC_OK, spans, count, words);
+  @*/
+static uint8_t SPANS(size_t words, const struct bitvec_span *spans, size_t count) {
+    /*@ loop invariant 0 <= i <= count;
+      @ loop invariant short_spans{Here}(spans, i);
+      @ loop assigns i;
+      @ loop variant count - i;
+      @*/
+    for (size_t i = 0; i < count; i++)
+        if (spans[i].count > BITVEC_MAX_BITS)
+            return BITVEC_TOO_LONG;
+    /*@ loop invariant 0 <= i <= count;
+      @ loop invariant inside_spans{Here}(MODEL_BITS, words, spans, i);
+      @ loop invariant 0 < i ==> words * MODEL_BITS <= 18446744073709551615;
+      @ loop assigns i;
+      @ loop variant count - i;
+      @*/
+    for (size_t i = 0; i < count; i++)
+        if (STATUS(0, words, spans[i].start, spans[i].count) != BITVEC_OK)
+            return BITVEC_OUTSIDE;
+    /*@ loop invariant 0 <= k <= count;
+      @ loop invariant apart_spans{Here}(spans, k);
+      @ loop assigns k;
+      @ loop variant count - k;
+      @*/
+    for (size_t k = 0; k < count; k++) {
+        /*@ loop invariant 0 <= j <= k;
+          @ loop invariant \forall integer i; 0 <= i < j && 0 < spans[i].count && 0 < spans[k].count ==>
+          @   spans[i].start + spans[i].count <= spans[k].start || spans[k].start + spans[k].count <= spans[i].start;
+          @ loop assigns j;
+          @ loop variant k - j;
+          @*/
+        for (size_t j = 0; j < k; j++)
+            if (spans[j].count != 0 && spans[k].count != 0 && spans[k].start < spans[j].start + spans[j].count &&
+                spans[j].start < spans[k].start + spans[k].count)
+                return BITVEC_OVERLAP;
+    }
+    return BITVEC_OK;
+}
+
+uint8_t MODEL(can_run)(uint8_t order, size_t words, const struct bitvec_span *spans, size_t span_count) {
+    if (order > 1)
+        return BITVEC_NO_ORDER;
+    return span_count > BITVEC_MAX_SPANS ? BITVEC_TOO_MANY_SPANS : SPANS(words, spans, span_count);
+}
+
+/* (a sort by insertion, of which a test of two spans tells nothing more) */
+uint8_t MODEL(can_run_in)(uint8_t order, size_t words, const struct bitvec_span *spans, size_t span_count,
+                          size_t *room, size_t room_count) {
+    if (order > 1)
+        return BITVEC_NO_ORDER;
+    if (room_count != span_count)
+        return BITVEC_NO_ROOM;
+    uint8_t status = SPANS(words, spans, span_count);
+    if (status != BITVEC_OK && status != BITVEC_OVERLAP)
+        return status;
+    /*@ loop invariant 0 <= i <= span_count;
+      @ loop invariant rising{Pre, Here}(spans, i, room);
+      @ loop invariant \forall integer k; 0 <= k < span_count ==> spans[k].start == \at(spans[k].start, Pre);
+      @ loop assigns i, room[0 .. room_count - 1];
+      @ loop variant span_count - i;
+      @*/
+    for (size_t i = 0; i < span_count; i++) {
+        size_t j = i;
+        /*@ loop invariant 0 <= j <= i;
+          @ loop invariant \forall integer k; 0 <= k <= i && k != j ==> room[k] < i;
+          @ loop invariant \forall integer k, l; 0 <= k < l <= i && k != j && l != j ==> room[k] != room[l];
+          @ loop invariant \forall integer k, l; 0 <= k < l <= i && k != j && l != j ==>
+          @   \at(spans[\at(room[k], Here)].start, Pre) <= \at(spans[\at(room[l], Here)].start, Pre);
+          @ loop invariant \forall integer k; j < k <= i ==>
+          @   \at(spans[\at(i, Here)].start, Pre) < \at(spans[\at(room[k], Here)].start, Pre);
+          @ loop invariant \forall integer k; 0 <= k < span_count ==> spans[k].start == \at(spans[k].start, Pre);
+          @ loop assigns j, room[0 .. room_count - 1];
+          @ loop variant j;
+          @*/
+        while (j > 0 && spans[room[j - 1]].start > spans[i].start) {
+            room[j] = room[j - 1];
+            j--;
+        }
+        /*@ assert last: j == 0 ||
+          @   \at(spans[\at(room[j - 1], Here)].start, Pre) <= \at(spans[\at(i, Here)].start, Pre); */
+        /*@ assert before: \forall integer k; 0 <= k < j ==>
+          @   \at(spans[\at(room[k], Here)].start, Pre) <= \at(spans[\at(i, Here)].start, Pre); */
+        room[j] = i;
+        //@ assert numbers: \forall integer k; 0 <= k <= i ==> room[k] <= i;
+        //@ assert once: \forall integer k, l; 0 <= k < l <= i ==> room[k] != room[l];
+        /*@ assert others: \forall integer k, l; 0 <= k < l <= i && k != j && l != j ==>
+          @   \at(spans[\at(room[k], Here)].start, Pre) <= \at(spans[\at(room[l], Here)].start, Pre); */
+        /*@ assert below: \forall integer k; 0 <= k < j ==>
+          @   \at(spans[\at(room[k], Here)].start, Pre) <= \at(spans[\at(room[j], Here)].start, Pre); */
+        /*@ assert above: \forall integer k; j < k <= i ==>
+          @   \at(spans[\at(room[j], Here)].start, Pre) <= \at(spans[\at(room[k], Here)].start, Pre); */
+        /*@ assert sorted: \forall integer k, l; 0 <= k < l <= i ==>
+          @   \at(spans[\at(room[k], Here)].start, Pre) <= \at(spans[\at(room[l], Here)].start, Pre); */
+    }
     return status;
 }
 #endif
