@@ -1,3 +1,4 @@
+mod BoolLemmas
 pub mod FrontLemmas
 pub mod GrowthLemmas
 mod LendLemmas

@@ -1,6 +1,7 @@
 //! Vectors of bits.
 
 mod bit_vec;
+mod bools;
 mod edit;
 mod ends;
 mod equal;

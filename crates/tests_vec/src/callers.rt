@@ -32,6 +32,19 @@ pub fn push_both<R: BitRegister, O: BitOrder<R>, A: Allocator>(
     Ok(())
 }
 
+/// Two lists of truth values, one behind the other, as a vector of bits.
+pub fn joined<R: BitRegister, O: BitOrder<R>, A: Allocator>(
+    alloc: A,
+    first: &[bool],
+    second: &[bool],
+) -> Result<BitVec<R, O, A>, AllocError>
+    ensures { IfOk result (λ bits. vec_bits bits ≡ first.now ++ second.now) }
+{
+    let mut bits = BitVec::from_bools(alloc, first)?;
+    bits.extend_from_bools(second)?;
+    Ok(bits)
+}
+
 /// Puts a bit behind the others and takes it away again.
 pub fn push_and_pop<R: BitRegister, O: BitOrder<R>, A: Allocator>(
     bits: &mut BitVec<R, O, A>,

@@ -85,6 +85,22 @@ fn a_slice_behind(rt: HostRuntime) -> Result<(), Fail> {
 }
 
 #[test]
+fn truth_values_behind(rt: HostRuntime) -> Result<(), Fail> {
+    let mut bits = BitVec::<u8, Msb0>::repeat(rt.alloc(), false, 2)?;
+    bits.extend_from_bools(&[true, false, true])?;
+    assert_eq!(rt; format!(in rt.alloc(); "{bits}")?.as_str(), "00101");
+    Ok(())
+}
+
+#[test]
+fn bits_of_truth_values(rt: HostRuntime) -> Result<(), Fail> {
+    let bits = BitVec::<u8, Lsb0>::from_bools(rt.alloc(), &[true, true, false])?;
+    assert_eq!(rt; bits.len(), 3);
+    assert_eq!(rt; format!(in rt.alloc(); "{bits}")?.as_str(), "110");
+    Ok(())
+}
+
+#[test]
 fn bits_put_in(rt: HostRuntime) -> Result<(), Fail> {
     let mut bits = BitVec::<usize, Lsb0>::repeat(rt.alloc(), false, 5)?;
     assert_eq!(rt; bits.len(), 5);

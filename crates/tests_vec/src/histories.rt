@@ -120,6 +120,44 @@ fn ten_thousand_calls(rt: HostRuntime) -> Result<(), Fail> {
     Ok(())
 }
 
+// The first of many truth values behind others, from each bit of a word on and of each length up to
+// more than two words: as many pushes make the same list.
+fn behind<R: BitRegister, O: BitOrder<R>>(
+    rt: &impl Abort,
+    alloc: Global,
+    width: usize,
+    list: &[bool],
+) -> Result<(), AllocError> {
+    for head in 0..width {
+        for count in (0..=list.len()).step_by(5) {
+            let mut bits = BitVec::<R, O>::repeat(alloc, true, head)?;
+            let mut same = bits.clone()?;
+            for bit in list.iter().take(count) {
+                same.push(*bit)?;
+            }
+            bits.extend_from_bools(&list[..count])?;
+            assert!(rt; bits == same, "{count} from bit {head}");
+        }
+    }
+    Ok(())
+}
+
+#[test]
+fn truth_values_by_words(rt: HostRuntime) -> Result<(), Fail> {
+    let mut list = Vec::new(rt.alloc());
+    let mut seed = 73;
+    for _ in 0..150 {
+        seed = next(seed);
+        list.push((seed >> 40) & 1 == 1)?;
+    }
+    behind::<u8, Lsb0>(&rt, rt.alloc(), 8, &list)?;
+    behind::<u16, Msb0>(&rt, rt.alloc(), 16, &list)?;
+    behind::<u64, Lsb0>(&rt, rt.alloc(), 64, &list)?;
+    behind::<u64, Msb0>(&rt, rt.alloc(), 64, &list)?;
+    behind::<u128, Lsb0>(&rt, rt.alloc(), 17, &list)?;
+    Ok(())
+}
+
 #[test]
 fn calls_from_the_highest_digit_on(rt: HostRuntime) -> Result<(), Fail> {
     let mut bits = BitVec::<usize, Msb0>::new(rt.alloc());

@@ -59,6 +59,7 @@ fn call<A: Allocator + Clone>(
             }
             Ok(())
         }
+        7 => bits.extend_from_bools(&[false, true, true, false]),
         _ => {
             let copy = bits.clone()?;
             more.extend_from_bitslice(copy.as_bitslice())
@@ -76,13 +77,13 @@ fn is_done<A: Allocator>(
         0 => is(bits, ["1", REST, "1"]),
         1 => is(bits, ["11", REST, ""]),
         2 => is(bits, ["1", REST, "111111"]),
-        4 | 5 => is(bits, ["1", REST, MORE]),
+        4 | 5 | 7 => is(bits, ["1", REST, MORE]),
         6 => is(bits, ["101", "", ""]),
         _ => is(bits, [TEXT, "", ""]),
     };
     let theirs = match number {
         5 => more.is_empty(),
-        7 => is(more, [MORE, TEXT, ""]),
+        8 => is(more, [MORE, TEXT, ""]),
         _ => is(more, [MORE, "", ""]),
     };
     left && theirs
@@ -113,7 +114,7 @@ fn asks<A: Allocator + Clone>(
 
 #[test]
 fn each_request_for_memory_may_be_refused(rt: HostRuntime) -> Result<(), Fail> {
-    for number in 0..8u32 {
+    for number in 0..9u32 {
         let mut refusals: u32 = 0;
         for first in 0..8 {
             for plan in [Plan::only(first), Plan::all_from(first)] {
@@ -150,6 +151,7 @@ fn a_text_where_there_is_no_memory(rt: HostRuntime) -> Result<(), Fail> {
 #[test]
 fn no_length_is_refused(rt: HostRuntime) -> Result<(), Fail> {
     let mut text = String::new(rt.alloc());
+    let mut list = Vec::new(rt.alloc());
     let mut bits = BitVec::<u8, Msb0>::new(rt.alloc());
     for len in 0..260usize {
         let read = BitVec::<u16, Lsb0>::from_text(rt.alloc(), text.as_str())?;
@@ -159,6 +161,8 @@ fn no_length_is_refused(rt: HostRuntime) -> Result<(), Fail> {
         assert!(rt; BitVec::<u8, Lsb0>::with_capacity(rt.alloc(), len)?.is_empty());
         let mut copy = BitVec::<u32, Lsb0>::from_bitslice(rt.alloc(), bits.as_bitslice())?;
         assert!(rt; copy.equals(&read.as_bitslice()));
+        let packed = BitVec::<u64, Lsb0>::from_bools(rt.alloc(), &list)?;
+        assert!(rt; packed.equals(&read.as_bitslice()));
         copy.insert(0, true)?;
         copy.append(&mut read.clone()?)?;
         copy.extend_from_bitslice(bits.as_bitslice())?;
@@ -172,6 +176,7 @@ fn no_length_is_refused(rt: HostRuntime) -> Result<(), Fail> {
         copy.resize(len.wrapping_mul(5), true)?;
         copy.reserve(len)?;
         assert!(rt; len.wrapping_mul(6) <= copy.capacity());
+        list.push(len % 3 == 0)?;
         bits.push(len % 3 == 0)?;
         text.push_str(if len % 3 == 0 { "1" } else { "0" })?;
     }
@@ -188,6 +193,8 @@ fn none_is_never_refused(rt: HostRuntime) -> Result<(), Fail> {
     assert!(rt; none.is_empty());
     let copy: BitVec<u64, Lsb0, _> = BitVec::from_bitslice(&memory, none.as_bitslice())?;
     assert!(rt; copy.is_empty());
+    let none: BitVec<u16, Lsb0, _> = BitVec::from_bools(&memory, &[])?;
+    assert!(rt; none.is_empty());
     let mut copy = copy.clone()?;
     assert!(rt; copy.split_off(0)?.is_empty());
     let mut few = BitVec::<u8, Lsb0>::from_text(rt.alloc(), "011")?;

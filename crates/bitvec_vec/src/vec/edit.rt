@@ -125,9 +125,8 @@ fn put_slice<R: BitRegister, O: BitOrder<R>, R2: BitRegister, O2: BitOrder<R2>>(
     requires short { len ≤ region_max_bits }
     requires room { words_for R.BITS len ≤ length words.old }
     requires inside { from + slice_len source ≤ len }
-    ensures { front_bits R.BITS O.at_of len (map R.number words.new) ≡ with_range
-        (front_bits R.BITS O.at_of len (map R.number words.old)) from
-        (from + slice_len source.entry) (slice_bits source.entry) }
+    ensures { let bits = front_bits R.BITS O.at_of len in bits (map R.number words.new)
+        ≡ with_slice (bits (map R.number words.old)) from (slice_bits source.entry) }
 {
     let span: BitSpan<R, O> = span_of_front(len);
     let mut bits = BitSliceMut::new_unchecked(span, words);
