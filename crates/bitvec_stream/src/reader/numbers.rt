@@ -1,7 +1,8 @@
 //! Numbers of `count` bits, where the caller says the count.
 
-ghost use Rattle.std.specs.Prelude.{◌≡◌, ◌≤◌, ◌↔◌, IsOk, IfOk, IfErr, length, take};
-ghost use Rattle.bitvec_stream.specs.Numbers.{number_le, number_be};
+ghost use Rattle.std.specs.Prelude.{◌≡◌, ◌+◌, ◌≤◌, ◌↔◌, ◌++◌, IsOk, IfOk, IfErr};
+ghost use Rattle.std.specs.Prelude.{length, take};
+ghost use Rattle.bitvec_stream.specs.Numbers.{number_le, number_be, digits_le, digits_be};
 ghost use Rattle.bitvec_stream.specs.Reader.{unread};
 
 use crate::error::ReadError;
@@ -51,6 +52,10 @@ impl<'a, R: BitRegister, O: BitOrder<R>> BitReader<'a, R, O> {
         ensures accepted { IsOk result ↔ (count ≤ length (unread self.old)) }
         ensures number { IfOk result (λ value. N.number value
             ≡ number_be (take count (unread self.old))) }
+        ensures digits { IfOk result (λ value. unread self.old
+            ≡ digits_be count (N.number value) ++ unread self.new) }
+        ensures left { IfOk result (λ _. length (unread self.new) + count
+            ≡ length (unread self.old)) }
         ensures moved { PassesOrTooFew self.old self.new count result }
     {
         if self.remaining() < count {
@@ -68,6 +73,10 @@ impl<'a, R: BitRegister, O: BitOrder<R>> BitReader<'a, R, O> {
         ensures accepted { IsOk result ↔ (count ≤ length (unread self.old)) }
         ensures number { IfOk result (λ value. N.number value
             ≡ number_le (take count (unread self.old))) }
+        ensures digits { IfOk result (λ value. unread self.old
+            ≡ digits_le count (N.number value) ++ unread self.new) }
+        ensures left { IfOk result (λ _. length (unread self.new) + count
+            ≡ length (unread self.old)) }
         ensures moved { PassesOrTooFew self.old self.new count result }
     {
         if self.remaining() < count {
@@ -89,6 +98,10 @@ impl<'a, R: BitRegister, O: BitOrder<R>> BitReader<'a, R, O> {
         ensures accepted { IsOk result ↔ (count ≤ length (unread self.old)) }
         ensures number { IfOk result (λ value. N.number value
             ≡ number_be (take count (unread self.old))) }
+        ensures digits { IfOk result (λ value. unread self.old
+            ≡ digits_be count (N.number value) ++ unread self.new) }
+        ensures left { IfOk result (λ _. length (unread self.new) + count
+            ≡ length (unread self.old)) }
         ensures moved { PassesOrTooFew self.old self.new count result }
     {
         if direction_of::<R, O>() == Direction::Falls {
@@ -121,6 +134,10 @@ impl<'a, R: BitRegister, O: BitOrder<R>> BitReader<'a, R, O> {
         ensures accepted { IsOk result ↔ (count ≤ length (unread self.old)) }
         ensures number { IfOk result (λ value. N.number value
             ≡ number_le (take count (unread self.old))) }
+        ensures digits { IfOk result (λ value. unread self.old
+            ≡ digits_le count (N.number value) ++ unread self.new) }
+        ensures left { IfOk result (λ _. length (unread self.new) + count
+            ≡ length (unread self.old)) }
         ensures moved { PassesOrTooFew self.old self.new count result }
     {
         if direction_of::<R, O>() == Direction::Rises {

@@ -1,6 +1,6 @@
 //! Numbers in `count` bits, where the caller says the count.
 
-ghost use Rattle.std.specs.Prelude.{◌≡◌, ◌^◌, ◌<◌, ◌≤◌, ◌↔◌, Err, IsTrue, IsOk, MatchResult};
+ghost use Rattle.std.specs.Prelude.{◌≡◌, ◌+◌, ◌^◌, ◌<◌, ◌≤◌, ◌↔◌, Err, IsTrue, IsOk, IfOk, MatchResult};
 ghost use Rattle.std.specs.Prelude.{length};
 ghost use Rattle.bitvec_stream.specs.Numbers.{digits_le, digits_be};
 
@@ -78,6 +78,8 @@ impl<'a, R: BitRegister, O: BitOrder<R>> BitWriter<'a, R, O> {
         ensures accepted { IsOk result
             ↔ ((count ≤ length (room self.old)) × (N.number value < 2 ^ count)) }
         ensures no_room { (result ≡ Err WriteError.NoRoom) ↔ (length (room self.old) < count) }
+        ensures left { IfOk result (λ _. length (room self.new) + count
+            ≡ length (room self.old)) }
         ensures written { MatchResult result
             (λ _. Writes self.old self.new (digits_be count (N.number value)))
             (λ _. self.new ≡ self.old) }
@@ -121,6 +123,8 @@ impl<'a, R: BitRegister, O: BitOrder<R>> BitWriter<'a, R, O> {
         ensures accepted { IsOk result
             ↔ ((count ≤ length (room self.old)) × (N.number value < 2 ^ count)) }
         ensures no_room { (result ≡ Err WriteError.NoRoom) ↔ (length (room self.old) < count) }
+        ensures left { IfOk result (λ _. length (room self.new) + count
+            ≡ length (room self.old)) }
         ensures written { MatchResult result
             (λ _. Writes self.old self.new (digits_le count (N.number value)))
             (λ _. self.new ≡ self.old) }
