@@ -2,3 +2,4 @@ pub mod BitVec
 pub mod Front
 pub mod FromText
 pub mod Lends
+pub mod WithList

@@ -1,13 +1,13 @@
 //! Edits of a vector's bits that keep its length: each says what the list becomes.
 
-ghost use Rattle.std.specs.Prelude.{◌≡◌, ◌≤◌, ◌<◌, ◌+◌, ◌-◌, length, map, slice_set, replicate};
+ghost use Rattle.std.specs.Prelude.{◌≡◌, ◌≤◌, ◌<◌, ◌+◌, ◌-◌, length, slice_set, replicate};
 ghost use Rattle.std.specs.List.{swap};
 ghost use Rattle.bitvec.specs.Memory.{list_with_copy};
 ghost use Rattle.bitvec.specs.Place.{region_max_bits};
 ghost use Rattle.bitvec.specs.Span.{element, with_filled};
 ghost use Rattle.bitvec_slice.specs.BitSlice.{slice_len, slice_bits};
-ghost use Rattle.bitvec_slice.specs.Ranges.{with_range};
-ghost use Rattle.bitvec_vec.specs.Front.{front_bits, words_for};
+ghost use Rattle.bitvec_vec.specs.Front.{front_of, words_for};
+ghost use Rattle.bitvec_vec.specs.WithList.{with_list};
 
 use crate::vec::BitVec;
 use crate::vec::front::span_of_front;
@@ -107,8 +107,8 @@ impl<R: BitRegister, O: BitOrder<R>, A: Allocator> BitVec<R, O, A> {
         source: BitSlice<'_, R2, O2>,
     )
         requires { from + length (slice_bits source) ≤ length (vec_bits self.old) }
-        ensures bits { vec_bits self.new ≡ with_range (vec_bits self.old) from
-            (from + length (slice_bits source.entry)) (slice_bits source.entry) }
+        ensures bits { vec_bits self.new
+            ≡ with_list (vec_bits self.old) from (slice_bits source.entry) }
         ensures capacity { bit_capacity self.new ≡ bit_capacity self.old }
     {
         put_slice::<R, O, R2, O2>(self.words.as_mut_slice(), self.len, from, source);
@@ -125,8 +125,8 @@ fn put_slice<R: BitRegister, O: BitOrder<R>, R2: BitRegister, O2: BitOrder<R2>>(
     requires short { len ≤ region_max_bits }
     requires room { words_for R.BITS len ≤ length words.old }
     requires inside { from + slice_len source ≤ len }
-    ensures { let bits = front_bits R.BITS O.at_of len in bits (map R.number words.new)
-        ≡ with_slice (bits (map R.number words.old)) from (slice_bits source.entry) }
+    ensures { let bits = front_of R.BITS O.at_of R.number len in bits words.new
+        ≡ with_list (bits words.old) from (slice_bits source.entry) }
 {
     let span: BitSpan<R, O> = span_of_front(len);
     let mut bits = BitSliceMut::new_unchecked(span, words);

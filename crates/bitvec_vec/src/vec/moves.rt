@@ -1,11 +1,11 @@
 //! A vector's bits in another order, moved all at once, or made a number's digits.
 
-ghost use Rattle.std.specs.Prelude.{◌≡◌, ◌≤◌, ◌-◌, ◌%◌, ◌^◌, ◌++◌, length, map, false, take, drop};
+ghost use Rattle.std.specs.Prelude.{◌≡◌, ◌≤◌, ◌-◌, ◌%◌, ◌^◌, ◌++◌, length, false, take, drop};
 ghost use Rattle.std.specs.Prelude.{replicate, reverse, slice_range};
 ghost use Rattle.bitvec.specs.Place.{region_max_bits};
 ghost use Rattle.bitvec_slice.specs.Numbers.{number_le, number_be, digits_le, digits_be};
 ghost use Rattle.bitvec_slice.specs.Ranges.{with_range};
-ghost use Rattle.bitvec_vec.specs.Front.{front_bits, words_for};
+ghost use Rattle.bitvec_vec.specs.Front.{front_of, words_for};
 
 use crate::vec::BitVec;
 use crate::vec::front::span_of_front;
@@ -19,8 +19,8 @@ use std::alloc::Allocator;
 fn reverse_front<R: BitRegister, O: BitOrder<R>>(words: &mut [R], len: usize)
     requires short { len ≤ region_max_bits }
     requires room { words_for R.BITS len ≤ length words.old }
-    ensures { front_bits R.BITS O.at_of len (map R.number words.new)
-        ≡ reverse (front_bits R.BITS O.at_of len (map R.number words.old)) }
+    ensures { let bits = front_of R.BITS O.at_of R.number len
+        in bits words.new ≡ reverse (bits words.old) }
 {
     let span: BitSpan<R, O> = span_of_front(len);
     let mut bits = BitSliceMut::new_unchecked(span, words);
@@ -32,8 +32,8 @@ fn rotate_front<R: BitRegister, O: BitOrder<R>>(words: &mut [R], len: usize, by:
     requires short { len ≤ region_max_bits }
     requires room { words_for R.BITS len ≤ length words.old }
     requires inside { by ≤ len }
-    ensures { let xs = front_bits R.BITS O.at_of len (map R.number words.old)
-        in front_bits R.BITS O.at_of len (map R.number words.new) ≡ drop by xs ++ take by xs }
+    ensures { let bits = front_of R.BITS O.at_of R.number len
+        in bits words.new ≡ drop by (bits words.old) ++ take by (bits words.old) }
 {
     let span: BitSpan<R, O> = span_of_front(len);
     let mut bits = BitSliceMut::new_unchecked(span, words);
@@ -45,9 +45,8 @@ fn shift_front_left<R: BitRegister, O: BitOrder<R>>(words: &mut [R], len: usize,
     requires short { len ≤ region_max_bits }
     requires room { words_for R.BITS len ≤ length words.old }
     requires inside { by ≤ len }
-    ensures { let xs = front_bits R.BITS O.at_of len (map R.number words.old)
-        in front_bits R.BITS O.at_of len (map R.number words.new)
-        ≡ drop by xs ++ replicate by false }
+    ensures { let bits = front_of R.BITS O.at_of R.number len
+        in bits words.new ≡ drop by (bits words.old) ++ replicate by false }
 {
     let span: BitSpan<R, O> = span_of_front(len);
     let mut bits = BitSliceMut::new_unchecked(span, words);
@@ -59,9 +58,8 @@ fn shift_front_right<R: BitRegister, O: BitOrder<R>>(words: &mut [R], len: usize
     requires short { len ≤ region_max_bits }
     requires room { words_for R.BITS len ≤ length words.old }
     requires inside { by ≤ len }
-    ensures { let xs = front_bits R.BITS O.at_of len (map R.number words.old)
-        in front_bits R.BITS O.at_of len (map R.number words.new)
-        ≡ replicate by false ++ take (length xs - by) xs }
+    ensures { let bits = front_of R.BITS O.at_of R.number len in let xs = bits words.old
+        in bits words.new ≡ replicate by false ++ take (length xs - by) xs }
 {
     let span: BitSpan<R, O> = span_of_front(len);
     let mut bits = BitSliceMut::new_unchecked(span, words);
@@ -81,12 +79,10 @@ fn store_front_le<R: BitRegister, O: BitOrder<R>, N: BitRegister>(
     requires ordered { from ≤ to }
     requires inside { to ≤ len }
     requires small { to - from ≤ N.BITS }
-    ensures bits { front_bits R.BITS O.at_of len (map R.number words.new) ≡ with_range
-        (front_bits R.BITS O.at_of len (map R.number words.old)) from to
-        (digits_le (to - from) (N.number value)) }
-    ensures loaded { number_le (slice_range
-        (front_bits R.BITS O.at_of len (map R.number words.new)) from to)
-        ≡ N.number value % 2 ^ (to - from) }
+    ensures bits { let bits = front_of R.BITS O.at_of R.number len in bits words.new
+        ≡ with_range (bits words.old) from to (digits_le (to - from) (N.number value)) }
+    ensures loaded { let bits = front_of R.BITS O.at_of R.number len
+        in number_le (slice_range (bits words.new) from to) ≡ N.number value % 2 ^ (to - from) }
 {
     let span: BitSpan<R, O> = span_of_front(len);
     let mut bits = BitSliceMut::new_unchecked(span, words);
@@ -106,12 +102,10 @@ fn store_front_be<R: BitRegister, O: BitOrder<R>, N: BitRegister>(
     requires ordered { from ≤ to }
     requires inside { to ≤ len }
     requires small { to - from ≤ N.BITS }
-    ensures bits { front_bits R.BITS O.at_of len (map R.number words.new) ≡ with_range
-        (front_bits R.BITS O.at_of len (map R.number words.old)) from to
-        (digits_be (to - from) (N.number value)) }
-    ensures loaded { number_be (slice_range
-        (front_bits R.BITS O.at_of len (map R.number words.new)) from to)
-        ≡ N.number value % 2 ^ (to - from) }
+    ensures bits { let bits = front_of R.BITS O.at_of R.number len in bits words.new
+        ≡ with_range (bits words.old) from to (digits_be (to - from) (N.number value)) }
+    ensures loaded { let bits = front_of R.BITS O.at_of R.number len
+        in number_be (slice_range (bits words.new) from to) ≡ N.number value % 2 ^ (to - from) }
 {
     let span: BitSpan<R, O> = span_of_front(len);
     let mut bits = BitSliceMut::new_unchecked(span, words);

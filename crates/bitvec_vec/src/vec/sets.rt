@@ -5,7 +5,7 @@ ghost use Rattle.bitvec.specs.Digit.{exclusive_or};
 ghost use Rattle.bitvec.specs.Memory.{zip_with};
 ghost use Rattle.bitvec.specs.Place.{region_max_bits};
 ghost use Rattle.bitvec_slice.specs.BitSlice.{slice_len, slice_bits};
-ghost use Rattle.bitvec_vec.specs.Front.{front_bits, words_for};
+ghost use Rattle.bitvec_vec.specs.Front.{front_of, words_for};
 
 use crate::vec::BitVec;
 use crate::vec::front::span_of_front;
@@ -25,8 +25,8 @@ fn combine_slice<C: Combine, R: BitRegister, O: BitOrder<R>, R2: BitRegister, O2
     requires short { len ≤ region_max_bits }
     requires room { words_for R.BITS len ≤ length words.old }
     requires same { slice_len source ≡ len }
-    ensures { front_bits R.BITS O.at_of len (map R.number words.new) ≡ zip_with C.of
-        (front_bits R.BITS O.at_of len (map R.number words.old)) (slice_bits source.entry) }
+    ensures { let bits = front_of R.BITS O.at_of R.number len in bits words.new
+        ≡ zip_with C.of (bits words.old) (slice_bits source.entry) }
 {
     let span: BitSpan<R, O> = span_of_front(len);
     let mut bits = BitSliceMut::new_unchecked(span, words);

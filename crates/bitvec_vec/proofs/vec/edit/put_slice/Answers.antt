@@ -1,9 +1,10 @@
-use Rattle.std.proofs.Common.{◌+◌, ◌∙◌, rules, Bool, List, length, ap, arith}
+use Rattle.std.proofs.Common.{◌+◌, ◌∙◌, rules, Bool, List, length, map, ap, sym, arith}
 use Rattle.bitvec.specs.BitSpan.{span_of}
 use Rattle.bitvec.specs.Span.{Span}
-use Rattle.bitvec_slice.specs.BitSlice.{slice_len, slice_bits}
+use Rattle.bitvec_slice.specs.BitSlice.{slice_memory, slice_len, slice_bits}
 use Rattle.bitvec_slice.specs.BitSliceMut.{lent_span}
 use Rattle.bitvec_slice.specs.Ranges.{with_range}
+use Rattle.bitvec_vec.specs.Front.{front_of}
 use Rattle.bitvec_vec.proofs.VecLemmas.{front-fits, front-lent}
 use Rattle.bitvec_vec.proofs.vec.edit.put_slice.Goals as goal
 
@@ -17,8 +18,14 @@ copy_from_range-requires g c =
 
 pub returns : goal.returns
 returns g c =
+    let width = g.R.BitRegister.BITS in
+    let at = g.O.BitAt.at_of in
+    let number = g.R.BitRegister.number in
     let slice = c.new_unchecked-bits.result in
     let left = c.copy_from_range.new.self.memory.now in
-    front-lent g.R.BitRegister.BITS g.O.BitAt.at_of g.R.BitRegister.number c.args.len c.args.words.now slice.memory.now left _ (lent_span slice)
-    (λ (xs : List Bool). with_range xs c.args.from (c.args.from + slice_len c.args.source) (slice_bits c.args.source))
+    let from = c.args.from in
+    let theirs = slice_bits c.args.source in
+    let many = c.args.source.many (map g.R2.BitRegister.number (slice_memory c.args.source)) in
+    front-lent width at number c.args.len c.args.words.now slice.memory.now left _ (lent_span slice) (λ (xs : List Bool). with_range xs from (from + slice_len c.args.source) theirs)
     (c.new_unchecked-bits.ensures.span ∙ c.span_of_front-span.ensures.span) c.new_unchecked-bits.ensures.memory (search rules) c.copy_from_range.ensures.bits.3
+    ∙ ap (λ n. with_range (front_of width at number c.args.len c.args.words.now) from (from + n) theirs) (sym many)

@@ -1,7 +1,6 @@
-use Rattle.std.proofs.Common.{◌+◌, ◌∙◌, Bool, List, map, ap, sym, arith}
-use Rattle.bitvec_slice.specs.BitSlice.{slice_memory, slice_len, slice_bits}
-use Rattle.bitvec_slice.specs.Ranges.{with_range}
-use Rattle.bitvec_vec.specs.BitVec.{vec_bits}
+use Rattle.std.proofs.Common.{Bool, List, map, arith}
+use Rattle.bitvec_slice.specs.BitSlice.{slice_memory, slice_bits}
+use Rattle.bitvec_vec.specs.WithList.{with_list}
 use Rattle.bitvec_vec.proofs.FrontLemmas.{length-front}
 use Rattle.bitvec_vec.proofs.VecLemmas.{vec-put}
 use Rattle.bitvec_vec.proofs.vec.bit_vec.BitVec.copy_from_range.Goals as goal
@@ -24,9 +23,7 @@ returns-clause-bits g c =
     let at = g.O.BitAt.at_of in
     let number = g.R.BitRegister.number in
     let vec = c.args.self.now in
-    let many = c.args.source.many (map g.R2.BitRegister.number (slice_memory c.args.source)) in
     let from = c.args.from in
     let theirs = slice_bits c.args.source in
     vec-put width at number vec.len vec.words c.as_mut_slice.result.now c.put_slice.new.words c.as_mut_slice.ensures.value c.as_mut_slice.ensures.len
-    (λ (xs : List Bool). with_range xs from (from + slice_len c.args.source) theirs) c.put_slice.auto.words c.put_slice.ensures
-    ∙ ap (λ n. with_range (vec_bits vec) from (from + n) theirs) (sym many)
+    (λ (xs : List Bool). with_list xs from theirs) c.put_slice.auto.words c.put_slice.ensures
