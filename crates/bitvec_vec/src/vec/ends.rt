@@ -25,6 +25,7 @@ impl<R: BitRegister, O: BitOrder<R>, A: Allocator> BitVec<R, O, A> {
     /// bits.push(true)?;
     /// assert_eq!(rt; bits.get(0), Some(true));
     /// ```
+    #[inline(always)]
     pub fn push(&mut self, bit: bool) -> Result<(), AllocError>
         ensures bits { vec_bits self.new
             ≡ (if is_ok result then vec_bits self.old ++ bit ∷ [] else vec_bits self.old) }
@@ -42,6 +43,7 @@ impl<R: BitRegister, O: BitOrder<R>, A: Allocator> BitVec<R, O, A> {
     }
 
     /// Takes the last bit away and returns it, and `None` where there are no bits. Constant time.
+    #[inline(always)]
     pub fn pop(&mut self) -> Option<bool>
         ensures bits { MatchOption result ((vec_bits self.old ≡ []) × (vec_bits self.new ≡ []))
             (λ bit. vec_bits self.old ≡ vec_bits self.new ++ bit ∷ []) }
