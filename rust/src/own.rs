@@ -36,6 +36,30 @@ pub trait Owned: Exports {
     fn take(words: Vec<Self::Word>) -> Vec<Self>;
 }
 
+/// The number of 64 bits that so many words are: the first has the highest digits, or the lowest.
+macro_rules! number {
+    (u8 of $words:ident, $big:ident) => {
+        if $big {
+            u64::from_be_bytes(*$words)
+        } else {
+            u64::from_le_bytes(*$words)
+        }
+    };
+    ($word:ident of $words:ident, $big:ident) => {{
+        const WIDTH: usize = $word::BITS as usize;
+        #[allow(clippy::cast_lossless)] // (of a `usize` too)
+        let digits = |i: usize| $words[i] as u64;
+        (0..$words.len()).fold(0, |all, i| {
+            let up = if $big {
+                64 - WIDTH * (i + 1)
+            } else {
+                WIDTH * i
+            };
+            all | digits(i) << up
+        })
+    }};
+}
+
 macro_rules! owned {
     ($($word:ident)*) => { $(
         impl Owned for $word {
@@ -52,14 +76,9 @@ macro_rules! owned {
             }
 
             #[inline]
-            #[allow(clippy::cast_lossless)] // (of a `usize` too)
             fn joined(words: &[Self], from: usize, big: bool) -> Option<u64> {
-                const WIDTH: usize = $word::BITS as usize;
-                let words: &[Self; 64 / WIDTH] = words.get(from..)?.first_chunk()?;
-                Some(words.iter().enumerate().fold(0, |digits, (i, word)| {
-                    let up = if big { 64 - WIDTH * (i + 1) } else { WIDTH * i };
-                    digits | (*word as u64) << up
-                }))
+                let words: &[Self; 64 / $word::BITS as usize] = words.get(from..)?.first_chunk()?;
+                Some(number!($word of words, big))
             }
 
             #[cfg(feature = "alloc")]

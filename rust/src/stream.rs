@@ -81,7 +81,7 @@ fn some_at<T: Register, O: Order>(
     Some((bits_at::<T, O>(words, place, more), more))
 }
 
-/// The same, where one word has them with no call.
+/// The same, with no call where they are read at once.
 #[inline]
 fn next_bits<T: Register, O: Order>(
     words: &[T],
@@ -89,7 +89,7 @@ fn next_bits<T: Register, O: Order>(
     left: usize,
     lacking: usize,
 ) -> Option<(u64, usize)> {
-    if T::BITS == 64 {
+    if T::BITS == 64 || T::BITS == 8 {
         if let Some(digits) = whole_at::<T, O>(words, place, left) {
             return Some((digits, 64));
         }
