@@ -1,6 +1,6 @@
 /* A model of the calls in plain C: loops over two functions, of which one reads a bit and one puts it. fuzz.c compares the
- * archive with it, and `proved/check` proves some of it by the contracts of bitvec_acsl.h: for Frama-C each function here
- * is the call of its name, so that its contract is that of the call. */
+ * archive with it, and `proved/check` proves it by the contracts of bitvec_acsl.h, all but the calls of Exp-Golomb codes: for
+ * Frama-C each function here is the call of its name, so that its contract is that of the call. */
 #ifndef MODEL_BITS
 #ifndef BITVEC_MODEL_H
 #define BITVEC_MODEL_H
