@@ -1,9 +1,13 @@
-//! The examples: packet headers, parameters of H.264 streams, pages and keys, and recipes of the
-//! README and the guide.
+//! The examples: packet headers, parameters of H.264 streams, pages and keys, codes, cells, and
+//! recipes of the README and the guide.
 #![tactic(auto)]
 
 #[cfg(test)]
 mod bloom;
+#[cfg(test)]
+mod huffman;
+#[cfg(test)]
+mod life;
 #[cfg(test)]
 mod numbers;
 #[cfg(test)]
