@@ -7,8 +7,9 @@
 #![deny(missing_docs)]
 #![forbid(unsafe_code)]
 
-#[cfg(not(target_pointer_width = "64"))]
-compile_error!("the library is proved for a usize of 64 bits");
+// (proved for a `usize` of 64 bits; with one of 32 it is built, and nothing more is known)
+#[cfg(not(any(target_pointer_width = "64", target_pointer_width = "32")))]
+compile_error!("a usize has 64 bits here, as the library is proved for, or 32");
 
 #[cfg(test)]
 extern crate std;

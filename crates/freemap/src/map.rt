@@ -19,7 +19,7 @@ use bitvec_slice::slice::{BitSlice, BitSliceMut};
 use std::marker::PhantomData;
 
 // The most bits that a span can have.
-const MOST: usize = 2305843009213693951;
+const MOST: usize = usize::MAX >> 3;
 
 /// How many words a map of `blocks` blocks takes, with a bit for each block. Constant time.
 pub fn words_for(blocks: usize) -> usize
