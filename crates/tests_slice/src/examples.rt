@@ -112,6 +112,26 @@ fn an_iterator_over_stretches_of_ones(rt: HostRuntime) -> Result<(), Fail> {
 }
 
 #[test]
+fn windows_passed_over(rt: HostRuntime) {
+    let memory = [0x2Cu8];
+    let mut windows = BitSlice::<u8, Lsb0>::all_unchecked(&memory).windows(3);
+    assert_eq!(rt; windows.nth(2).unwrap().count_ones(), 2);
+    assert_eq!(rt; windows.len(), 3);
+    assert!(rt; windows.nth(3).is_none());
+    assert_eq!(rt; windows.len(), 0);
+}
+
+#[test]
+fn windows_passed_over_from_the_back(rt: HostRuntime) {
+    let memory = [0x2Cu8];
+    let mut windows = BitSlice::<u8, Lsb0>::all_unchecked(&memory).windows(3);
+    assert_eq!(rt; windows.nth_back(2).unwrap().first_one(), Some(0));
+    assert_eq!(rt; windows.len(), 3);
+    assert!(rt; windows.nth_back(3).is_none());
+    assert_eq!(rt; windows.len(), 0);
+}
+
+#[test]
 fn the_windows_of_a_slice(rt: HostRuntime) -> Result<(), Fail> {
     let memory = [0x0Bu8];
     let span: BitSpan<u8, Lsb0> = BitSpan::new(0, BitIdx::new_unchecked(0), 4).unwrap();
