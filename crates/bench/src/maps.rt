@@ -1,7 +1,7 @@
 //! Blocks that maps of 1048576 blocks, or of as many as the memories have bits as they grow, hand
 //! out and take back, beside a list of truth values.
 
-ghost use Rattle.std.specs.Prelude.{⊤};
+ghost use Rattle.std.specs.Prelude.{⊤, ◌≤◌};
 
 use crate::timer::{Job, Mode, Name, tell, time};
 use bitvec::order::Lsb0;
