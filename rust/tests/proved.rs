@@ -18,7 +18,10 @@ fn prints<E: Ended>(name: &str, program: fn() -> E) {
         .join("crates")
         .join(name);
     let read = |file: &str| fs::read_to_string(crates.join(file)).unwrap_or_default();
-    let args = read("args").lines().map(|it| it.as_bytes().to_vec()).collect();
+    let args = read("args")
+        .lines()
+        .map(|it| it.as_bytes().to_vec())
+        .collect();
     let (world, status) = run(
         World {
             args,
@@ -71,11 +74,20 @@ programs!(
 /// Words of which one is no text end each program that reads words in the same way.
 #[test]
 fn words_that_are_no_text_are_told() {
-    let programs: [fn() -> proved::shim::process::ExitCode; 3] =
-        [proved::bits::main, proved::freemap_cli::main, proved::example_sps_cli::main];
+    let programs: [fn() -> proved::shim::process::ExitCode; 3] = [
+        proved::bits::main,
+        proved::freemap_cli::main,
+        proved::example_sps_cli::main,
+    ];
     for program in programs {
         for args in [vec![vec![0xff]], vec![b"64".to_vec(), vec![b'a', 0xc3]]] {
-            let (world, status) = run(World { args, ..World::default() }, program);
+            let (world, status) = run(
+                World {
+                    args,
+                    ..World::default()
+                },
+                program,
+            );
             assert_eq!(world.printed, b"an argument is not text in UTF-8\n");
             assert_eq!(status, 3);
         }

@@ -103,7 +103,10 @@ pub mod env {
     /// The program's name, and its words. As in Rattle, one that is not UTF-8 is an error.
     pub fn args<R>(_: &R) -> std::io::Result<impl Iterator<Item = String>> {
         let words = super::WORLD.with_borrow(|world| world.args.clone());
-        let words: Result<Vec<_>, _> = words.into_iter().map(std::string::String::from_utf8).collect();
+        let words: Result<Vec<_>, _> = words
+            .into_iter()
+            .map(std::string::String::from_utf8)
+            .collect();
         let words = words.map_err(|_| std::io::ErrorKind::InvalidData)?;
         Ok(["program".to_owned()]
             .into_iter()
