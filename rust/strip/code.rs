@@ -36,6 +36,7 @@ impl Strip<'_> {
         while self.text(i) != "fn" {
             match self.text(i) {
                 "unsafe" => self.cut(i, i + 1),
+                "final" if home == Home::Members => self.cut(i, i + 1),
                 "extern" | "\"C\"" if lead.is_export => self.cut(i, i + 1),
                 "const" => {}
                 _ => return self.fault(i, "a function that is not known"),

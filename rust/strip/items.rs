@@ -75,6 +75,7 @@ impl<'a> Strip<'a> {
                 self.implementation(start, i + 1)?
             }
             "fn" | "unsafe" => self.function(&lead, home)?,
+            "final" if home == Home::Members => self.function(&lead, home)?,
             "extern" if lead.is_export => self.function(&lead, home)?,
             "const" if matches!(self.text(i + 1), "fn" | "unsafe") => self.function(&lead, home)?,
             "mod" => self.module(i)?,

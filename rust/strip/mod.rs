@@ -18,6 +18,7 @@
 //! | `ghost` members of traits and of their implementations | terms for the proofs |
 //! | `#[tactic(..)]`, `#![tactic(..)]` | says how proofs are sought |
 //! | `impl Model for ..` of ghosts alone | says what a contract sees of a type |
+//! | `final` before a function of a trait | no implementation has another body: what rustc calls is the one of the trait |
 //! | `Drop` among derives and bounds | leave to drop a value, which every type of Rust gives |
 //! | `impl Drop for ..` that only takes `self` apart, each part by `_` | ends loans that proofs follow: Rust drops each part so too |
 //! | `#[unsafe(no_mangle)]` and `extern "C"` of a function | how callers in C reach it: `rust/c` writes for each what they call, which calls it |

@@ -85,6 +85,10 @@ fn clauses_of_functions_go() {
         "fn f(x: &mut u8) {}",
     );
     becomes(
+        "trait A { final fn f() -> u8 ensures { r } { 1 } }",
+        "trait A { fn f() -> u8 { 1 } }",
+    );
+    becomes(
         "trait A { fn f() -> u8 ensures { let r = result in { r } }; fn g(); }",
         "trait A { fn f() -> u8 ; fn g(); }",
     );

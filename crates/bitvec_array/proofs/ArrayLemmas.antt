@@ -41,3 +41,7 @@ module _ (at : ℕ → ℕ) (n : ℕ) (span : Span) (is : span ≡ front_span (a
       ap (bits_in at n) back
       ∙ bits-edited lent left f edit
       ∙ ap (λ (ws : List ℕ). f (bits_in at n ws)) out
+
+  -- what the span has in words that come back
+  pub bits-left : (left new : List ℕ) → new ≡ left → bits_in at n new ≡ list_of 64 at span (map (λ (w : ℕ). w) left)
+  bits-left left new back = sym (bits-shown new left (sym back))

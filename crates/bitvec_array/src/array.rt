@@ -3,6 +3,7 @@
 mod bit_array;
 mod edit;
 mod equal;
+mod moves;
 mod operators;
 mod readers;
 mod text;

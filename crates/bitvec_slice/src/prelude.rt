@@ -6,7 +6,7 @@
 pub use crate::field::{Sequential, SignedNumber};
 pub use crate::slice::{
     BitSlice, BitSliceMut, Chunks, ChunksExact, Iter, IterOnes, IterRuns, IterZeros, RChunks,
-    TextError, Windows,
+    ReadBits, TextError, Windows,
 };
 pub use bitvec::prelude::{
     And, AndNot, BitAt, BitDomain, BitDomainMut, BitElement, BitEnd, BitIdx, BitIdxError, BitMask,

@@ -33,6 +33,7 @@ pub use self::bit_slice_mut::BitSliceMut;
 pub use self::chunks::{Chunks, ChunksExact, RChunks};
 pub use self::iter::Iter;
 pub use self::ones::{IterOnes, IterZeros};
+pub use self::readers::ReadBits;
 pub use self::runs::IterRuns;
 pub use self::text::TextError;
 pub use self::windows::Windows;

@@ -8,6 +8,6 @@ pub use bitvec_slice::prelude::{
     BitOrder, BitPos, BitPtr, BitPtrRange, BitRegister, BitSel, BitSlice, BitSliceMut, BitSpan,
     BitSpanError, BitWords, BitWordsMut, Chunks, ChunksExact, Combine, Command, Dangling, Domain,
     DomainMut, EmptyRange, Iter, IterOnes, IterRuns, IterZeros, Limits, LocalBits, Lsb0,
-    MaskLimits, Msb0, Or, OrderCandidate, PartialElement, PartialElementMut, RChunks, Reply,
-    Request, Sequential, SignedNumber, SpanLimits, TextError, Windows, Xor,
+    MaskLimits, Msb0, Or, OrderCandidate, PartialElement, PartialElementMut, RChunks, ReadBits,
+    Reply, Request, Sequential, SignedNumber, SpanLimits, TextError, Windows, Xor,
 };

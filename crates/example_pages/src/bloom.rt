@@ -9,7 +9,7 @@ ghost use Rattle.bitvec.specs.Truths.{ones_in};
 ghost use Rattle.bitvec_slice.specs.BitSliceMut.{lent_bits};
 ghost use Rattle.example_pages.specs.Keys.{probe_of, HasKey, IsProbe};
 
-use bitvec_slice::prelude::{BitOrder, BitRegister, BitSliceMut};
+use bitvec_slice::prelude::{BitOrder, BitRegister, BitSliceMut, ReadBits};
 
 // How many bits each key has.
 const PROBES: usize = 4;

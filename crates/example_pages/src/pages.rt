@@ -10,7 +10,7 @@ ghost use Rattle.bitvec_slice.specs.Bits.{AreFree, IsFirstFree};
 ghost use Rattle.bitvec_slice.specs.Ranges.{KeepsBeside};
 ghost use Rattle.bitvec_slice.specs.Whole.{IsFront};
 
-use bitvec_slice::prelude::{BitOrder, BitRegister, BitSliceMut};
+use bitvec_slice::prelude::{BitOrder, BitRegister, BitSliceMut, ReadBits};
 
 /// The pages of a store, each free or in use.
 #[derive(Drop)]

@@ -9,6 +9,7 @@ ghost use Rattle.bitvec_vec.specs.BitVec.{vec_bits};
 ghost use Rattle.example_primes.specs.Primes.{IsPrime, IsSetOf};
 
 use bitvec::order::Lsb0;
+use bitvec_slice::slice::ReadBits;
 use bitvec_vec::vec::BitVec;
 use std::alloc::{AllocError, Global};
 

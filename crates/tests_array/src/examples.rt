@@ -64,3 +64,28 @@ fn operators(rt: HostRuntime) -> Result<(), Fail> {
     assert_eq!(rt; (!low).get(2), Some(true));
     Ok(())
 }
+
+#[test]
+fn an_array_reversed(rt: HostRuntime) -> Result<(), Fail> {
+    let mut bits: BitArray<Msb0, 1> = BitArray::from_words([0b1011]);
+    bits.reverse();
+    assert_eq!(rt; bits.into_words(), [0b1101 << 60]);
+    Ok(())
+}
+
+#[test]
+fn an_array_rotated(rt: HostRuntime) -> Result<(), Fail> {
+    let mut bits: BitArray<Lsb0, 1> = BitArray::from_words([0b1011]);
+    bits.rotate_right(60);
+    assert_eq!(rt; bits.into_words(), [0b1011 << 60]);
+    Ok(())
+}
+
+#[test]
+fn a_number_in_an_array(rt: HostRuntime) -> Result<(), Fail> {
+    let mut bits: BitArray<Lsb0, 1> = BitArray::zeros();
+    bits.store_digits_le(4, 9, 43u32);
+    assert_eq!(rt; bits.load_digits_le::<u8>(4, 9), 11);
+    assert_eq!(rt; bits.into_words(), [11 << 4]);
+    Ok(())
+}

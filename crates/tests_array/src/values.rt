@@ -2,6 +2,7 @@
 
 use bitvec::order::{Lsb0, Msb0};
 use bitvec_array::array::{BitArray, ZeroArray};
+use bitvec_slice::slice::ReadBits;
 use std::cmp::Ordering;
 use std::test::Fail;
 

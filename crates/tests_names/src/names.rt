@@ -59,7 +59,7 @@ pub type Iterators<'a, R, O> = (
     slice::RChunks<'a, R, O>,
 );
 
-/// Takes types with the traits of registers, orders, numbers and operators.
+/// Takes types with the traits of registers, orders, numbers, operators and holders of bits.
 pub fn have_traits<
     R: mem::BitRegister,
     A: order::BitAt<R>,
@@ -68,4 +68,5 @@ pub fn have_traits<
     D: field::Sequential<R>,
     N: field::SignedNumber,
     F: ptr::combine::Combine,
+    H: slice::ReadBits<R, C>,
 >() {}

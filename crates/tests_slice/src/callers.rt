@@ -8,9 +8,10 @@ ghost use Rattle.bitvec.specs.Place.{region_max_bits};
 ghost use Rattle.bitvec.specs.Span.{Fits, KeepsOthers, element, span_from};
 ghost use Rattle.bitvec.specs.Commands.{reply_number};
 ghost use Rattle.bitvec.specs.Run.{IsRun};
+ghost use Rattle.bitvec.specs.Truths.{ones_in};
 ghost use Rattle.bitvec.specs.declared.run.command.Command.TheVariants.{Replace};
 ghost use Rattle.bitvec.specs.declared.run.command.Reply.TheVariants.{Bit};
-ghost use Rattle.bitvec_slice.specs.BitSlice.{slice_memory, slice_span};
+ghost use Rattle.bitvec_slice.specs.BitSlice.{slice_memory, slice_span, slice_bits};
 ghost use Rattle.bitvec_slice.specs.BitSliceMut.{lent_memory, lent_span, lent_bits};
 ghost use Rattle.bitvec_slice.specs.Orders.{lsb0_at, msb0_at};
 
@@ -18,7 +19,7 @@ use bitvec::mem::BitRegister;
 use bitvec::order::{BitOrder, Lsb0, Msb0};
 use bitvec::ptr::span::BitSpan;
 use bitvec::run::{Reply, Request, run};
-use bitvec_slice::slice::{BitSlice, BitSliceMut};
+use bitvec_slice::slice::{BitSlice, BitSliceMut, ReadBits};
 
 /// Two bits.
 fn set_two<R: BitRegister, O: BitOrder<R>>(span: BitSpan<R, O>, memory: &mut [R]) -> bool
@@ -112,6 +113,24 @@ fn set_and_run<R: BitRegister, O: BitOrder<R>>(
     let mut slice = BitSliceMut::new_unchecked(span, memory);
     slice.set(i, bit);
     run(&[span], memory, requests, replies);
+}
+
+/// How many bits are one in whatever holds bits.
+fn ones_of<R: BitRegister, O: BitOrder<R>, B: ReadBits<R, O>>(holder: &B) -> usize
+    ensures { result ≡ ones_in (B.bits holder.now) }
+{
+    holder.count_ones()
+}
+
+/// How many bits are one in a slice for reading, and in one for writing.
+fn ones_of_both<R: BitRegister, O: BitOrder<R>>(
+    read: &BitSlice<'_, R, O>,
+    lent: &BitSliceMut<'_, R, O>,
+) -> (usize, usize)
+    ensures read { result.0 ≡ ones_in (slice_bits read.now) }
+    ensures lent { result.1 ≡ ones_in (lent_bits lent.now) }
+{
+    (ones_of(read), lent.count_ones())
 }
 
 #[cfg(test)]

@@ -5,7 +5,7 @@ use bitvec::order::{Lsb0, Msb0};
 use bitvec::ptr::combine::{Or, Xor};
 use bitvec::ptr::span::BitSpan;
 use bitvec_slice::field::low_digits;
-use bitvec_slice::slice::{BitSlice, BitSliceMut};
+use bitvec_slice::slice::{BitSlice, BitSliceMut, ReadBits};
 use std::cmp::Ordering;
 use std::test::Fail;
 

@@ -6,6 +6,7 @@
 ghost use Rattle.std.specs.Prelude.{◌≡◌, ◌-◌, ◌<◌, ◌≤◌, ◌&&◌, ◌||◌, ◌%◌, ℕ, ℤ, not, false};
 ghost use Rattle.std.specs.Prelude.{length, take, IfErr};
 ghost use Rattle.bitvec.specs.Digit.{digit, exclusive_or};
+ghost use Rattle.bitvec.specs.Truths.{ones_in};
 ghost use Rattle.bitvec_slice.specs.BitSlice.{slice_memory, slice_span, slice_len, slice_bits};
 ghost use Rattle.bitvec_slice.specs.BitSliceMut.{lent_span, lent_len, lent_bits};
 ghost use Rattle.bitvec_slice.specs.Bits.{ones_between, zeros_between};
@@ -148,6 +149,12 @@ fn lent_slice<'a, R: BitRegister, O: BitOrder<R>>(
     ensures bits { lent_bits result ≡ lent_bits slice.entry }
 {
     slice
+}
+
+fn ones_of_loan<R: BitRegister, O: BitOrder<R>>(slice: &BitSliceMut<'_, R, O>) -> usize
+    ensures { result ≡ ones_in (lent_bits slice.now) }
+{
+    slice.count_ones()
 }
 
 fn refusal<'a, R: BitRegister, O: BitOrder<R>>(

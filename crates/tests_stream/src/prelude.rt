@@ -221,6 +221,7 @@ fn traits<
     D: Sequential<R>,
     N: SignedNumber,
     F: Combine,
+    H: ReadBits<R, C>,
 >() {
-    have_traits::<R, A, B, C, D, N, F>()
+    have_traits::<R, A, B, C, D, N, F, H>()
 }

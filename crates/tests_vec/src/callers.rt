@@ -6,12 +6,14 @@ ghost use Rattle.std.specs.Prelude.{IfOk, OnErr, Some, is_ok, not, length, map, 
 ghost use Rattle.std.specs.Prelude.{true, false, replicate, reverse, slice_set};
 ghost use Rattle.std.specs.List.{insert, filter};
 ghost use Rattle.bitvec.specs.Memory.{zip_with};
+ghost use Rattle.bitvec.specs.Truths.{ones_in};
 ghost use Rattle.bitvec_slice.specs.Field.{field_number};
 ghost use Rattle.bitvec_vec.specs.BitVec.{vec_bits};
 
 use bitvec::mem::BitRegister;
 use bitvec::order::BitOrder;
 use bitvec_slice::field::Sequential;
+use bitvec_slice::slice::ReadBits;
 use bitvec_vec::vec::BitVec;
 use std::alloc::{AllocError, Allocator};
 
@@ -138,4 +140,11 @@ pub fn number_of<R: BitRegister, O: Sequential<R>, A: Allocator>(bits: &BitVec<R
     ensures { result ≡ field_number true R.BITS O.RISES 0 (vec_bits bits.now) }
 {
     bits.as_bitslice().load_be()
+}
+
+/// How many bits of a vector are one.
+pub fn ones_of<R: BitRegister, O: BitOrder<R>, A: Allocator>(bits: &BitVec<R, O, A>) -> usize
+    ensures { result ≡ ones_in (vec_bits bits.now) }
+{
+    bits.count_ones()
 }

@@ -3,7 +3,7 @@
 use bitvec::order::{Lsb0, Msb0};
 use bitvec::ptr::combine::AndNot;
 use bitvec::ptr::span::BitSpan;
-use bitvec_slice::slice::BitSlice;
+use bitvec_slice::slice::{BitSlice, ReadBits};
 use bitvec_vec::vec::{BitVec, FromTextError};
 use std::test::Fail;
 

@@ -3,6 +3,7 @@
 
 use bitvec::mem::BitRegister;
 use bitvec::order::{BitOrder, Lsb0, Msb0};
+use bitvec_slice::slice::ReadBits;
 use bitvec_vec::vec::{BitVec, FromTextError};
 use std::alloc::{AllocError, Allocator, Global};
 use std::process::Abort;

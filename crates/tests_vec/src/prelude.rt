@@ -166,8 +166,9 @@ fn traits<
     D: Sequential<R>,
     N: SignedNumber,
     F: Combine,
+    H: ReadBits<R, C>,
 >() {
-    have_traits::<R, A, B, C, D, N, F>()
+    have_traits::<R, A, B, C, D, N, F, H>()
 }
 
 // The traits of constants are those by which the constants are read.

@@ -3,11 +3,13 @@
 ghost use Rattle.std.specs.Prelude.{◌≡◌, ◌<◌, ◌↔◌, IsTrue, IsOk, IfOk, IfErr, length};
 ghost use Rattle.std.specs.Prelude.{slice_get, slice_set};
 ghost use Rattle.bitvec.specs.BitSpan.{span_of};
-ghost use Rattle.std.specs.Prelude.{pos, ◌≤◌, ◌+ℤ◌, ◌≤ℤ◌};
+ghost use Rattle.std.specs.Prelude.{pos, ◌+◌, ◌≤◌, ◌+ℤ◌, ◌≤ℤ◌};
 ghost use Rattle.std.specs.Int.{int_div_euclid};
 ghost use Rattle.bitvec.specs.Place.{place_at, region_max_bits, greatest_isize};
 ghost use Rattle.bitvec.specs.Span.{Fits, element};
+ghost use Rattle.bitvec_slice.specs.Bits.{AllBetween};
 ghost use Rattle.bitvec_slice.specs.Lengths.{HasLength};
+ghost use Rattle.bitvec_slice.specs.Ranges.{KeepsBeside};
 
 use crate::slice::BitSlice;
 use bitvec::index::BitIdx;
@@ -170,7 +172,9 @@ impl<'a, R: BitRegister, O: BitOrder<R>> BitSliceMut<'a, R, O> {
     #[inline(always)]
     pub fn set(&mut self, i: usize, bit: bool)
         requires { i < lent_len self.old }
-        ensures { BecomesBits self.old self.new (slice_set (lent_bits self.old) i bit) }
+        ensures bits { BecomesBits self.old self.new (slice_set (lent_bits self.old) i bit) }
+        ensures filled { AllBetween bit (lent_bits self.new) i (i + 1) }
+        ensures beside { KeepsBeside i (i + 1) (lent_bits self.old) (lent_bits self.new) }
     {
         let span = self.span();
         let memory = &mut *self.memory;

@@ -25,6 +25,8 @@ impl<'a, R: BitRegister, O: BitOrder<R>> BitSliceMut<'a, R, O> {
         requires { i < lent_len self.old }
         ensures previous { result ≡ element (lent_bits self.old) i }
         ensures bits { BecomesBits self.old self.new (slice_set (lent_bits self.old) i bit) }
+        ensures filled { AllBetween bit (lent_bits self.new) i (i + 1) }
+        ensures beside { KeepsBeside i (i + 1) (lent_bits self.old) (lent_bits self.new) }
     {
         let span = self.span();
         let memory = &mut *self.memory;

@@ -6,8 +6,8 @@ use Rattle.bitvec_slice.specs.BitSliceMut.{lent_span, lent_words}
 use Rattle.bitvec_slice.proofs.SpanEdits.{edit-named}
 use Rattle.bitvec_slice.proofs.slice.bit_slice_mut.BitSliceMut.set.Goals as goal
 
-pub returns : goal.returns
-returns g c =
+pub returns-clause-bits : goal.returns-clause-bits
+returns-clause-bits g c =
     let width = g.R.BitRegister.BITS in
     let at = g.O.BitAt.at_of in
     let number = g.R.BitRegister.number in
