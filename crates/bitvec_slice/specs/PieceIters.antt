@@ -1,8 +1,8 @@
 -- What the iterators over a slice's pieces show.
-use Rattle.std.specs.Prelude.{◌≡◌, ℕ, Bool, List, Option, MatchOption}
+use Rattle.std.specs.Prelude.{◌≡◌, ℕ, ◌-◌, min, Bool, List, Option, MatchOption}
 use Rattle.bitvec.specs.Span.{span_range}
 use Rattle.bitvec_slice.specs.BitSlice.{slice_memory, slice_span, slice_len, slice_bits}
-use Rattle.bitvec_slice.specs.Pieces.{windows_of, chunks_of, rchunks_of}
+use Rattle.bitvec_slice.specs.Pieces.{windows_of, chunks_of, rchunks_of, last_start}
 use Rattle.bitvec_slice.specs.declared.slice.bit_slice.BitSlice.{BitSlice}
 use Rattle.bitvec_slice.specs.declared.slice.chunks.Chunks.{Chunks}
 use Rattle.bitvec_slice.specs.declared.slice.chunks.ChunksExact.{ChunksExact}
@@ -69,3 +69,15 @@ TakesFirst slice to next taken rest = MatchOption taken (rest ≡ slice) (λ pie
 -- bit `end`, where they lie. Where it took none, the rest is the slice.
 abbrev pub TakesLast : {R O : Type 0} {a b c d e f g h i : _} → BitSlice R O a b c d e f g h i → ℕ → ℕ → Option (BitSlice R O a b c d e f g h i) → BitSlice R O a b c d e f g h i → Type 0
 TakesLast slice from end taken rest = MatchOption taken (rest ≡ slice) (λ piece. IsRangeOf slice from (slice_len slice) piece × IsRangeOf slice 0 end rest)
+
+-- a call took the first piece of `size` bits, or of what is left, off the front of a slice, or none
+abbrev pub TakesFirstPiece : {R O : Type 0} {a b c d e f g h i : _} → BitSlice R O a b c d e f g h i → ℕ → Option (BitSlice R O a b c d e f g h i) → BitSlice R O a b c d e f g h i → Type 0
+TakesFirstPiece slice size taken rest = let cut = min size (slice_len slice) in TakesFirst slice cut cut taken rest
+
+-- a call took the last of the pieces off the back, where they have `size` bits from the front on, or none
+abbrev pub TakesLastPiece : {R O : Type 0} {a b c d e f g h i : _} → BitSlice R O a b c d e f g h i → ℕ → Option (BitSlice R O a b c d e f g h i) → BitSlice R O a b c d e f g h i → Type 0
+TakesLastPiece slice size taken rest = let cut = last_start size (slice_len slice) in TakesLast slice cut cut taken rest
+
+-- a call took the last of the pieces off the front, where they have `size` bits from the back on, or none
+abbrev pub TakesLastRPiece : {R O : Type 0} {a b c d e f g h i : _} → BitSlice R O a b c d e f g h i → ℕ → Option (BitSlice R O a b c d e f g h i) → BitSlice R O a b c d e f g h i → Type 0
+TakesLastRPiece slice size taken rest = let cut = slice_len slice - last_start size (slice_len slice) in TakesFirst slice cut cut taken rest

@@ -17,9 +17,9 @@ use std::alloc::{AllocError, Global};
 fn take_multiples(set: &mut BitVec<u64, Lsb0>, number: usize)
     requires { 1 < number }
     ensures len { length (vec_bits set.new) ≡ length (vec_bits set.old) }
-    ensures out { (n : ℕ) → n < length (vec_bits set.old)
-        → (element (vec_bits set.new) n ≡ true) ↔ ((element (vec_bits set.old) n ≡ true)
-        × (¬ ((number < n) × (n % number ≡ 0)))) }
+    ensures out { let old = vec_bits set.old in (n : ℕ) → n < length old
+        → (element (vec_bits set.new) n ≡ true)
+        ↔ ((element old n ≡ true) × (¬ ((number < n) × (n % number ≡ 0)))) }
 {
     let len = set.len();
     for times in 2..len / number + 1 {

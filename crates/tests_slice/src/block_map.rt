@@ -1,6 +1,6 @@
 //! A map of blocks, a bit each, in words that its user lends: set where a block is in use.
 
-ghost use Rattle.std.specs.Prelude.{◌≡◌, ℕ, ◌+◌, ◌*◌, ◌≤◌, true, false, IfSome, MatchOption};
+ghost use Rattle.std.specs.Prelude.{◌≡◌, ℕ, ◌+◌, ◌*◌, ◌≤◌, true, false, IfSome, IfNone, MatchOption};
 ghost use Rattle.std.specs.Prelude.{length, replicate};
 ghost use Rattle.bitvec.specs.Memory.{memory_bits};
 ghost use Rattle.bitvec.specs.Place.{region_max_bits};
@@ -34,8 +34,9 @@ fn alloc_run<R: BitRegister, O: BitOrder<R>>(words: &mut [R], count: usize) -> O
     ensures none { let used = used_blocks R.number R.BITS O.at_of words.old in MatchOption result
         ((at : ℕ) → ¬ AreFree used at count) (λ at. AreFree used at count) }
     ensures fits { IfSome result (λ at. at + count ≤ length words.old * R.BITS) }
-    ensures taken { let used = used_blocks R.number R.BITS O.at_of in MatchOption result (words.new
-        ≡ words.old) (λ at. used words.new ≡ with_filled (used words.old) at (at + count) true) }
+    ensures kept { IfNone result (words.new ≡ words.old) }
+    ensures taken { let used = used_blocks R.number R.BITS O.at_of in IfSome result (λ at. used
+        words.new ≡ with_filled (used words.old) at (at + count) true) }
 {
     let Some(at) = BitSlice::<R, O>::all_unchecked(words).find_zeros(count) else {
         return None;

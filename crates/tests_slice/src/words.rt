@@ -1,7 +1,7 @@
 //! Whole words of slices: asked for, read and put.
 
 ghost use Rattle.std.specs.Prelude.{◌≡◌, ℕ, ◌+◌, ◌/◌, ◌%◌, ◌<◌, ◌↔◌, not};
-ghost use Rattle.std.specs.Prelude.{IsTrue, IsFalse, MatchOption};
+ghost use Rattle.std.specs.Prelude.{IsTrue, IsFalse, IsSome, IfSome};
 ghost use Rattle.bitvec.specs.Digit.{digit};
 ghost use Rattle.bitvec.specs.Span.{element};
 ghost use Rattle.bitvec_slice.specs.BitSlice.{slice_span, slice_bits};
@@ -29,8 +29,9 @@ fn clear_word<R: BitRegister, O: BitOrder<R>>(bits: &mut BitSliceMut<'_, R, O>, 
 
 /// A word, where a slice has it whole.
 fn word_of<R: BitRegister, O: BitOrder<R>>(bits: BitSlice<'_, R, O>, k: usize) -> Option<R>
-    ensures { MatchOption result (¬ HasWord R.BITS (slice_span bits.entry) k) (λ word. HasElements
-        R.BITS O.at_of (slice_span bits.entry) k (R.number word) (element (slice_bits bits.entry))) }
+    ensures whole { IsSome result ↔ HasWord R.BITS (slice_span bits.entry) k }
+    ensures word { IfSome result (λ word. HasElements R.BITS O.at_of (slice_span bits.entry) k
+        (R.number word) (element (slice_bits bits.entry))) }
 {
     if bits.has_word(k) {
         Some(bits.whole_word(k))

@@ -6,7 +6,7 @@ ghost use Rattle.std.specs.Iterator.{MakesProgress};
 ghost use Rattle.std.specs.Iterator.SizeHint.{IsWithinCount};
 ghost use Rattle.std.specs.Slice.Iter.{chunk_count};
 ghost use Rattle.bitvec_slice.specs.BitSlice.{slice_len, slice_bits};
-ghost use Rattle.bitvec_slice.specs.Pieces.{chunks_of, rchunks_of, last_start};
+ghost use Rattle.bitvec_slice.specs.Pieces.{chunks_of, rchunks_of};
 
 use crate::slice::BitSlice;
 use bitvec::mem::BitRegister;
@@ -214,7 +214,7 @@ impl<'a, R: BitRegister, O: BitOrder<R>> Iterator for Chunks<'a, R, O> {
     type Item = BitSlice<'a, R, O>;
 
     ghost use Rattle.bitvec_slice.specs.PieceIters.{chunks_left, chunks_rest, chunks_size};
-    ghost use Rattle.bitvec_slice.specs.PieceIters.{TakesFirst};
+    ghost use Rattle.bitvec_slice.specs.PieceIters.{TakesFirstPiece};
 
     ghost next_gives = { YieldsFirstBy slice_bits chunks_left };
 
@@ -227,9 +227,8 @@ impl<'a, R: BitRegister, O: BitOrder<R>> Iterator for Chunks<'a, R, O> {
             self.old result self.new }
 
         // The piece is the first bits of what is left, and then those behind it are left.
-        ensures place { let left = chunks_rest self.old
-            in let cut = min (chunks_size self.old) (slice_len left)
-            in TakesFirst left cut cut result (chunks_rest self.new) }
+        ensures place { TakesFirstPiece (chunks_rest self.old) (chunks_size self.old) result
+            (chunks_rest self.new) }
         ensures size { chunks_size self.new ≡ chunks_size self.old }
     {
         let len = self.rest.len();
@@ -253,7 +252,7 @@ impl<'a, R: BitRegister, O: BitOrder<R>> Iterator for Chunks<'a, R, O> {
 
 impl<'a, R: BitRegister, O: BitOrder<R>> DoubleEndedIterator for Chunks<'a, R, O> {
     ghost use Rattle.bitvec_slice.specs.PieceIters.{chunks_left, chunks_rest, chunks_size};
-    ghost use Rattle.bitvec_slice.specs.PieceIters.{TakesLast};
+    ghost use Rattle.bitvec_slice.specs.PieceIters.{TakesLastPiece};
 
     ghost next_back_gives = { YieldsLastBy slice_bits chunks_left };
 
@@ -264,9 +263,8 @@ impl<'a, R: BitRegister, O: BitOrder<R>> DoubleEndedIterator for Chunks<'a, R, O
             self.old result self.new }
 
         // The piece is the last bits of what is left, and then those before it are left.
-        ensures place { let left = chunks_rest self.old
-            in let cut = last_start (chunks_size self.old) (slice_len left)
-            in TakesLast left cut cut result (chunks_rest self.new) }
+        ensures place { TakesLastPiece (chunks_rest self.old) (chunks_size self.old) result
+            (chunks_rest self.new) }
         ensures size { chunks_size self.new ≡ chunks_size self.old }
     {
         let len = self.rest.len();
@@ -331,7 +329,7 @@ impl<'a, R: BitRegister, O: BitOrder<R>> Iterator for RChunks<'a, R, O> {
 
 impl<'a, R: BitRegister, O: BitOrder<R>> DoubleEndedIterator for RChunks<'a, R, O> {
     ghost use Rattle.bitvec_slice.specs.PieceIters.{rchunks_left, rchunks_rest, rchunks_size};
-    ghost use Rattle.bitvec_slice.specs.PieceIters.{TakesFirst};
+    ghost use Rattle.bitvec_slice.specs.PieceIters.{TakesLastRPiece};
 
     ghost next_back_gives = { YieldsLastBy slice_bits rchunks_left };
 
@@ -342,9 +340,8 @@ impl<'a, R: BitRegister, O: BitOrder<R>> DoubleEndedIterator for RChunks<'a, R, 
             self.old result self.new }
 
         // The piece is the first bits of what is left, and then those behind it are left.
-        ensures place { let left = rchunks_rest self.old in let len = slice_len left
-            in let cut = len - last_start (rchunks_size self.old) len
-            in TakesFirst left cut cut result (rchunks_rest self.new) }
+        ensures place { TakesLastRPiece (rchunks_rest self.old) (rchunks_size self.old) result
+            (rchunks_rest self.new) }
         ensures size { rchunks_size self.new ≡ rchunks_size self.old }
     {
         let len = self.rest.len();
@@ -371,7 +368,7 @@ impl<'a, R: BitRegister, O: BitOrder<R>> Iterator for ChunksExact<'a, R, O> {
 
     ghost use Rattle.bitvec_slice.specs.PieceIters.{chunks_exact_left, chunks_exact_rest};
     ghost use Rattle.bitvec_slice.specs.PieceIters.{chunks_exact_size, remainder_of};
-    ghost use Rattle.bitvec_slice.specs.PieceIters.{TakesFirst};
+    ghost use Rattle.bitvec_slice.specs.PieceIters.{TakesFirstPiece};
 
     ghost next_gives = { YieldsFirstBy slice_bits chunks_exact_left };
 
@@ -384,9 +381,8 @@ impl<'a, R: BitRegister, O: BitOrder<R>> Iterator for ChunksExact<'a, R, O> {
             self.old result self.new }
 
         // The piece is the first bits of what is left, and then those behind it are left.
-        ensures place { let left = chunks_exact_rest self.old
-            in let cut = min (chunks_exact_size self.old) (slice_len left)
-            in TakesFirst left cut cut result (chunks_exact_rest self.new) }
+        ensures place { TakesFirstPiece (chunks_exact_rest self.old) (chunks_exact_size self.old)
+            result (chunks_exact_rest self.new) }
         ensures size { chunks_exact_size self.new ≡ chunks_exact_size self.old }
         ensures behind { remainder_of self.new ≡ remainder_of self.old }
     {
@@ -407,7 +403,7 @@ impl<'a, R: BitRegister, O: BitOrder<R>> Iterator for ChunksExact<'a, R, O> {
 impl<'a, R: BitRegister, O: BitOrder<R>> DoubleEndedIterator for ChunksExact<'a, R, O> {
     ghost use Rattle.bitvec_slice.specs.PieceIters.{chunks_exact_left, chunks_exact_rest};
     ghost use Rattle.bitvec_slice.specs.PieceIters.{chunks_exact_size, remainder_of};
-    ghost use Rattle.bitvec_slice.specs.PieceIters.{TakesLast};
+    ghost use Rattle.bitvec_slice.specs.PieceIters.{TakesLastPiece};
 
     ghost next_back_gives = { YieldsLastBy slice_bits chunks_exact_left };
 
@@ -418,9 +414,8 @@ impl<'a, R: BitRegister, O: BitOrder<R>> DoubleEndedIterator for ChunksExact<'a,
             self.old result self.new }
 
         // The piece is the last bits of what is left, and then those before it are left.
-        ensures place { let left = chunks_exact_rest self.old
-            in let cut = last_start (chunks_exact_size self.old) (slice_len left)
-            in TakesLast left cut cut result (chunks_exact_rest self.new) }
+        ensures place { TakesLastPiece (chunks_exact_rest self.old) (chunks_exact_size self.old)
+            result (chunks_exact_rest self.new) }
         ensures size { chunks_exact_size self.new ≡ chunks_exact_size self.old }
         ensures behind { remainder_of self.new ≡ remainder_of self.old }
     {

@@ -182,9 +182,8 @@ impl<'a, R: BitRegister, O: BitOrder<R>> DoubleEndedIterator for Windows<'a, R, 
             self.old result self.new }
 
         // The window is the last bits of what is left, and then one bit less is left.
-        ensures place { let left = windows_rest self.old in let len = slice_len left
-            in let from = len - windows_size self.old
-            in TakesLast left from (len - 1) result (windows_rest self.new) }
+        ensures place { let left = windows_rest self.old in let len = slice_len left in TakesLast
+            left (len - windows_size self.old) (len - 1) result (windows_rest self.new) }
         ensures size { windows_size self.new ≡ windows_size self.old }
     {
         let len = self.rest.len();
