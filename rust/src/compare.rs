@@ -246,7 +246,7 @@ macro_rules! as_lists {
         /// Whether a list of truth values is that of the bits. Costs by bits.
         impl<$($generics)*> PartialEq<[bool]> for $type {
             fn eq(&self, other: &[bool]) -> bool {
-                self.iter().eq(other.iter().copied())
+                self.iter().by_vals().eq(other.iter().copied())
             }
         }
 

@@ -1,7 +1,7 @@
 //! What names a bit or a range of bits of a slice.
 
 use crate::order::Order;
-use crate::proxy::{BitRef, IterMut};
+use crate::proxy::{BitRef, Const, IterMut, Mut};
 use crate::register::Register;
 use crate::slice::BitSlice;
 use crate::slice_mut::BitSliceMut;
@@ -18,7 +18,7 @@ use core::ops::{RangeBounds, RangeToInclusive};
 ///
 /// let bits = 0b0110_1000_u8;
 /// let bits = bits.view_bits::<Lsb0>();
-/// assert_eq!(bits.get(3), Some(true));
+/// assert!(*bits.get(3).unwrap());
 /// assert_eq!(bits.get(3..6).unwrap().to_string(), "101");
 /// assert!(bits.get(6..9).is_none());
 /// ```
@@ -97,16 +97,16 @@ impl BitPosition for usize {
 impl sealed::Sealed for usize {}
 
 impl<'a, T: Register, O: Order> BitIndex<'a, T, O> for usize {
-    type Output = bool;
-    type OutputMut = BitRef<'a, T, O>;
+    type Output = BitRef<'a, Const, T, O>;
+    type OutputMut = BitRef<'a, Mut, T, O>;
 
     #[inline]
-    fn of(self, bits: BitSlice<'a, T, O>) -> Option<bool> {
-        bits.bit(self)
+    fn of(self, bits: BitSlice<'a, T, O>) -> Option<Self::Output> {
+        bits.bit(self).map(BitRef::from)
     }
 
     #[inline]
-    fn of_mut(self, bits: BitSliceMut<'a, T, O>) -> Option<BitRef<'a, T, O>> {
+    fn of_mut(self, bits: BitSliceMut<'a, T, O>) -> Option<Self::OutputMut> {
         IterMut::new(bits).nth(self)
     }
 }
@@ -173,7 +173,7 @@ fn no_bit(index: usize, len: usize) -> ! {
     panic!("there is no bit {index} in a slice of {len} bits")
 }
 
-impl<T: Register, O: Order> BitSlice<'_, T, O> {
+impl<'a, T: Register, O: Order> BitSlice<'a, T, O> {
     /// The bits of a range of indices, or why it is refused, which [`get`](Self::get) does not say.
     /// Constant time.
     ///
@@ -256,11 +256,11 @@ impl<T: Register, O: Order> BitSlice<'_, T, O> {
     ///
     /// let words = [0x01_u8];
     /// let (first, rest) = words.view_bits::<Lsb0>().split_first().unwrap();
-    /// assert!(first && rest.not_any());
+    /// assert!(*first && rest.not_any());
     /// ```
     #[must_use]
-    pub fn split_first(&self) -> Option<(bool, Self)> {
-        Some((self.bit(0)?, self.get(1..)?))
+    pub fn split_first(&self) -> Option<(BitRef<'a, Const, T, O>, Self)> {
+        Some((self.first()?, self.get(1..)?))
     }
 
     /// The last bit and those before it, and `None` where there is none. Constant time.
@@ -272,11 +272,11 @@ impl<T: Register, O: Order> BitSlice<'_, T, O> {
     ///
     /// let words = [0x80_u8];
     /// let (last, rest) = words.view_bits::<Lsb0>().split_last().unwrap();
-    /// assert!(last && rest.not_any());
+    /// assert!(*last && rest.not_any());
     /// ```
     #[must_use]
-    pub fn split_last(&self) -> Option<(bool, Self)> {
+    pub fn split_last(&self) -> Option<(BitRef<'a, Const, T, O>, Self)> {
         let last = self.len().checked_sub(1)?;
-        Some((self.bit(last)?, self.get(..last)?))
+        Some((self.last()?, self.get(..last)?))
     }
 }

@@ -1,11 +1,12 @@
 //! The bits of a slice in order, and the indices of those that are one or zero.
 
 use crate::order::Order;
+use crate::proxy::{BitRef, Const};
 use crate::register::Register;
 use crate::slice::{BitSlice, granted};
 use crate::slice_mut::BitSliceMut;
 use crate::sys::Exports;
-use core::iter::FusedIterator;
+use core::iter::{FusedIterator, Map};
 
 /// Bits that were read and are still to be handed out: as digits, the first lowest.
 #[derive(Clone, Copy, Debug, Default)]
@@ -41,8 +42,9 @@ impl Held {
     }
 }
 
-/// The bits of a [`BitSlice`] in order: what [`BitSlice::iter`] returns. It reads up to 64 bits at
-/// a time, and up to 1024 where all that are left are asked for in one call, as by `for_each`.
+/// The bits of a [`BitSlice`] in order, each lent to be read: what [`BitSlice::iter`] returns. It reads
+/// up to 64 bits at a time, and up to 1024 where all that are left are asked for in one call, as by
+/// `for_each`.
 ///
 /// # Examples
 ///
@@ -51,20 +53,15 @@ impl Held {
 ///
 /// let words = [0b0000_1101_u8];
 /// let bits = words.view_bits::<Lsb0>();
-/// assert_eq!(bits.iter().take(4).collect::<Vec<_>>(), [true, false, true, true]);
-/// assert_eq!(bits.iter().rev().position(|bit| bit), Some(4));
+/// assert_eq!(bits.iter().map(|bit| *bit).take(3).collect::<Vec<_>>(), [true, false, true]);
+/// assert_eq!(bits.iter().rev().position(|bit| *bit), Some(4));
 /// ```
 #[derive(Clone, Debug)]
 #[must_use = "iterators are lazy and do nothing unless consumed"]
-pub struct Iter<'a, T: Register, O: Order> {
-    front: Held,
-    /// The bits that are not read yet.
-    bits: BitSlice<'a, T, O>,
-    back: Held,
-}
+pub struct Iter<'a, T: Register, O: Order>(BitValIter<'a, T, O>);
 
-impl<T: Register, O: Order> Iter<'_, T, O> {
-    /// The same: the bits are values already.
+impl<'a, T: Register, O: Order> Iter<'a, T, O> {
+    /// The same bits, each a `bool`. As fast.
     ///
     /// # Examples
     ///
@@ -73,12 +70,104 @@ impl<T: Register, O: Order> Iter<'_, T, O> {
     ///
     /// assert_eq!(bits![0, 1].iter().by_vals().collect::<Vec<_>>(), [false, true]);
     /// ```
-    pub fn by_vals(self) -> Self {
-        self
+    #[inline]
+    pub fn by_vals(self) -> BitValIter<'a, T, O> {
+        self.0
+    }
+
+    /// The same bits, each a `&bool`.
+    ///
+    /// # Examples
+    ///
+    /// ```
+    /// use worghulen::bits;
+    ///
+    /// assert_eq!(bits![0, 1].iter().by_refs().collect::<Vec<_>>(), [&false, &true]);
+    /// ```
+    #[inline]
+    pub fn by_refs(self) -> BitRefIter<'a, T, O> {
+        self.0.map(|bit| if bit { &true } else { &false })
     }
 }
 
-impl<'a, T: Register, O: Order> Iter<'a, T, O> {
+impl<'a, T: Register, O: Order> Iterator for Iter<'a, T, O> {
+    type Item = BitRef<'a, Const, T, O>;
+
+    #[inline]
+    fn next(&mut self) -> Option<Self::Item> {
+        self.0.next().map(BitRef::from)
+    }
+
+    #[inline]
+    fn size_hint(&self) -> (usize, Option<usize>) {
+        self.0.size_hint()
+    }
+
+    fn count(self) -> usize {
+        self.len()
+    }
+
+    fn last(mut self) -> Option<Self::Item> {
+        self.next_back()
+    }
+
+    fn nth(&mut self, n: usize) -> Option<Self::Item> {
+        self.0.nth(n).map(BitRef::from)
+    }
+
+    #[inline]
+    fn fold<B, F: FnMut(B, Self::Item) -> B>(self, init: B, mut f: F) -> B {
+        self.0.fold(init, |acc, bit| f(acc, bit.into()))
+    }
+}
+
+impl<T: Register, O: Order> DoubleEndedIterator for Iter<'_, T, O> {
+    #[inline]
+    fn next_back(&mut self) -> Option<Self::Item> {
+        self.0.next_back().map(BitRef::from)
+    }
+
+    fn nth_back(&mut self, n: usize) -> Option<Self::Item> {
+        self.0.nth_back(n).map(BitRef::from)
+    }
+}
+
+impl<T: Register, O: Order> ExactSizeIterator for Iter<'_, T, O> {}
+
+impl<T: Register, O: Order> FusedIterator for Iter<'_, T, O> {}
+
+/// The bits of a [`BitSlice`] in order, each a `&bool`: what [`Iter::by_refs`] returns.
+///
+/// # Examples
+///
+/// ```
+/// use worghulen::bits;
+///
+/// assert!(bits![1, 1].iter().by_refs().all(|bit| *bit));
+/// ```
+pub type BitRefIter<'a, T, O> = Map<BitValIter<'a, T, O>, fn(bool) -> &'a bool>;
+
+/// The bits of a [`BitSlice`] in order, each a `bool`: what [`Iter::by_vals`] returns.
+///
+/// # Examples
+///
+/// ```
+/// use worghulen::{BitView, Lsb0};
+///
+/// let words = [0b0000_1101_u8];
+/// let bits = words.view_bits::<Lsb0>().iter().by_vals();
+/// assert_eq!(bits.take(4).collect::<Vec<_>>(), [true, false, true, true]);
+/// ```
+#[derive(Clone, Debug)]
+#[must_use = "iterators are lazy and do nothing unless consumed"]
+pub struct BitValIter<'a, T: Register, O: Order> {
+    front: Held,
+    /// The bits that are not read yet.
+    bits: BitSlice<'a, T, O>,
+    back: Held,
+}
+
+impl<'a, T: Register, O: Order> BitValIter<'a, T, O> {
     fn new(bits: BitSlice<'a, T, O>) -> Self {
         Self {
             front: Held::default(),
@@ -175,7 +264,7 @@ impl Block {
     }
 }
 
-impl<T: Register, O: Order> Iterator for Iter<'_, T, O> {
+impl<T: Register, O: Order> Iterator for BitValIter<'_, T, O> {
     type Item = bool;
 
     #[inline]
@@ -235,7 +324,7 @@ impl<T: Register, O: Order> Iterator for Iter<'_, T, O> {
     }
 }
 
-impl<T: Register, O: Order> DoubleEndedIterator for Iter<'_, T, O> {
+impl<T: Register, O: Order> DoubleEndedIterator for BitValIter<'_, T, O> {
     #[inline]
     fn next_back(&mut self) -> Option<bool> {
         if self.back.len == 0 {
@@ -258,9 +347,9 @@ impl<T: Register, O: Order> DoubleEndedIterator for Iter<'_, T, O> {
     }
 }
 
-impl<T: Register, O: Order> ExactSizeIterator for Iter<'_, T, O> {}
+impl<T: Register, O: Order> ExactSizeIterator for BitValIter<'_, T, O> {}
 
-impl<T: Register, O: Order> FusedIterator for Iter<'_, T, O> {}
+impl<T: Register, O: Order> FusedIterator for BitValIter<'_, T, O> {}
 
 /// The indices of the bits that are one, or zero where `FLIP`.
 #[derive(Clone, Debug)]
@@ -585,8 +674,9 @@ impl<T: Register, O: Order> ExactSizeIterator for Chunks<'_, T, O> {}
 impl<T: Register, O: Order> FusedIterator for Chunks<'_, T, O> {}
 
 impl<'a, T: Register, O: Order> BitSlice<'a, T, O> {
-    /// The bits in order. It reads up to 64 of them by one call, and up to 1024 where all that are
-    /// left are asked for at once.
+    /// The bits in order, each lent to be read by a [`BitRef`]; [`by_vals`](Iter::by_vals) makes
+    /// `bool`s of them. It reads up to 64 of them by one call, and up to 1024 where all that are left
+    /// are asked for at once.
     ///
     /// # Examples
     ///
@@ -594,11 +684,17 @@ impl<'a, T: Register, O: Order> BitSlice<'a, T, O> {
     /// use worghulen::{BitView, Msb0};
     ///
     /// let words = [0b1101_0000_u8];
-    /// let mut bits = words.view_bits::<Msb0>().iter();
-    /// assert_eq!((bits.next(), bits.len()), (Some(true), 7));
+    /// let bits = words.view_bits::<Msb0>();
+    /// let mut ones = 0;
+    /// for bit in bits.iter() {
+    ///     if *bit {
+    ///         ones += 1;
+    ///     }
+    /// }
+    /// assert_eq!((ones, bits.iter().by_vals().next_back()), (3, Some(false)));
     /// ```
     pub fn iter(&self) -> Iter<'a, T, O> {
-        Iter::new(*self)
+        Iter(BitValIter::new(*self))
     }
 
     /// The indices of the bits that are one, in order. Costs by words, and by what it finds.
@@ -664,12 +760,12 @@ impl<'a, T: Register, O: Order> BitSlice<'a, T, O> {
 /// let words = [0b0000_1101_u8];
 /// let mut ones = 0;
 /// for bit in words.view_bits::<Lsb0>() {
-///     ones += u32::from(bit);
+///     ones += u32::from(*bit);
 /// }
 /// assert_eq!(ones, 3);
 /// ```
 impl<'a, T: Register, O: Order> IntoIterator for BitSlice<'a, T, O> {
-    type Item = bool;
+    type Item = BitRef<'a, Const, T, O>;
     type IntoIter = Iter<'a, T, O>;
 
     fn into_iter(self) -> Iter<'a, T, O> {
@@ -678,7 +774,7 @@ impl<'a, T: Register, O: Order> IntoIterator for BitSlice<'a, T, O> {
 }
 
 impl<'a, T: Register, O: Order> IntoIterator for &BitSlice<'a, T, O> {
-    type Item = bool;
+    type Item = BitRef<'a, Const, T, O>;
     type IntoIter = Iter<'a, T, O>;
 
     fn into_iter(self) -> Iter<'a, T, O> {
@@ -687,7 +783,7 @@ impl<'a, T: Register, O: Order> IntoIterator for &BitSlice<'a, T, O> {
 }
 
 impl<'a, T: Register, O: Order> IntoIterator for &'a BitSliceMut<'_, T, O> {
-    type Item = bool;
+    type Item = BitRef<'a, Const, T, O>;
     type IntoIter = Iter<'a, T, O>;
 
     fn into_iter(self) -> Iter<'a, T, O> {

@@ -61,14 +61,14 @@ pub use freemap::{FreeMap, FreeRuns};
 pub use index::{BitIndex, BitPosition};
 #[cfg(feature = "std")]
 pub use io::{IoReader, IoWriter};
-pub use iter::{Chunks, Iter, Ones, Zeros};
+pub use iter::{BitRefIter, BitValIter, Chunks, Iter, Ones, Zeros};
 #[doc(hidden)]
 pub use macros::parts as __macros;
 pub use number::Number;
 pub use order::{LocalBits, Lsb0, Msb0, Order};
 pub use own::AsBitSlice;
 pub use pieces::{ChunksExact, RChunks, Windows};
-pub use proxy::{BitRef, IterMut};
+pub use proxy::{BitRef, Const, IterMut, Mut, Mutability};
 pub use refusal::Refusal;
 pub use register::Register;
 pub use run::{Command, ManySpans, Reply, Request, Spans};

@@ -40,7 +40,7 @@ pub trait Order: code::Code + Copy + Eq + Hash + Debug + Send + Sync + 'static {
 /// ```
 /// use worghulen::{BitView, Lsb0};
 ///
-/// assert_eq!([0b0000_0001_u8].view_bits::<Lsb0>().get(0), Some(true));
+/// assert!([0b0000_0001_u8].view_bits::<Lsb0>()[0]);
 /// ```
 #[derive(Clone, Copy, PartialEq, Eq, Hash, Debug, Default)]
 pub struct Lsb0;
@@ -52,7 +52,7 @@ pub struct Lsb0;
 /// ```
 /// use worghulen::{BitView, Msb0};
 ///
-/// assert_eq!([0b1000_0000_u8].view_bits::<Msb0>().get(0), Some(true));
+/// assert!([0b1000_0000_u8].view_bits::<Msb0>()[0]);
 /// ```
 #[derive(Clone, Copy, PartialEq, Eq, Hash, Debug, Default)]
 pub struct Msb0;
@@ -64,7 +64,7 @@ pub struct Msb0;
 /// ```
 /// use worghulen::{BitView, LocalBits};
 ///
-/// assert_eq!([1_u8].view_bits::<LocalBits>().first(), Some(true));
+/// assert!([1_u8].view_bits::<LocalBits>()[0]);
 /// ```
 pub type LocalBits = Lsb0;
 

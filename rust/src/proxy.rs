@@ -1,17 +1,25 @@
-//! Single bits that are lent for writing.
+//! Single bits that are lent, to be read or to be written.
 
-use crate::order::Order;
+use crate::order::{Lsb0, Order};
 use crate::register::Register;
 use crate::slice::granted;
 use crate::slice_mut::BitSliceMut;
 use core::cell::Cell;
-use core::fmt::{self, Debug, Formatter};
+use core::cmp::Ordering;
+use core::fmt::{self, Debug, Display, Formatter};
+use core::hash::{Hash, Hasher};
 use core::iter::FusedIterator;
 use core::marker::PhantomData;
-use core::ops::{Deref, DerefMut, Range};
+use core::ops::{Deref, DerefMut, Not, Range};
 use core::slice;
 
-/// A bit that is lent for writing: a `bool` that is written back where it is dropped.
+/// A bit that is lent: a `bool` behind a `*`, as the crate `bitvec` lends it.
+///
+/// With [`Const`] it is to be read, and `Copy`: [`BitSlice::get`](crate::BitSlice::get),
+/// [`first`](crate::BitSlice::first) and [`iter`](crate::BitSlice::iter) have these. With [`Mut`] it
+/// is to be written, and is written back where it is dropped: `get_mut` and
+/// [`iter_mut`](crate::BitSliceMut::iter_mut) have these. Either compares with a `bool`, prints as one
+/// and has its `!`.
 ///
 /// # Examples
 ///
@@ -25,8 +33,103 @@ use core::slice;
 ///     *bit = !*bit;
 /// }
 /// assert_eq!(words, [0b1111_0010]);
+/// let bits = words.view_bits::<Lsb0>();
+/// assert!(*bits.get(1).unwrap() && bits.get(2).unwrap() == false);
+/// assert_eq!(bits.first().as_deref(), Some(&false));
+/// assert_eq!(bits.get(4).map(|bit| *bit), Some(true));
+/// assert_eq!(bits.iter().filter(|bit| **bit).count(), 5);
 /// ```
-pub struct BitRef<'a, T: Register, O: Order> {
+#[derive(Clone, Copy)]
+pub struct BitRef<'a, M: Mutability = Const, T: Register = usize, O: Order = Lsb0>(
+    M::Held<'a, T, O>,
+);
+
+/// How a bit is lent: by [`Const`] or by [`Mut`], and no other.
+///
+/// # Examples
+///
+/// ```
+/// use worghulen::{BitRef, Lsb0, Mutability, bits};
+///
+/// fn is_one<M: Mutability>(bit: BitRef<'_, M, usize, Lsb0>) -> bool {
+///     *bit
+/// }
+///
+/// assert!(is_one(bits![0, 1].get(1).unwrap()));
+/// ```
+#[diagnostic::on_unimplemented(
+    message = "`{Self}` does not say how a bit is lent",
+    label = "a bit is lent by `Const` or by `Mut`",
+    note = "that stands before the word: `BitRef<'_, Const, u8, Lsb0>`"
+)]
+pub trait Mutability: held::Holds {}
+
+/// To be read.
+///
+/// # Examples
+///
+/// ```
+/// use worghulen::{BitRef, Const, bits};
+///
+/// let bit: BitRef<'_, Const> = bits![0, 1].get(1).unwrap();
+/// assert!(*bit);
+/// ```
+#[derive(Clone, Copy, PartialEq, Eq, Hash, Debug, Default)]
+pub struct Const;
+
+/// To be written.
+///
+/// # Examples
+///
+/// ```
+/// use worghulen::{BitRef, Mut, bitarr};
+///
+/// let mut bits = bitarr![0, 0];
+/// let mut bit: BitRef<'_, Mut> = bits.get_mut(1).unwrap();
+/// *bit = true;
+/// drop(bit);
+/// assert!(bits[1]);
+/// ```
+#[derive(Clone, Copy, PartialEq, Eq, Hash, Debug, Default)]
+pub struct Mut;
+
+impl Mutability for Const {}
+impl Mutability for Mut {}
+
+impl held::Holds for Const {
+    type Held<'a, T: Register, O: Order> = bool;
+}
+
+impl held::Holds for Mut {
+    type Held<'a, T: Register, O: Order> = Lent<'a, T, O>;
+}
+
+mod held {
+    use crate::order::Order;
+    use crate::register::Register;
+
+    /// What is held of a bit that is lent. Nothing outside this crate can name it.
+    pub trait Holds {
+        /// The bit, and where it is written back.
+        type Held<'a, T: Register, O: Order>: Bit;
+    }
+
+    /// What has a bit.
+    pub trait Bit {
+        /// The bit.
+        fn bit(&self) -> &bool;
+    }
+
+    impl Bit for bool {
+        #[inline]
+        fn bit(&self) -> &bool {
+            self
+        }
+    }
+}
+
+/// A bit that is written back where this is dropped.
+pub struct Lent<'a, T: Register, O: Order> {
     /// (a cell, since others of the same word may be lent too)
     word: &'a Cell<T>,
     index: usize,
@@ -35,37 +138,15 @@ pub struct BitRef<'a, T: Register, O: Order> {
     order: PhantomData<O>,
 }
 
-impl<'a, T: Register, O: Order> BitRef<'a, T, O> {
-    /// The bit at a place of words, where there is one.
-    pub(crate) fn at(words: &'a [Cell<T>], place: usize) -> Option<Self> {
-        let (word, index) = (words.get(place / T::BITS)?, place % T::BITS);
-        let bit = granted(T::get(O::CODE, &[word.get()], index));
-        Some(Self {
-            word,
-            index,
-            was: bit,
-            bit,
-            order: PhantomData,
-        })
-    }
-}
-
-impl<T: Register, O: Order> Deref for BitRef<'_, T, O> {
-    type Target = bool;
-
-    fn deref(&self) -> &bool {
+impl<T: Register, O: Order> held::Bit for Lent<'_, T, O> {
+    #[inline]
+    fn bit(&self) -> &bool {
         &self.bit
     }
 }
 
-impl<T: Register, O: Order> DerefMut for BitRef<'_, T, O> {
-    fn deref_mut(&mut self) -> &mut bool {
-        &mut self.bit
-    }
-}
-
 /// Writes the bit where it has changed, and no other bit of its word.
-impl<T: Register, O: Order> Drop for BitRef<'_, T, O> {
+impl<T: Register, O: Order> Drop for Lent<'_, T, O> {
     fn drop(&mut self) {
         if self.bit != self.was {
             let mut word = self.word.get();
@@ -80,12 +161,156 @@ impl<T: Register, O: Order> Drop for BitRef<'_, T, O> {
     }
 }
 
-impl<T: Register, O: Order> Debug for BitRef<'_, T, O> {
-    fn fmt(&self, f: &mut Formatter<'_>) -> fmt::Result {
-        Debug::fmt(&self.bit, f)
+impl<'a, T: Register, O: Order> BitRef<'a, Mut, T, O> {
+    /// The bit at a place of words, where there is one.
+    pub(crate) fn at(words: &'a [Cell<T>], place: usize) -> Option<Self> {
+        let (word, index) = (words.get(place / T::BITS)?, place % T::BITS);
+        let bit = granted(T::get(O::CODE, &[word.get()], index));
+        Some(Self(Lent {
+            word,
+            index,
+            was: bit,
+            bit,
+            order: PhantomData,
+        }))
     }
 }
 
+impl<M: Mutability, T: Register, O: Order> Deref for BitRef<'_, M, T, O> {
+    type Target = bool;
+
+    #[inline]
+    fn deref(&self) -> &bool {
+        held::Bit::bit(&self.0)
+    }
+}
+
+impl<T: Register, O: Order> DerefMut for BitRef<'_, Mut, T, O> {
+    #[inline]
+    fn deref_mut(&mut self) -> &mut bool {
+        &mut self.0.bit
+    }
+}
+
+/// A bit of no memory, to compare with.
+///
+/// # Examples
+///
+/// ```
+/// use worghulen::bits;
+///
+/// assert_eq!(bits![0, 1].get(1), Some(true.into()));
+/// ```
+impl<T: Register, O: Order> From<bool> for BitRef<'_, Const, T, O> {
+    #[inline]
+    fn from(bit: bool) -> Self {
+        Self(bit)
+    }
+}
+
+impl<M: Mutability, T: Register, O: Order> From<BitRef<'_, M, T, O>> for bool {
+    #[inline]
+    fn from(bit: BitRef<'_, M, T, O>) -> bool {
+        *bit
+    }
+}
+
+impl<M: Mutability, T: Register, O: Order> Not for BitRef<'_, M, T, O> {
+    type Output = bool;
+
+    #[inline]
+    fn not(self) -> bool {
+        !*self
+    }
+}
+
+impl<M: Mutability, T: Register, O: Order> Debug for BitRef<'_, M, T, O> {
+    fn fmt(&self, f: &mut Formatter<'_>) -> fmt::Result {
+        Debug::fmt(&**self, f)
+    }
+}
+
+impl<M: Mutability, T: Register, O: Order> Display for BitRef<'_, M, T, O> {
+    fn fmt(&self, f: &mut Formatter<'_>) -> fmt::Result {
+        Display::fmt(&**self, f)
+    }
+}
+
+impl<M: Mutability, T: Register, O: Order> Eq for BitRef<'_, M, T, O> {}
+
+impl<M: Mutability, T: Register, O: Order> Ord for BitRef<'_, M, T, O> {
+    #[inline]
+    fn cmp(&self, other: &Self) -> Ordering {
+        (**self).cmp(&**other)
+    }
+}
+
+impl<M: Mutability, T: Register, O: Order> Hash for BitRef<'_, M, T, O> {
+    fn hash<H: Hasher>(&self, state: &mut H) {
+        (**self).hash(state);
+    }
+}
+
+/// Two bits, or a bit and a `bool`, compare as the `bool`s do.
+impl<M, T, O, M2, T2, O2> PartialEq<BitRef<'_, M2, T2, O2>> for BitRef<'_, M, T, O>
+where
+    M: Mutability,
+    T: Register,
+    O: Order,
+    M2: Mutability,
+    T2: Register,
+    O2: Order,
+{
+    #[inline]
+    fn eq(&self, other: &BitRef<'_, M2, T2, O2>) -> bool {
+        **self == **other
+    }
+}
+
+impl<M, T, O, M2, T2, O2> PartialOrd<BitRef<'_, M2, T2, O2>> for BitRef<'_, M, T, O>
+where
+    M: Mutability,
+    T: Register,
+    O: Order,
+    M2: Mutability,
+    T2: Register,
+    O2: Order,
+{
+    #[inline]
+    fn partial_cmp(&self, other: &BitRef<'_, M2, T2, O2>) -> Option<Ordering> {
+        (**self).partial_cmp(&**other)
+    }
+}
+
+/// Each is as the `bool` of the two.
+macro_rules! as_bools {
+    ($($one:ty, $other:ty: $this:ident, $that:ident => $bools:expr;)*) => { $(
+        impl<M: Mutability, T: Register, O: Order> PartialEq<$other> for $one {
+            #[inline]
+            fn eq(&self, other: &$other) -> bool {
+                let ($this, $that) = (self, other);
+                let (one, other): (&bool, &bool) = $bools;
+                one == other
+            }
+        }
+
+        impl<M: Mutability, T: Register, O: Order> PartialOrd<$other> for $one {
+            #[inline]
+            fn partial_cmp(&self, other: &$other) -> Option<Ordering> {
+                let ($this, $that) = (self, other);
+                let (one, other): (&bool, &bool) = $bools;
+                one.partial_cmp(other)
+            }
+        }
+    )* };
+}
+
+as_bools! {
+    BitRef<'_, M, T, O>, bool: bit, other => (bit, other);
+    BitRef<'_, M, T, O>, &bool: bit, other => (bit, *other);
+    bool, BitRef<'_, M, T, O>: one, bit => (one, bit);
+    &bool, BitRef<'_, M, T, O>: one, bit => (*one, bit);
+}
 /// The bits of a slice in order, each lent for writing: what [`BitSliceMut::iter_mut`] returns.
 ///
 /// # Examples
@@ -120,7 +345,7 @@ impl<'a, T: Register, O: Order> IterMut<'a, T, O> {
 }
 
 impl<'a, T: Register, O: Order> Iterator for IterMut<'a, T, O> {
-    type Item = BitRef<'a, T, O>;
+    type Item = BitRef<'a, Mut, T, O>;
 
     #[inline]
     fn next(&mut self) -> Option<Self::Item> {
@@ -147,7 +372,7 @@ impl<T: Register, O: Order> ExactSizeIterator for IterMut<'_, T, O> {}
 impl<T: Register, O: Order> FusedIterator for IterMut<'_, T, O> {}
 
 impl<'b, T: Register, O: Order> IntoIterator for &'b mut BitSliceMut<'_, T, O> {
-    type Item = BitRef<'b, T, O>;
+    type Item = BitRef<'b, Mut, T, O>;
     type IntoIter = IterMut<'b, T, O>;
 
     fn into_iter(self) -> IterMut<'b, T, O> {

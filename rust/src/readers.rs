@@ -11,7 +11,7 @@ use crate::number::Number;
 use crate::order::Order;
 use crate::own::AsBitSlice;
 use crate::pieces::{ChunksExact, RChunks, Windows};
-use crate::proxy::{BitRef, IterMut};
+use crate::proxy::{BitRef, Const, IterMut, Mut};
 use crate::refusal::Refusal;
 use crate::register::Register;
 use crate::slice::BitSlice;
@@ -43,8 +43,8 @@ macro_rules! readers {
         forwards! { [$($generics)*] $type:
             #[must_use] len() -> usize;
             #[must_use] is_empty() -> bool;
-            #[must_use] first() -> Option<bool>;
-            #[must_use] last() -> Option<bool>;
+            #[must_use] first() -> Option<BitRef<'_, Const, T, O>>;
+            #[must_use] last() -> Option<BitRef<'_, Const, T, O>>;
             #[must_use] count_ones() -> usize;
             #[must_use] count_zeros() -> usize;
             #[must_use] first_one() -> Option<usize>;
@@ -80,8 +80,8 @@ macro_rules! readers {
             #[must_use] split_at_checked(
                 mid: usize
             ) -> Option<(BitSlice<'_, T, O>, BitSlice<'_, T, O>)>;
-            #[must_use] split_first() -> Option<(bool, BitSlice<'_, T, O>)>;
-            #[must_use] split_last() -> Option<(bool, BitSlice<'_, T, O>)>;
+            #[must_use] split_first() -> Option<(BitRef<'_, Const, T, O>, BitSlice<'_, T, O>)>;
+            #[must_use] split_last() -> Option<(BitRef<'_, Const, T, O>, BitSlice<'_, T, O>)>;
             #[must_use] equals<T2: Register, O2: Order>(other: &BitSlice<'_, T2, O2>) -> bool;
             #[must_use] compare<T2: Register, O2: Order>(
                 other: &BitSlice<'_, T2, O2>
@@ -324,7 +324,7 @@ macro_rules! edits {
         }
 
         impl<'b, $($generics)*> IntoIterator for &'b $type {
-            type Item = bool;
+            type Item = BitRef<'b, Const, T, O>;
             type IntoIter = Iter<'b, T, O>;
 
             fn into_iter(self) -> Iter<'b, T, O> {
@@ -333,7 +333,7 @@ macro_rules! edits {
         }
 
         impl<'b, $($generics)*> IntoIterator for &'b mut $type {
-            type Item = BitRef<'b, T, O>;
+            type Item = BitRef<'b, Mut, T, O>;
             type IntoIter = IterMut<'b, T, O>;
 
             fn into_iter(self) -> IterMut<'b, T, O> {

@@ -3,6 +3,7 @@
 use crate::index::BitIndex;
 use crate::number::Number;
 use crate::order::Order;
+use crate::proxy::{BitRef, Const};
 use crate::range::{MAX_BITS, bits_of, within};
 use crate::refusal::{Refusal, refused};
 use crate::register::Register;
@@ -257,8 +258,8 @@ impl<'a, T: Register, O: Order> BitSlice<'a, T, O> {
         self.len == 0
     }
 
-    /// The bit at an index, or the bits of a range of indices, and `None` where these are not among
-    /// the bits. Constant time.
+    /// The bit at an index, lent to be read by a [`BitRef`], or the bits of a range of indices, and
+    /// `None` where these are not among the bits. Constant time.
     ///
     /// # Examples
     ///
@@ -266,7 +267,8 @@ impl<'a, T: Register, O: Order> BitSlice<'a, T, O> {
     /// use worghulen::{BitSlice, Lsb0};
     ///
     /// let bits = BitSlice::<_, Lsb0>::new(&[0b0000_1000_u8], 2..6)?;
-    /// assert_eq!(bits.get(1), Some(true));
+    /// assert!(*bits.get(1).unwrap());
+    /// assert_eq!(bits.get(1).as_deref(), Some(&true));
     /// assert_eq!(bits.get(4), None);
     /// assert_eq!(bits.get(1..=2).unwrap().get(1..).unwrap().len(), 1);
     /// assert!(bits.get(2..5).is_none());
@@ -296,13 +298,13 @@ impl<'a, T: Register, O: Order> BitSlice<'a, T, O> {
     ///
     /// let words = [0b0000_0001_u8];
     /// let bits = words.view_bits::<Lsb0>();
-    /// assert_eq!((bits.first(), bits.last()), (Some(true), Some(false)));
+    /// assert_eq!((bits.first().as_deref(), bits.last().as_deref()), (Some(&true), Some(&false)));
     /// assert_eq!(bits.get(..0).unwrap().first(), None);
     /// ```
     #[inline]
     #[must_use]
-    pub fn first(&self) -> Option<bool> {
-        self.bit(0)
+    pub fn first(&self) -> Option<BitRef<'a, Const, T, O>> {
+        self.bit(0).map(BitRef::from)
     }
 
     /// The last bit, and `None` where there is none. Constant time.
@@ -313,12 +315,12 @@ impl<'a, T: Register, O: Order> BitSlice<'a, T, O> {
     /// use worghulen::{BitView, Msb0};
     ///
     /// let words = [0b0000_0001_u8];
-    /// assert_eq!(words.view_bits::<Msb0>().last(), Some(true));
+    /// assert!(*words.view_bits::<Msb0>().last().unwrap());
     /// ```
     #[inline]
     #[must_use]
-    pub fn last(&self) -> Option<bool> {
-        self.bit(self.len.checked_sub(1)?)
+    pub fn last(&self) -> Option<BitRef<'a, Const, T, O>> {
+        self.bit(self.len.checked_sub(1)?).map(BitRef::from)
     }
 
     /// The number whose digits the bits are, those of the first word lowest.

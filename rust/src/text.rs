@@ -28,6 +28,7 @@ fn write_bits<T: Register, O: Order>(
     (0..before).try_for_each(|_| f.write_char(fill))?;
     f.write_str(prefix)?;
     bits.iter()
+        .by_vals()
         .try_for_each(|bit| f.write_char(if bit { '1' } else { '0' }))?;
     (before..empty).try_for_each(|_| f.write_char(fill))
 }
@@ -82,7 +83,8 @@ impl<T: Register, O: Order> Binary for BitSlice<'_, T, O> {
 /// ```
 impl<T: Register, O: Order> Debug for BitSlice<'_, T, O> {
     fn fmt(&self, f: &mut Formatter<'_>) -> fmt::Result {
-        f.debug_list().entries(self.iter().map(u8::from)).finish()
+        let bits = self.iter().by_vals().map(u8::from);
+        f.debug_list().entries(bits).finish()
     }
 }
 

@@ -9,6 +9,7 @@ use crate::order::{Lsb0, Order};
 use crate::own::AsBitSlice;
 use crate::proved::bitvec_vec::vec;
 use crate::proved::shim::alloc::{AllocError, Global};
+use crate::proxy::{BitRef, Mutability};
 use crate::range::{MAX_BITS, within};
 use crate::refusal::{Refusal, refused};
 use crate::register::Register;
@@ -968,7 +969,8 @@ impl<T: Register, O: Order> Default for BitVec<T, O> {
 /// all.extend([true, false]);
 /// all.extend([0x80_u8]);
 /// all.extend([bits![1, 1], bits![0]]);
-/// assert_eq!(all.to_string(), "11000000001110");
+/// all.extend(bits![0, 1].iter());
+/// assert_eq!(all.to_string(), "1100000000111001");
 /// ```
 impl<T: Register, O: Order> Extend<bool> for BitVec<T, O> {
     fn extend<I: IntoIterator<Item = bool>>(&mut self, bits: I) {
@@ -979,6 +981,20 @@ impl<T: Register, O: Order> Extend<bool> for BitVec<T, O> {
 impl<'a, T: Register, O: Order> Extend<&'a bool> for BitVec<T, O> {
     fn extend<I: IntoIterator<Item = &'a bool>>(&mut self, bits: I) {
         self.gather(bits.into_iter().copied());
+    }
+}
+
+/// Bits that are lent behind the last, as [`BitSlice::iter`] has them.
+impl<'a, T, O, M, T2, O2> Extend<BitRef<'a, M, T2, O2>> for BitVec<T, O>
+where
+    T: Register,
+    O: Order,
+    M: Mutability,
+    T2: Register,
+    O2: Order,
+{
+    fn extend<I: IntoIterator<Item = BitRef<'a, M, T2, O2>>>(&mut self, bits: I) {
+        self.gather(bits.into_iter().map(bool::from));
     }
 }
 
@@ -1023,6 +1039,19 @@ impl<T: Register, O: Order> FromIterator<bool> for BitVec<T, O> {
 impl<'a, T: Register, O: Order> FromIterator<&'a bool> for BitVec<T, O> {
     fn from_iter<I: IntoIterator<Item = &'a bool>>(bits: I) -> Self {
         bits.into_iter().copied().collect()
+    }
+}
+
+impl<'a, T, O, M, T2, O2> FromIterator<BitRef<'a, M, T2, O2>> for BitVec<T, O>
+where
+    T: Register,
+    O: Order,
+    M: Mutability,
+    T2: Register,
+    O2: Order,
+{
+    fn from_iter<I: IntoIterator<Item = BitRef<'a, M, T2, O2>>>(bits: I) -> Self {
+        bits.into_iter().map(bool::from).collect()
     }
 }
 
@@ -1145,7 +1174,7 @@ impl<T: Register, O: Order> Iterator for IntoIter<T, O> {
 
     #[inline]
     fn next(&mut self) -> Option<bool> {
-        self.bits.get(self.left.next()?)
+        self.bits.as_bitslice().bit(self.left.next()?)
     }
 
     fn size_hint(&self) -> (usize, Option<usize>) {
@@ -1153,14 +1182,14 @@ impl<T: Register, O: Order> Iterator for IntoIter<T, O> {
     }
 
     fn nth(&mut self, n: usize) -> Option<bool> {
-        self.bits.get(self.left.nth(n)?)
+        self.bits.as_bitslice().bit(self.left.nth(n)?)
     }
 }
 
 impl<T: Register, O: Order> DoubleEndedIterator for IntoIter<T, O> {
     #[inline]
     fn next_back(&mut self) -> Option<bool> {
-        self.bits.get(self.left.next_back()?)
+        self.bits.as_bitslice().bit(self.left.next_back()?)
     }
 }
 

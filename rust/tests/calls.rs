@@ -30,7 +30,7 @@ mod cases {
     use std::cmp::Ordering;
     use std::hash::{DefaultHasher, Hash, Hasher};
     use std::ops::Range;
-    use worghulen::{BitSlice, BitSliceMut, Lsb0, Msb0, Number, Refusal};
+    use worghulen::{BitRef, BitSlice, BitSliceMut, Lsb0, Msb0, Number, Refusal};
 
     /// A range that lies among `len` bits.
     fn inner(random: &mut Random, len: usize) -> Range<usize> {
@@ -59,7 +59,7 @@ mod cases {
         assert_eq!(bits.part(part.clone()).map(list), expected);
         assert_eq!(bits.get(part).map(list), expected.ok());
         let mid = random.place(model.len());
-        assert_eq!(bits.get(mid), model.get(mid).copied());
+        assert_eq!(bits.get(mid).as_deref(), model.get(mid));
         assert_eq!(
             bits.get(..mid).map(list),
             model.get(..mid).map(<[bool]>::to_vec)
@@ -79,14 +79,14 @@ mod cases {
                 .split_at_checked(mid)
                 .map(|(a, b)| (a.to_vec(), b.to_vec()))
         );
-        assert_eq!(bits.first(), model.first().copied());
-        assert_eq!(bits.last(), model.last().copied());
-        let split = bits.split_first().map(|(bit, rest)| (bit, list(rest)));
+        assert_eq!(bits.first().as_deref(), model.first());
+        assert_eq!(bits.last().as_deref(), model.last());
+        let split = bits.split_first().map(|(bit, rest)| (*bit, list(rest)));
         assert_eq!(
             split,
             model.split_first().map(|(bit, rest)| (*bit, rest.to_vec()))
         );
-        let split = bits.split_last().map(|(bit, rest)| (bit, list(rest)));
+        let split = bits.split_last().map(|(bit, rest)| (*bit, list(rest)));
         assert_eq!(
             split,
             model.split_last().map(|(bit, rest)| (*bit, rest.to_vec()))
@@ -137,8 +137,13 @@ mod cases {
     pub fn bits_come_from_both_ends<T: Word, O: Layout>(random: &mut Random) {
         let (mut words, range, model) = case::<T, O>(random);
         let bits = BitSlice::<T, O>::new(&words, range.clone()).unwrap();
-        same_from_both_ends(random, bits.iter(), model.iter().copied());
-        let mut iter = bits.iter();
+        same_from_both_ends(random, bits.iter().by_vals(), model.iter().copied());
+        let lent = bits.iter().map(|bit| *bit);
+        same_from_both_ends(random, lent, model.iter().copied());
+        same_from_both_ends(random, bits.iter().by_refs(), model.iter());
+        let proxies = model.iter().map(|bit| BitRef::from(*bit));
+        same_from_both_ends(random, bits.iter(), proxies);
+        let mut iter = bits.iter().by_vals();
         let mut left = model.iter().copied();
         for _ in 0..random.below(9) {
             assert_eq!(iter.len(), left.len());
@@ -212,7 +217,7 @@ mod cases {
         let range = inner(random, 4096);
         let model = bits_of::<T, O>(&words)[range.clone()].to_vec();
         let bits = BitSlice::<T, O>::new(&words, range).unwrap();
-        let (mut iter, mut left) = (bits.iter(), model.iter().copied());
+        let (mut iter, mut left) = (bits.iter().by_vals(), model.iter().copied());
         for _ in 0..random.below(9) {
             assert_eq!(iter.next(), left.next());
             assert_eq!(iter.next_back(), left.next_back());

@@ -1,5 +1,13 @@
-//! The first lines that a user of the crate `bitvec` types, by its names: those that compile here and
-//! mean the same. Each line that a comment numbers counts once.
+//! The first 63 lines that a user of the crate `bitvec` types, by its names: the 50 that compile here
+//! and mean the same. Each line that a comment numbers counts once. The other 13 are:
+//!
+//! - six in which a slice is a reference: `&bits[a..b]`, the same with `.load`, `.load_be`, `.store`
+//!   and `.fill` behind it, and `fn f(b: &mut BitSlice<u8, Msb0>)`; here a slice is a value;
+//! - one in which `let b = data.view_bits_mut()` is without `mut`, as a reference is, and `b.set(..)`
+//!   behind it; and `*a &= b`, where `a` is such a slice: here it is `a &= b`;
+//! - `split_at_mut` inside a word, which answers a refusal here, and words of `AtomicU8`;
+//! - `{}` and `{:x}`: a slice prints as `011` here and as `[0, 1, 1]` there, and has no `{:x}`;
+//! - what `serde` derives.
 
 use std::collections::HashMap;
 use worghulen::prelude::*;
@@ -75,6 +83,32 @@ fn names() {
     assert_eq!(bits.domain().collect::<Vec<_>>(), data); // 34
     let refused = std::panic::catch_unwind(move || other.view_bits_mut::<Lsb0>().set(16, true)); // 35
     assert!(refused.is_err());
+}
+
+/// Bits that are lent to be read.
+#[test]
+#[allow(clippy::explicit_iter_loop)] // (as it is typed)
+fn proxies() {
+    let data = [0x12_u8, 0x34];
+    let bits = data.view_bits::<Msb0>();
+    assert!(*bits.get(3).unwrap()); // 46
+    assert_eq!(bits.get(3).map(|b| *b), Some(true)); // 47
+    assert_eq!(bits.get(16).map(|b| *b), None);
+    assert_eq!(bits.first().as_deref(), Some(&false)); // 48
+    let mut ones = 0;
+    for bit in bits.iter() {
+        if *bit {
+            ones += 1; // 49
+        }
+    }
+    assert_eq!(ones, 5);
+    assert_eq!(bits.iter().filter(|b| **b).count(), 5); // 50
+    assert_eq!(bits.iter().position(|b| *b), Some(3));
+    assert!(bits.iter().rev().skip(2).step_by(3).any(|b| !b));
+    assert_eq!(bits.iter().map(|b| u8::from(*b)).sum::<u8>(), 5);
+    assert_eq!(bits.iter().by_refs().copied().max(), Some(true));
+    assert_eq!(bits.iter().collect::<BitVec<u8, Lsb0>>(), bits);
+    assert!(bits.into_iter().zip(&bits.to_bitvec()).all(|(a, b)| a == b));
 }
 
 /// Bits that are owned.

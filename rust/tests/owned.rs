@@ -241,10 +241,11 @@ fn questions<T: Word, O: Layout>(random: &mut Random, bits: &BitVec<T, O>, model
     assert_eq!(bits.len(), model.len());
     assert_eq!(*bits, *model);
     assert!(bits.iter().eq(model.iter().copied()));
+    assert!(bits.iter().by_vals().eq(model.iter().copied()));
     assert_eq!(bits.count_ones(), model.iter().filter(|bit| **bit).count());
     assert_eq!(bits.first_one(), model.iter().position(|bit| *bit));
     let (index, range) = (random.below(model.len() + 2), within(random, model.len()));
-    assert_eq!(bits.get(index), model.get(index).copied());
+    assert_eq!(bits.get(index).as_deref(), model.get(index));
     let (part, own) = (bits.get(range.clone()).unwrap(), &model[range]);
     assert_eq!(part, *own);
     assert_eq!(part.to_bitvec(), part);
@@ -264,7 +265,7 @@ fn questions<T: Word, O: Layout>(random: &mut Random, bits: &BitVec<T, O>, model
 }
 
 fn listed<T: Word, O: Layout>(bits: BitSlice<'_, T, O>) -> Vec<bool> {
-    bits.iter().collect()
+    bits.iter().by_vals().collect()
 }
 
 /// The pieces of a slice, as those of its list.

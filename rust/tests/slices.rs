@@ -38,7 +38,10 @@ mod cases {
         let answer = BitSlice::<T, O>::new(&words, range.clone());
         assert_eq!(answer.map(|bits| bits.len()), len);
         assert_eq!(answer.map(|bits| bits.is_empty()), len.map(|len| len == 0));
-        let read = |bits: BitSlice<T, O>| (0..bits.len()).map_while(|i| bits.get(i)).collect();
+        let read = |bits: BitSlice<T, O>| {
+            let bit = |i| bits.get(i).map(bool::from);
+            (0..bits.len()).map_while(bit).collect()
+        };
         assert_eq!(answer.map(read), expected);
         let answer = BitSliceMut::<T, O>::new(&mut words, range);
         assert_eq!(answer.map(|bits| read(bits.as_bitslice())), expected);
@@ -52,7 +55,7 @@ mod cases {
             return;
         };
         let index = random.place(range.len());
-        assert_eq!(bits.get(index), model[range].get(index).copied());
+        assert_eq!(bits.get(index).as_deref(), model[range].get(index));
     }
 
     pub fn set_writes_one_bit<T: Word, O: Layout>(random: &mut Random) {

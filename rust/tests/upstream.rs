@@ -126,33 +126,36 @@ mod slices_asked {
 
     #[test]
     fn first() {
-        // (a `bool` by value, where there a proxy is that `Deref`s to one)
-        assert_eq!((bits![1, 0].first(), bits![].first()), (Some(true), None));
+        assert_eq!(bits![1, 0].first().as_deref(), Some(&true));
+        assert!(bits![].first().is_none());
     }
 
     #[test]
     fn last() {
-        assert_eq!((bits![1, 0].last(), bits![].last()), (Some(false), None));
+        assert_eq!(bits![1, 0].last().as_deref(), Some(&false));
+        assert!(bits![].last().is_none());
     }
 
     #[test]
     fn split_first() {
         let (first, rest) = bits![1, 0, 0].split_first().unwrap();
-        assert!(first && rest == bits![0, 0]);
+        assert!(*first && rest == bits![0, 0]);
         assert!(bits![].split_first().is_none());
     }
 
     #[test]
     fn split_last() {
         let (last, rest) = bits![0, 0, 1].split_last().unwrap();
-        assert!(last && rest == bits![0, 0]);
+        assert_eq!(last, &true);
+        assert_eq!(rest, bits![0, 0]);
         assert!(bits![].split_last().is_none());
     }
 
     #[test]
     fn get_of_an_index() {
         let bits = bits![0, 1, 0];
-        assert_eq!((bits.get(1), bits.get(3)), (Some(true), None));
+        assert_eq!(bits.get(1).as_deref(), Some(&true));
+        assert!(*bits.get(1).unwrap() && bits.get(3).is_none());
     }
 
     #[test]
@@ -399,10 +402,9 @@ mod slices_gone_over {
     #[test]
     fn iter_nth() {
         let mut bits = bits![0, 0, 1, 0].iter();
-        assert_eq!(
-            (bits.nth(2), bits.next(), bits.next()),
-            (Some(true), Some(false), None)
-        );
+        assert_eq!(bits.nth(2).as_deref(), Some(&true));
+        assert_eq!(bits.next().as_deref(), Some(&false));
+        assert!(bits.next().is_none());
     }
 
     #[test]
@@ -418,7 +420,7 @@ mod slices_gone_over {
     fn into_iterator() {
         let mut ones = 0;
         for bit in bits![1, 0, 1] {
-            ones += usize::from(bit);
+            ones += usize::from(*bit);
         }
         for mut bit in &mut bitvec![0, 0] {
             *bit = true;

@@ -139,7 +139,11 @@ fn compare_bits(all: &mut All) {
         [
             Some(&mut || {
                 let bits = black_box(&all.ours);
-                black_box(places().filter(|i| bits.get(*i) == Some(true)).count());
+                black_box(
+                    places()
+                        .filter(|i| bits.get(*i).is_some_and(bool::from))
+                        .count(),
+                );
             }),
             Some(&mut || {
                 let bits = black_box(&all.hand.words);
@@ -202,7 +206,7 @@ fn compare_iterators(all: &All) {
         "iter-bits",
         BITS,
         [
-            Some(&mut || even(black_box(&all.ours).iter())),
+            Some(&mut || even(black_box(&all.ours).iter().map(|bit| *bit))),
             Some(&mut || {
                 black_box(by_hand::even_ones(black_box(&all.hand.words)));
             }),

@@ -118,7 +118,7 @@ fn compare_bits(source: &[u64]) {
         READS,
         || {
             let bits = black_box(ours);
-            let is_one = |place: &usize| bits.get(black_box(*place)) == Some(true);
+            let is_one = |place: &usize| bits.get(black_box(*place)).is_some_and(|bit| *bit);
             black_box(places().filter(is_one).count());
         },
         || {
@@ -228,7 +228,7 @@ fn compare_iterators(source: &[u64]) {
         WORDS,
         || {
             let indexed = bits(black_box(source)).iter().enumerate();
-            black_box(indexed.filter(|(i, bit)| *bit && i % 2 == 0).count());
+            black_box(indexed.filter(|(i, bit)| **bit && i % 2 == 0).count());
         },
         || {
             black_box(by_hand::even_ones(black_box(source)));

@@ -7,7 +7,7 @@ use worghulen::{BitSlice, Lsb0, Msb0};
 
 type Bits = worghulen::BitVec<u32, Lsb0>;
 
-pub type Iter<'a> = worghulen::Iter<'a, u32, Lsb0>;
+pub type Iter<'a> = worghulen::BitValIter<'a, u32, Lsb0>;
 
 #[derive(Clone, Default, PartialEq, Eq, PartialOrd, Ord, Hash)]
 pub struct BitVec(Bits);
@@ -52,7 +52,7 @@ impl BitVec {
     }
 
     pub fn get(&self, i: usize) -> Option<bool> {
-        self.0.get(i)
+        self.0.get(i).map(bool::from)
     }
 
     pub fn set(&mut self, i: usize, bit: bool) {
@@ -84,7 +84,7 @@ impl BitVec {
     }
 
     pub fn iter(&self) -> Iter<'_> {
-        self.0.iter()
+        self.0.iter().by_vals()
     }
 
     /// Whether the bits changed.

@@ -41,7 +41,7 @@ impl FixedBitSet {
     }
 
     pub fn contains(&self, bit: usize) -> bool {
-        self.0.get(bit).unwrap_or(false)
+        self.0.get(bit).is_some_and(bool::from)
     }
 
     pub fn clear(&mut self) {

@@ -2,7 +2,7 @@
 
 use std::fmt::{Debug, Formatter, Result};
 use std::ops::{Index, Range};
-use worghulen::{BitSlice, BitVec, IntoIter, Iter, Lsb0};
+use worghulen::{BitSlice, BitValIter, BitVec, IntoIter, Lsb0};
 
 /// The panics of that crate have this text.
 const NO_INDEX: &str = "index out of range";
@@ -63,7 +63,7 @@ impl SmallBitVec {
     }
 
     pub fn get(&self, i: usize) -> Option<bool> {
-        self.0.get(i)
+        self.0.get(i).map(bool::from)
     }
 
     pub fn set(&mut self, i: usize, bit: bool) {
@@ -102,8 +102,8 @@ impl SmallBitVec {
         self.0.not_any()
     }
 
-    pub fn iter(&self) -> Iter<'_, usize, Lsb0> {
-        self.0.iter()
+    pub fn iter(&self) -> BitValIter<'_, usize, Lsb0> {
+        self.0.iter().by_vals()
     }
 
     pub fn range(&self, range: Range<usize>) -> VecRange<'_> {
@@ -128,8 +128,8 @@ impl SmallBitVec {
 pub struct VecRange<'a>(BitSlice<'a, usize, Lsb0>);
 
 impl VecRange<'_> {
-    pub fn iter(&self) -> Iter<'_, usize, Lsb0> {
-        self.0.iter()
+    pub fn iter(&self) -> BitValIter<'_, usize, Lsb0> {
+        self.0.iter().by_vals()
     }
 }
 
@@ -137,7 +137,7 @@ impl Index<usize> for VecRange<'_> {
     type Output = bool;
 
     fn index(&self, i: usize) -> &bool {
-        if self.0.get(i).expect(NO_INDEX) {
+        if *self.0.get(i).expect(NO_INDEX) {
             &true
         } else {
             &false
@@ -149,7 +149,7 @@ impl Index<usize> for SmallBitVec {
     type Output = bool;
 
     fn index(&self, i: usize) -> &bool {
-        if self.0.get(i).expect(NO_INDEX) {
+        if *self.0.get(i).expect(NO_INDEX) {
             &true
         } else {
             &false
