@@ -121,10 +121,14 @@ macro_rules! numbers {
             #[inline]
             #[allow(clippy::cast_sign_loss)] // (of two's complement)
             fn digits(self, count: usize) -> Option<u64> {
+                let wide = self as u64;
+                if !Self::HAS_SIGN {
+                    return (count > 63 || wide >> count == 0).then_some(wide);
+                }
                 let digits = if count == 0 {
                     0
                 } else {
-                    (self as u64) << (64 - count) >> (64 - count)
+                    wide << (64 - count) >> (64 - count)
                 };
                 (Self::of_digits(digits, count) == self).then_some(digits)
             }

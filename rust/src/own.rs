@@ -27,6 +27,15 @@ pub trait Owned: Exports {
     /// the highest where `big`, and the lowest else.
     fn joined(words: &[Self], from: usize, big: bool) -> Option<u64>;
 
+    /// Puts in place of the 64 bits that `joined` has what is made of them, where there are so many,
+    /// and returns it.
+    fn rejoin(
+        words: &mut [Self],
+        from: usize,
+        big: bool,
+        new: impl FnOnce(u64) -> u64,
+    ) -> Option<u64>;
+
     /// A vector, as the library is to have it.
     #[cfg(feature = "alloc")]
     fn give(words: Vec<Self>) -> Vec<Self::Word>;
@@ -60,6 +69,30 @@ macro_rules! number {
     }};
 }
 
+/// Puts such a number in place of so many words.
+macro_rules! put_number {
+    (u8 in $words:ident, $big:ident, $digits:ident) => {
+        *$words = if $big {
+            $digits.to_be_bytes()
+        } else {
+            $digits.to_le_bytes()
+        }
+    };
+    ($word:ident in $words:ident, $big:ident, $digits:ident) => {{
+        const WIDTH: usize = $word::BITS as usize;
+        for (i, word) in $words.iter_mut().enumerate() {
+            let up = if $big {
+                64 - WIDTH * (i + 1)
+            } else {
+                WIDTH * i
+            };
+            #[allow(clippy::cast_possible_truncation)] // (the digits above are other words')
+            let digits = ($digits >> up) as $word;
+            *word = digits;
+        }
+    }};
+}
+
 macro_rules! owned {
     ($($word:ident)*) => { $(
         impl Owned for $word {
@@ -79,6 +112,21 @@ macro_rules! owned {
             fn joined(words: &[Self], from: usize, big: bool) -> Option<u64> {
                 let words: &[Self; 64 / $word::BITS as usize] = words.get(from..)?.first_chunk()?;
                 Some(number!($word of words, big))
+            }
+
+            #[inline]
+            fn rejoin(
+                words: &mut [Self],
+                from: usize,
+                big: bool,
+                new: impl FnOnce(u64) -> u64,
+            ) -> Option<u64> {
+                const COUNT: usize = 64 / $word::BITS as usize;
+                let words = words.get_mut(from..from.wrapping_add(COUNT))?;
+                let words: &mut [Self; COUNT] = words.try_into().ok()?;
+                let digits = new(number!($word of words, big));
+                put_number!($word in words, big, digits);
+                Some(digits)
             }
 
             #[cfg(feature = "alloc")]

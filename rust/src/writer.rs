@@ -34,7 +34,34 @@ use crate::slice_mut::BitSliceMut;
 #[derive(Debug)]
 pub struct BitWriter<'a, T: Register, O: Order> {
     bits: BitSliceMut<'a, T, O>,
-    position: usize,
+    /// 64 bits of the slice as they stand in its words from one on, so that these need not be read
+    /// again, of which the last `free` are still to be written. Where `free` is 0 they are any.
+    window: u64,
+    word: usize,
+    free: usize,
+    /// The place in the words behind those bits that are free.
+    until: usize,
+}
+
+/// Puts digits, their number before them, from a place on, which end before that of an end. Returns 64
+/// bits of words, from that of the last of them on, this word, and how many of these bits are behind
+/// them: 0 where that is so or the words have not so many before the end. (What a writer holds is not
+/// lent, so that it can stay in registers.)
+#[inline(never)]
+fn begun<T: Register, O: Order>(
+    words: &mut [T],
+    place: usize,
+    end: usize,
+    (count, digits): (usize, u64),
+) -> (u64, usize, usize) {
+    granted(T::store(O::CODE, O::BIG, words, place, count, digits));
+    let behind = place + count;
+    let word = (behind - 1) / T::BITS;
+    let until = word * T::BITS + 64;
+    match T::joined(words, word, O::BIG) {
+        Some(window) if until <= end => (window, word, until - behind),
+        _ => (0, word, 0),
+    }
 }
 
 impl<'a, T: Register, O: Order> BitWriter<'a, T, O> {
@@ -51,7 +78,13 @@ impl<'a, T: Register, O: Order> BitWriter<'a, T, O> {
     #[inline]
     #[must_use]
     pub fn new(bits: BitSliceMut<'a, T, O>) -> Self {
-        Self { bits, position: 0 }
+        Self {
+            until: bits.as_bitslice().place().1,
+            bits,
+            window: 0,
+            word: 0,
+            free: 0,
+        }
     }
 
     /// How many bits were written or passed over. Constant time.
@@ -70,7 +103,7 @@ impl<'a, T: Register, O: Order> BitWriter<'a, T, O> {
     #[inline]
     #[must_use]
     pub fn position(&self) -> usize {
-        self.position
+        self.until - self.free - self.bits.as_bitslice().place().1
     }
 
     /// How many bits are left. Constant time.
@@ -86,7 +119,7 @@ impl<'a, T: Register, O: Order> BitWriter<'a, T, O> {
     #[inline]
     #[must_use]
     pub fn remaining(&self) -> usize {
-        self.bits.len() - self.position
+        self.bits.len() - self.position()
     }
 
     /// The bits that were written or passed over, to be read. Constant time.
@@ -106,7 +139,7 @@ impl<'a, T: Register, O: Order> BitWriter<'a, T, O> {
     #[inline]
     #[must_use]
     pub fn written(&self) -> BitSlice<'_, T, O> {
-        self.bits.as_bitslice().start(self.position)
+        self.bits.as_bitslice().start(self.position())
     }
 
     /// The whole slice: what was written, and behind it the other bits, as they were. Constant
@@ -133,16 +166,22 @@ impl<'a, T: Register, O: Order> BitWriter<'a, T, O> {
 
     /// Has a call of the library write from the place on, which it moves.
     #[inline]
-    fn put(
+    fn ask(
         &mut self,
         call: impl FnOnce(&mut [T], &mut usize, usize) -> Result<(), Refusal>,
     ) -> Result<(), Refusal> {
-        let len = self.bits.len();
+        let (len, position) = (self.bits.len(), self.position());
         let (words, start) = self.bits.place_mut();
-        let mut place = start + self.position;
+        let mut place = start + position;
         call(words, &mut place, start + len)?;
-        self.position = place - start;
+        self.stand_at(place - start);
         Ok(())
+    }
+
+    /// Stands at an index. No bits are known there.
+    #[inline]
+    fn stand_at(&mut self, index: usize) {
+        (self.until, self.free) = (self.bits.place_mut().1 + index, 0);
     }
 
     /// Passes over so many bits, which stay as they are. Constant time.
@@ -169,7 +208,11 @@ impl<'a, T: Register, O: Order> BitWriter<'a, T, O> {
         if count > self.remaining() {
             return Err(Refusal::TooFew);
         }
-        self.position += count;
+        if count <= self.free {
+            self.free -= count;
+        } else {
+            self.stand_at(self.position() + count);
+        }
         Ok(())
     }
 
@@ -195,8 +238,8 @@ impl<'a, T: Register, O: Order> BitWriter<'a, T, O> {
     /// ```
     #[inline]
     pub fn skip_to_multiple_of(&mut self, of: usize) -> Result<(), Refusal> {
-        let to = self.position.checked_next_multiple_of(of);
-        self.skip(to.ok_or(Refusal::TooFew)? - self.position)
+        let to = self.position().checked_next_multiple_of(of);
+        self.skip(to.ok_or(Refusal::TooFew)? - self.position())
     }
 
     /// Writes a bit. Constant time.
@@ -219,12 +262,7 @@ impl<'a, T: Register, O: Order> BitWriter<'a, T, O> {
     /// ```
     #[inline]
     pub fn write_bit(&mut self, bit: bool) -> Result<(), Refusal> {
-        if self.remaining() == 0 {
-            return Err(Refusal::TooFew);
-        }
-        self.bits.try_set(self.position, bit)?;
-        self.position += 1;
-        Ok(())
+        self.number(O::BIG, 1, u8::from(bit))
     }
 
     /// Writes the bits of a slice, of any words and order. Costs by words where the orders are the
@@ -256,9 +294,10 @@ impl<'a, T: Register, O: Order> BitWriter<'a, T, O> {
         if source.len() > self.remaining() {
             return Err(Refusal::TooFew);
         }
-        let end = self.position + source.len();
-        self.bits.part_mut(self.position..end)?.copy_from(source)?;
-        self.position = end;
+        let place = self.position();
+        let end = place + source.len();
+        self.bits.part_mut(place..end)?.copy_from(source)?;
+        self.stand_at(end);
         Ok(())
     }
 
@@ -368,6 +407,26 @@ impl<'a, T: Register, O: Order> BitWriter<'a, T, O> {
     #[inline(always)]
     #[allow(clippy::inline_always)]
     fn number<N: Number>(&mut self, big: bool, count: usize, number: N) -> Result<(), Refusal> {
+        let turned = |digits: u64| {
+            if O::BIG == big {
+                digits
+            } else {
+                digits.reverse_bits() >> (64 - count)
+            }
+        };
+        // (some, and fewer than 64 are free: no number of 64 bits wants a second test)
+        if count.wrapping_sub(1) < self.free && (N::WIDTH == 64 || count <= N::WIDTH) {
+            let digits = turned(number.digits(count).ok_or(Refusal::TooLarge)?);
+            let up = if O::BIG {
+                self.free - count
+            } else {
+                64 - self.free
+            };
+            self.window = self.window & !(!(!0 << count) << up) | digits << up;
+            self.free -= count;
+            T::rejoin(self.bits.place_mut().0, self.word, O::BIG, |_| self.window);
+            return Ok(());
+        }
         if count > N::WIDTH {
             return Err(Refusal::TooWide);
         }
@@ -375,25 +434,63 @@ impl<'a, T: Register, O: Order> BitWriter<'a, T, O> {
             return Err(Refusal::TooFew);
         }
         let digits = number.digits(count).ok_or(Refusal::TooLarge)?;
-        if count > 0 {
-            let digits = if O::BIG == big {
-                digits
-            } else {
-                digits.reverse_bits() >> (64 - count)
-            };
-            let place = self.position;
-            let (words, start) = self.bits.place_mut();
-            granted(T::store(
-                O::CODE,
-                O::BIG,
-                words,
-                start + place,
-                count,
-                digits,
-            ));
-            self.position += count;
+        if count == 0 {
+            return Ok(());
+        }
+        if self.free > 0 {
+            self.cross(count, turned(digits));
+        } else {
+            self.begin(count, turned(digits));
         }
         Ok(())
+    }
+
+    /// Puts digits, the first by the order, in the bits of the window that are free and, since these
+    /// are fewer, in those behind it, which are there.
+    #[inline]
+    fn cross(&mut self, count: usize, digits: u64) {
+        let (free, rest) = (self.free, count - self.free);
+        let (first, behind) = if O::BIG {
+            (
+                self.window & !0 << free | digits >> rest,
+                digits << (64 - rest),
+            )
+        } else {
+            (
+                self.window & !(!0 << (64 - free)) | digits << (64 - free),
+                digits >> free,
+            )
+        };
+        let len = self.bits.len();
+        let (words, start) = self.bits.place_mut();
+        T::rejoin(words, self.word, O::BIG, |_| first);
+        let word = self.word + 64 / T::BITS;
+        if start + len - self.until >= 64 {
+            let kept = if O::BIG { !0 >> rest } else { !0 << rest };
+            let new = |window| window & kept | behind;
+            if let Some(window) = T::rejoin(words, word, O::BIG, new) {
+                (self.window, self.word, self.free) = (window, word, 64 - rest);
+                self.until += 64;
+                return;
+            }
+        }
+        let behind = if O::BIG {
+            behind >> (64 - rest)
+        } else {
+            behind
+        };
+        self.free = 0;
+        self.begin(rest, behind);
+    }
+
+    /// Puts digits, the first by the order, in the next bits, which are there. None of them is free.
+    #[inline]
+    fn begin(&mut self, count: usize, digits: u64) {
+        let (place, len) = (self.until, self.bits.len());
+        let (words, start) = self.bits.place_mut();
+        let end = start + len;
+        (self.window, self.word, self.free) = begun::<T, O>(words, place, end, (count, digits));
+        self.until += count + self.free;
     }
 
     /// Writes `count` bits that are `bit`, and one that is not. Costs by words.
@@ -417,7 +514,7 @@ impl<'a, T: Register, O: Order> BitWriter<'a, T, O> {
     /// ```
     #[inline]
     pub fn write_unary(&mut self, bit: bool, count: usize) -> Result<(), Refusal> {
-        self.put(|words, place, end| T::write_unary(O::CODE, words, place, end, bit, count))
+        self.ask(|words, place, end| T::write_unary(O::CODE, words, place, end, bit, count))
     }
 
     /// Writes a number's Exp-Golomb code: `ue(v)` of ITU-T H.264 and H.265, or for a signed type
@@ -448,6 +545,6 @@ impl<'a, T: Register, O: Order> BitWriter<'a, T, O> {
     /// ```
     #[inline]
     pub fn write_exp_golomb<N: Number>(&mut self, number: N) -> Result<(), Refusal> {
-        self.put(|words, place, end| number.write_code(O::CODE, words, place, end))
+        self.ask(|words, place, end| number.write_code(O::CODE, words, place, end))
     }
 }

@@ -13,6 +13,7 @@ for_all_memories!(numbers_are_written, 44);
 for_all_memories!(runs_and_codes_are_written, 45);
 for_all_memories!(bits_and_slices_are_written, 46);
 for_all_memories!(reads_take_turns, 47);
+for_all_memories!(writes_take_turns, 48);
 
 mod cases {
     use crate::common::{Layout, Random, Word, bits_of, checked, with_any_other};
@@ -439,6 +440,80 @@ mod cases {
                 assert_eq!(writer.write_slice(&slice), target.put(&list[from..end]));
             }
         });
+    }
+
+    /// A write of a number.
+    fn puts<T: Word, O: Layout, N: Plain>(
+        random: &mut Random,
+        writer: &mut BitWriter<'_, T, O>,
+        target: &mut Target,
+    ) {
+        let (count, big) = (random.below(N::DIGITS + 1), random.bit());
+        let number = any_number::<N>(random);
+        let digits = digits_of(number.into(), count, big);
+        let expected = if count > target.left().len() {
+            Err(Refusal::TooFew)
+        } else if number_of::<N>(&digits, big) == number {
+            target.put(&digits)
+        } else {
+            Err(Refusal::TooLarge)
+        };
+        let answer = if big {
+            writer.write_be(count, number)
+        } else {
+            writer.write_le(count, number)
+        };
+        assert_eq!(answer, expected);
+    }
+
+    pub fn writes_take_turns<T: Word, O: Layout>(random: &mut Random) {
+        let mut words: Vec<T> = (0..random.below(24))
+            .map(|_| T::of(random.number()))
+            .collect();
+        let bits = bits_of::<T, O>(&words);
+        let range = random.below(bits.len() + 1)..bits.len() - random.below(bits.len().min(9) + 1);
+        let range = range.start.min(range.end)..range.end;
+        let mut target = Target {
+            bits,
+            range: range.clone(),
+            len: 0,
+        };
+        let slice = BitSliceMut::<T, O>::new(&mut words, range).unwrap();
+        let mut writer = BitWriter::new(slice);
+        let bytes: Vec<u8> = (0..random.below(11))
+            .map(|_| u8::of(random.number()))
+            .collect();
+        for _ in 0..random.below(12) {
+            match random.below(16) {
+                0 | 1 => puts::<T, O, u8>(random, &mut writer, &mut target),
+                2 => puts::<T, O, i16>(random, &mut writer, &mut target),
+                3 | 4 => puts::<T, O, u32>(random, &mut writer, &mut target),
+                5 => puts::<T, O, i64>(random, &mut writer, &mut target),
+                6 | 7 => puts::<T, O, u64>(random, &mut writer, &mut target),
+                8..12 => {
+                    let bit = random.bit();
+                    assert_eq!(writer.write_bit(bit), target.put(&[bit]));
+                }
+                12 => {
+                    let (bit, count) = (random.bit(), random.below(12));
+                    let mut list = vec![bit; count];
+                    list.push(!bit);
+                    assert_eq!(writer.write_unary(bit, count), target.put(&list));
+                }
+                13 => {
+                    let list = bits_of::<u8, O>(&bytes);
+                    assert_eq!(writer.write_bytes(&bytes), target.put(&list));
+                }
+                _ => {
+                    let count = random.below(90);
+                    let left = target.left().get(..count).map(<[_]>::to_vec);
+                    let expected = left.map_or(Err(Refusal::TooFew), |left| target.put(&left));
+                    assert_eq!(writer.skip(count), expected);
+                }
+            }
+            target.check(&writer);
+        }
+        assert_eq!(bits_of::<T, O>(&words), target.bits);
     }
 
     pub fn bits_and_slices_are_written<T: Word, O: Layout>(random: &mut Random) {

@@ -94,6 +94,26 @@ pub fn copy_shifted<const RISING: bool>(
     copy_plain::<RISING>(source, from + done, target, to + done, count - done);
 }
 
+/// Bytes to a place, the first bit of a byte the highest.
+#[inline(never)]
+pub fn copy_bytes(source: &[u8], target: &mut [u8], place: usize) {
+    let (target, down) = (&mut target[place / 8..], place % 8);
+    if down == 0 {
+        target[..source.len()].copy_from_slice(source);
+        return;
+    }
+    let Some(last) = source.len().checked_sub(1) else {
+        return;
+    };
+    let up = 8 - down;
+    target[0] = target[0] & (!0 << up) | source[0] >> down;
+    let whole = &mut target[1..=last];
+    for (byte, (one, next)) in whole.iter_mut().zip(source.iter().zip(&source[1..])) {
+        *byte = one << up | next >> down;
+    }
+    target[last + 1] = target[last + 1] & (!0 >> down) | source[last] << up;
+}
+
 /// A bit, and `None` past the end.
 pub fn get(words: &[u64], place: usize) -> Option<bool> {
     Some(words.get(place / 64)? >> (place % 64) & 1 == 1)

@@ -414,6 +414,43 @@ fn compare_writes<const BITS: usize>() {
     assert_eq!(target, other);
 }
 
+/// Bytes in one call, to a place that is a multiple of 8 and to one that is not; and words that a
+/// vector is extended by.
+fn compare_bytes(source: &[u64]) {
+    let bytes: Vec<u8> = source.iter().flat_map(|word| word.to_be_bytes()).collect();
+    let (mut target, mut other) = (vec![0_u8; WORDS * 8 + 1], vec![0_u8; WORDS * 8 + 1]);
+    for (name, place) in [("write-bytes", 8), ("write-bytes-shifted", 3)] {
+        compare(
+            name,
+            WORDS,
+            || {
+                let bits = BitSlice::<_, Msb0>::from_slice_mut(black_box(&mut target[..]));
+                let mut writer = BitWriter::new(bits);
+                writer.skip(place).unwrap();
+                writer.write_bytes(black_box(&bytes)).unwrap();
+            },
+            || by_hand::copy_bytes(black_box(&bytes), black_box(&mut other), place),
+        );
+        assert_eq!(target, other);
+    }
+    let (mut ours, mut theirs) = (BitVec::<u8, Msb0>::new(), Vec::new());
+    compare(
+        "extend-bytes",
+        WORDS,
+        || {
+            let bits = black_box(&mut ours);
+            bits.clear();
+            bits.extend(black_box(&bytes).iter().copied());
+        },
+        || {
+            let words = black_box(&mut theirs);
+            words.clear();
+            words.extend(black_box(&bytes).iter().copied());
+        },
+    );
+    assert_eq!(ours.as_raw_slice(), theirs);
+}
+
 fn main() {
     let source = words();
     compare_vectors();
@@ -421,6 +458,7 @@ fn main() {
     compare_reads::<1>(&source);
     compare_writes::<13>();
     compare_writes::<1>();
+    compare_bytes(&source);
     compare_iterators(&source);
     compare_sets(&source);
     compare_copies(&source);
