@@ -998,11 +998,21 @@ where
     }
 }
 
-/// All bits of words behind the last.
+/// All bits of words behind the last, up to 64 words by one call.
 impl<T: Register, O: Order> Extend<T> for BitVec<T, O> {
     fn extend<I: IntoIterator<Item = T>>(&mut self, words: I) {
-        for word in words {
-            self.extend_from_raw_slice(&[word]);
+        let mut words = words.into_iter();
+        loop {
+            // (some at a time, since each call has a cost of its own)
+            let (mut block, mut count) = ([T::ZERO; 64], 0);
+            for (to, word) in block.iter_mut().zip(&mut words) {
+                *to = word;
+                count += 1;
+            }
+            self.extend_from_raw_slice(&block[..count]);
+            if count < block.len() {
+                return;
+            }
         }
     }
 }

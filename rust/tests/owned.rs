@@ -519,6 +519,21 @@ fn what_is_refused_is_said_and_changes_nothing() {
 }
 
 #[test]
+fn many_words_extend_a_vector() {
+    for count in [0, 1, 63, 64, 65, 128, 200] {
+        let words: Vec<u8> = (0..count).collect();
+        let mut bits = bitvec![u8, Msb0; 1, 0];
+        bits.extend(words.iter().copied());
+        assert_eq!(bits.len(), 2 + 8 * words.len());
+        assert_eq!(bits.get(..2).unwrap(), [true, false]);
+        assert_eq!(
+            bits.get(2..).unwrap(),
+            BitSlice::<u8, Msb0>::from_slice(&words)
+        );
+    }
+}
+
+#[test]
 fn macros_write_bits_down() {
     const TWO: usize = 2;
     assert_eq!(
