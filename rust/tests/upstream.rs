@@ -417,6 +417,23 @@ mod slices_gone_over {
     }
 
     #[test]
+    #[allow(clippy::op_ref)] // (these are the operators that are asked)
+    fn bit_ref() {
+        let bits = bits![0, 1];
+        let (zero, one) = (bits.get(0).unwrap(), bits.get(1).unwrap());
+        assert!(one == true && one == &true && false == zero && &false == zero);
+        assert!(zero != one && zero < one && one > false && true > zero && !zero);
+        assert_eq!(format!("{one:?} {zero}"), "true false");
+        assert_eq!([one, zero, one].iter().max(), Some(&true.into()));
+        let mut array = bitarr![0, 1];
+        let mut lent = array.get_mut(0).unwrap();
+        assert!(lent == zero && !*lent);
+        *lent = true;
+        assert!(lent == one && lent != zero && bool::from(lent));
+        assert_eq!(array.count_ones(), 2);
+    }
+
+    #[test]
     fn into_iterator() {
         let mut ones = 0;
         for bit in bits![1, 0, 1] {
