@@ -1,5 +1,5 @@
-//! The examples: packet headers, parameters of H.264 streams, pages and keys, codes, cells, and
-//! recipes of the README and the guide.
+//! The examples: headers of packets and of TCP segments, parameters of H.264 streams, pages and keys,
+//! codes, cells, and recipes of the README and the guide.
 #![tactic(auto)]
 
 #[cfg(test)]
@@ -20,5 +20,7 @@ mod seats;
 mod sps;
 #[cfg(test)]
 mod sps_x264;
+#[cfg(test)]
+mod tcp;
 #[cfg(test)]
 mod two_spans;
