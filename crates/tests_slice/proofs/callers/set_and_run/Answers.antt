@@ -20,6 +20,6 @@ returns g c =
     (sym (length-map c.args.memory.now number)) c.requires.fits in
     run-more number bits at span_of (span ∷ []) old _ _ _ _ _ _
     (set-one number bits at span_of span old _ i bit fits c.requires.inside
-    (set-as bits at _ (span_of span) _ old _ i bit c.set.ensures.3
+    (set-as bits at _ (span_of span) _ old _ i bit c.set.ensures.bits.3
     c.new_unchecked-slice.ensures.span (ap (map number) c.new_unchecked-slice.ensures.memory)))
     (run-from number bits at span_of (span ∷ []) _ _ _ _ _ c.run.ensures (search rules))

@@ -6,6 +6,6 @@ pub returns-clause-others : goal.returns-clause-others
 returns-clause-others g c = λ place out.
     let width = g.R.BitRegister.BITS in
     let is = c.new_unchecked-slice.ensures.span in
-    let first = c.set.ensures.3.others place (subst (λ (s : Span). ¬ Covers width s (pos place)) (sym is) out) in
-    let second = c.set-2.ensures.3.others place (subst (λ (s : Span). ¬ Covers width s (pos place)) (sym (c.set.ensures.1 ∙ is)) out) in
+    let first = c.set.ensures.bits.3.others place (subst (λ (s : Span). ¬ Covers width s (pos place)) (sym is) out) in
+    let second = c.set-2.ensures.bits.3.others place (subst (λ (s : Span). ¬ Covers width s (pos place)) (sym (c.set.ensures.bits.1 ∙ is)) out) in
     search (rules, first, second)
