@@ -138,8 +138,8 @@ mod cases {
         let (mut words, range, model) = case::<T, O>(random);
         let bits = BitSlice::<T, O>::new(&words, range.clone()).unwrap();
         same_from_both_ends(random, bits.iter().by_vals(), model.iter().copied());
-        let lent = bits.iter().map(|bit| *bit);
-        same_from_both_ends(random, lent, model.iter().copied());
+        let behind = bits.iter().map(|bit| *bit);
+        same_from_both_ends(random, behind, model.iter().copied());
         same_from_both_ends(random, bits.iter().by_refs(), model.iter());
         let proxies = model.iter().map(|bit| BitRef::from(*bit));
         same_from_both_ends(random, bits.iter(), proxies);
