@@ -11,7 +11,7 @@ use Rattle.bitvec.proofs.MemoryLemmas.{place_parts}
 use Rattle.bitvec.proofs.PlaceLemmas.{words_met-none, words_met-some}
 use Rattle.bitvec_call.specs.Range.{place_ptr}
 
--- a place before the end of so many words lies in one of them
+-- a place before the end of some words lies in one of them
 pub word_below : (bits words place : ℕ) → 0 < bits → place < words * bits → place / bits < words
 word_below bits words place some h =
     elim (cases_lt (place / bits) words) [
@@ -25,7 +25,7 @@ place_before bits words place some h =
     let row : (place / bits + 1) * bits ≤ words * bits = mul-le-mul_right bits (omega arith) in
     omega (arith, row, div-add-mod' place bits)
 
--- a place that is not behind so many words lies in one of them, or right behind the last
+-- a place that is not behind some words lies in one of them, or right behind the last
 pub word_most : (bits words place : ℕ) → 0 < bits → place ≤ words * bits → place / bits ≤ words
 word_most bits words place some h =
     elim (cases_lt words (place / bits)) [

@@ -98,6 +98,6 @@ digits_refused count there left IsShort TooManyDigits few same fails lacks is = 
   | inr enough ↦ ((λ e. absurd (omega (arith, e))), inr (few, inr (omega (arith, enough, same), inl ((λ short. absurd (fails (enough, short))), refl))))
 ]
 
--- so many bits and one that is the other
+-- equal bits and one that is the other
 pub length-unary : (bit : Bool) (count : ℕ) → length (replicate count bit ++ not bit ∷ []) ≡ count + 1
 length-unary bit count = length-append (replicate count bit) (not bit ∷ []) ∙ ap (λ n. n + 1) (length-replicate count bit)

@@ -19,11 +19,11 @@ pub enum Edit {
     Invert,
     /// Puts the bits in the opposite order.
     Reverse,
-    /// Moves each bit so many places towards the first, and zeros in behind the last.
+    /// Moves each bit this many places towards the first, and zeros in behind the last.
     ShiftLeft(usize),
-    /// Moves each bit so many places towards the last, and zeros in before the first.
+    /// Moves each bit this many places towards the last, and zeros in before the first.
     ShiftRight(usize),
-    /// Puts so many of the first bits behind the others.
+    /// Puts this many of the first bits behind the others.
     RotateLeft(usize),
 }
 

@@ -157,7 +157,7 @@ pub fn previous<R: BitRegister>(
     status
 }
 
-// The first index in a range from an index on, and a multiple of a number, from which on so many of
+// The first index in a range from an index on, and a multiple of a number, from which on `zeros` of
 // its bits are zero, and how many bits it has where there is none.
 fn find_zeros_from_in<R: BitRegister, O: BitOrder<R>>(
     memory: &[R],

@@ -1,4 +1,4 @@
-//! Numbers of so many digits that are read one behind the other.
+//! Numbers of a given number of digits that are read one behind the other.
 
 ghost use Rattle.std.specs.Prelude.{◌≡◌, ◌+◌, ◌-◌, ◌*◌, ◌<◌, ◌≤◌, MatchResult, length, map, take};
 ghost use Rattle.bitvec.specs.Place.{region_max_bits};

@@ -131,7 +131,7 @@ pub fn last<R: BitRegister>(
     status
 }
 
-// The first index in a range from which on so many of its bits are zero, and how many bits it has
+// The first index in a range from which on `zeros` of its bits are zero, and how many bits it has
 // where there is none.
 fn zeros_in<R: BitRegister, O: BitOrder<R>>(
     memory: &[R],

@@ -1,4 +1,4 @@
-//! Numbers of so many digits that are written one behind the other.
+//! Numbers of a given number of digits that are written one behind the other.
 
 ghost use Rattle.std.specs.Prelude.{◌≡◌, ◌+◌, ◌-◌, ◌*◌, ◌^◌, ◌<◌, ◌≤◌, ◌↔◌, Err, IsOk, IfOk, IfErr};
 ghost use Rattle.std.specs.Prelude.{length, map};

@@ -13,7 +13,7 @@ use crate::stream::writer_between;
 use bitvec::mem::BitRegister;
 use bitvec::order::{BitOrder, Lsb0, Msb0};
 
-// Writes so many bits that are `bit`, and one that is not, from a place on, and moves the place
+// Writes a number of bits that are `bit`, and one that is not, from a place on, and moves the place
 // behind them.
 fn write_unary_in<R: BitRegister, O: BitOrder<R>>(
     memory: &mut [R],

@@ -1,4 +1,4 @@
--- Numbers of lists that lie in one word or in two, by the words joined. `bits` is the width of a word.
+-- Numbers of lists that lie in one word, in two, or in four bytes, by the words joined. `bits` is the width of a word.
 use Rattle.std.proofs.Common.{◌≡◌, ℕ, ◌+◌, ◌-◌, ◌*◌, ◌/◌, ◌%◌, ◌^◌, ◌<◌, ◌≤◌, ◌&&◌, ◌||◌, Bool, true, false, not, nat_lt, List, length, refl, sym, ap, ◌∙◌, inl, inr, arith}
 use Rattle.std.proofs.Math.Bool.{or-false}
 use Rattle.std.proofs.lemmas.Bool.{cases_lt, lt-ltb, le-ltb}
@@ -8,7 +8,7 @@ use Rattle.bitvec.specs.Order.{number_of}
 use Rattle.bitvec.specs.Span.{element}
 use Rattle.bitvec.proofs.DigitLemmas.{digit_above}
 use Rattle.bitvec.proofs.IndexLemmas.{number_of-from_digits}
-use Rattle.bitvec_slice.specs.Field.{IsSequential, digit_place, field_number}
+use Rattle.bitvec_slice.specs.Field.{IsSequential, position_of, digit_place, field_number}
 use Rattle.bitvec_slice.specs.Words.{merged_digit}
 use Rattle.bitvec_slice.proofs.FieldLemmas.{small_from_digits, digit_places}
 
@@ -93,16 +93,78 @@ module _ (bits head len : ℕ) (at : ℕ → ℕ) (bit : ℕ → Bool) where
       ]
   two_falling true e law a b r by first second in_head long over is joined j h = absurd cc
 
--- the low digits of a word that has a list's elements in their order are the list's number
-pub near_number : (rises : Bool) (bits head len : ℕ) (xs : List Bool) (w n : ℕ) → 0 < bits → head < bits → length xs ≡ len → len ≤ bits → n < 2 ^ bits
-    → ((p : ℕ) → p < bits → digit n p ≡ (nat_lt p len && digit w p)) → ((j : ℕ) → j < len → digit w (digit_place (not rises) bits rises head len j) ≡ element xs j)
+-- the elements of a list in the bytes that it lies in, four side by side
+module _ (head len : ℕ) (at : ℕ → ℕ) (bit : ℕ → Bool) where
+  -- an element of byte k, at its position in the byte
+  of_byte : (rises : Bool) → IsSequential 8 rises at → (k w q : ℕ) → HasElements 8 head len at bit k w → (j : ℕ) → j < len
+      → k * 8 ≤ head + j → head + j < k * 8 + 8 → q ≡ position_of 8 rises (head + j - k * 8) → digit w q ≡ bit j
+  of_byte rises law k w q has j h low high e =
+      let rest : head + j - k * 8 < 8 = omega arith in
+      let place : head + j ≡ k * 8 + (head + j - k * 8) = omega arith in
+      let word : (head + j) / 8 ≡ k = ap (λ n. n / 8) place ∙ div-mul-add k 8 (head + j - k * 8) rest in
+      let index : (head + j) % 8 ≡ head + j - k * 8 = ap (λ n. n % 8) place ∙ mod-mul-add k 8 (head + j - k * 8) rest in
+      ap (digit w) (e ∙ sym (law.positions (head + j - k * 8) rest)) ∙ ap (λ i. digit w (at i)) (sym index) ∙ has j h word
+
+  -- n has the digits of four bytes, those of `a` lowest, and r those of n moved down
+  module _ (a b c d n r down : ℕ) (of_a : (p : ℕ) → p < 8 → digit n p ≡ digit a p) (of_b : (p : ℕ) → p < 8 → digit n (8 + p) ≡ digit b p)
+      (of_c : (p : ℕ) → p < 8 → digit n (16 + p) ≡ digit c p) (of_d : (p : ℕ) → p < 8 → digit n (24 + p) ≡ digit d p)
+      (moved : (p : ℕ) → down + p < 32 → digit r p ≡ digit n (down + p)) where
+    -- digit q of n, which is digit p of a byte
+    from_b : (q p : ℕ) → q ≡ 8 + p → p < 8 → digit n q ≡ digit b p
+    from_b q p e h = ap (digit n) e ∙ of_b p h
+
+    from_c : (q p : ℕ) → q ≡ 16 + p → p < 8 → digit n q ≡ digit c p
+    from_c q p e h = ap (digit n) e ∙ of_c p h
+
+    from_d : (q p : ℕ) → q ≡ 24 + p → p < 8 → digit n q ≡ digit d p
+    from_d q p e h = ap (digit n) e ∙ of_d p h
+
+    pub four_rising : (rises : Bool) → rises ≡ true → IsSequential 8 rises at → HasElements 8 head len at bit 0 a → HasElements 8 head len at bit 1 b
+        → HasElements 8 head len at bit 2 c → HasElements 8 head len at bit 3 d → head + len ≤ 32 → down ≡ head → (j : ℕ) → j < len
+        → digit r (digit_place (not rises) 8 rises head len j) ≡ bit j
+    four_rising true e law first second third last within is j h =
+        let place : down + j ≡ head + j = omega arith in
+        moved j (omega arith) ∙ ap (digit n) place
+        ∙ elim (cases_lt (head + j) 8) [
+          | inl in_a ↦ (of_a (head + j) in_a ∙ of_byte true law 0 a (head + j) first j h (omega arith) (omega arith) (omega arith))
+          | inr past_a ↦ elim (cases_lt (head + j) 16) [
+            | inl in_b ↦ (from_b (head + j) (head + j - 8) (omega arith) (omega arith) ∙ of_byte true law 1 b (head + j - 8) second j h (omega arith) (omega arith) (omega arith))
+            | inr past_b ↦ elim (cases_lt (head + j) 24) [
+              | inl in_c ↦ (from_c (head + j) (head + j - 16) (omega arith) (omega arith) ∙ of_byte true law 2 c (head + j - 16) third j h (omega arith) (omega arith) (omega arith))
+              | inr past_c ↦ (from_d (head + j) (head + j - 24) (omega arith) (omega arith) ∙ of_byte true law 3 d (head + j - 24) last j h (omega arith) (omega arith) (omega arith))
+            ]
+          ]
+        ]
+    four_rising false e law first second third last within is j h = absurd cc
+
+    pub four_falling : (rises : Bool) → rises ≡ false → IsSequential 8 rises at → HasElements 8 head len at bit 0 d → HasElements 8 head len at bit 1 c
+        → HasElements 8 head len at bit 2 b → HasElements 8 head len at bit 3 a → head + len ≤ 32 → down ≡ 32 - (head + len) → (j : ℕ) → j < len
+        → digit r (digit_place (not rises) 8 rises head len j) ≡ bit j
+    four_falling false e law first second third last within is j h =
+        let place : down + (len - 1 - j) ≡ 31 - (head + j) = omega arith in
+        moved (len - 1 - j) (omega arith) ∙ ap (digit n) place
+        ∙ elim (cases_lt (head + j) 8) [
+          | inl in_d ↦ (from_d (31 - (head + j)) (7 - (head + j)) (omega arith) (omega arith) ∙ of_byte false law 0 d (7 - (head + j)) first j h (omega arith) (omega arith) (omega arith))
+          | inr past_d ↦ elim (cases_lt (head + j) 16) [
+            | inl in_c ↦ (from_c (31 - (head + j)) (15 - (head + j)) (omega arith) (omega arith) ∙ of_byte false law 1 c (15 - (head + j)) second j h (omega arith) (omega arith) (omega arith))
+            | inr past_c ↦ elim (cases_lt (head + j) 24) [
+              | inl in_b ↦ (from_b (31 - (head + j)) (23 - (head + j)) (omega arith) (omega arith) ∙ of_byte false law 2 b (23 - (head + j)) third j h (omega arith) (omega arith) (omega arith))
+              | inr past_b ↦ (of_a (31 - (head + j)) (omega arith) ∙ of_byte false law 3 a (31 - (head + j)) last j h (omega arith) (omega arith) (omega arith))
+            ]
+          ]
+        ]
+    four_falling true e law first second third last within is j h = absurd cc
+
+-- the low digits of a number that has a list's elements in their order are the list's number
+pub near_number : (rises : Bool) (bits most head len : ℕ) (xs : List Bool) (w n : ℕ) → 0 < bits → head < bits → length xs ≡ len → len ≤ most → n < 2 ^ most
+    → ((p : ℕ) → p < most → digit n p ≡ (nat_lt p len && digit w p)) → ((j : ℕ) → j < len → digit w (digit_place (not rises) bits rises head len j) ≡ element xs j)
     → (n < 2 ^ len) × (n ≡ field_number (not rises) bits rises head xs)
-near_number rises bits head len xs w n some in_head long near small cut has =
-    let past : (p : ℕ) → len ≤ p → digit n p ≡ false = λ p h. elim (cases_lt p bits) [
+near_number rises bits most head len xs w n some in_head long near small cut has =
+    let past : (p : ℕ) → len ≤ p → digit n p ≡ false = λ p h. elim (cases_lt p most) [
       | inl below ↦ cut p below ∙ rw (le-ltb p len h) refl
-      | inr above ↦ digit_above n bits p small above
+      | inr above ↦ digit_above n most p small above
     ] in
-    let fewer : n < 2 ^ len = small_from_digits n bits len small past in
+    let fewer : n < 2 ^ len = small_from_digits n most len small past in
     let law = digit_places bits head len some in_head (not rises) rises in
     let each : (j : ℕ) → j < len → digit n (digit_place (not rises) bits rises head len j) ≡ element xs j = λ j h.
     let below : digit_place (not rises) bits rises head len j < len = law.below j h in

@@ -1,5 +1,5 @@
 -- Numbers in lists of bits, by the words' parts.
-use Rattle.std.proofs.Common.{◌≡◌, ℕ, ◌+◌, ◌-◌, ◌*◌, ◌/◌, ◌%◌, ◌^◌, ◌<◌, ◌≤◌, ◌==◌, ◌&&◌, ◌||◌, Bool, true, false, nat_lt, if◌then◌else◌, List, length, refl, sym, ap, subst, ◌∙◌, inl, inr, arith}
+use Rattle.std.proofs.Common.{◌≡◌, ℕ, ◌+◌, ◌-◌, ◌*◌, ◌/◌, ◌%◌, ◌^◌, ◌<◌, ◌≤◌, ◌==◌, ◌&&◌, ◌||◌, Bool, true, false, nat_lt, List, length, refl, sym, ap, subst, ◌∙◌, inl, inr, arith}
 use Rattle.std.specs.Prelude.{Option, Some, None, IsSome, IsNone}
 use Rattle.std.proofs.lemmas.Bool.{cases_eq, cases_lt, cases_order, lt-ltb, le-ltb, eq-eqb, ne_eqb}
 use Rattle.std.proofs.lemmas.Nat.{div-add-mod', mod_below, div-mul-add, pow_pos, le-div}
@@ -278,7 +278,7 @@ all_words big rises bits head xs n most some in_head small digits past =
     number_of-from_digits (length xs) (digit_place big bits rises head (length xs)) (element xs) n (digit_places bits head (length xs) some in_head big rises) (small_from_digits n most (length xs) small past)
     (λ j h. digits j h ∙ rw (lt-ltb ((head + j) / bits) (words_met bits head (length xs)) (met_word bits head (length xs) j some h)) refl)
 
--- the number of a list that meets one word or two
+-- the number of a list that meets one word, two or three
 module _ (big rises : Bool) (bits head : ℕ) (xs : List Bool) (most : ℕ) (some : 0 < bits) (in_head : head < bits) where
   first_word : (a j : ℕ) → j < length xs → IsPlacedPart big bits rises head (length xs) 0 (element xs) a
       → digit a (digit_place big bits rises head (length xs) j) ≡ (nat_lt ((head + j) / bits) 1 && element xs j)
@@ -301,6 +301,24 @@ module _ (big rises : Bool) (bits head : ℕ) (xs : List Bool) (most : ℕ) (som
       (λ q h. elim (cases_lt q most) [
         | inr above ↦ digit_above n most q small above
         | inl below ↦ joined q below ∙ rw (first.past q h, second.past q h) refl
+      ])
+
+  pub three_words : (a b c m n : ℕ) → n < 2 ^ most → length xs ≤ most
+      → ((q : ℕ) → q < most → digit m q ≡ (digit a q || digit b q)) → ((q : ℕ) → q < most → digit n q ≡ (digit m q || digit c q)) → words_met bits head (length xs) ≡ 3
+      → IsPlacedPart big bits rises head (length xs) 0 (element xs) a → IsPlacedPart big bits rises head (length xs) 1 (element xs) b → IsPlacedPart big bits rises head (length xs) 2 (element xs) c
+      → n ≡ field_number big bits rises head xs
+  three_words a b c m n small long joined more three first second third =
+      let law = digit_places bits head (length xs) some in_head big rises in
+      all_words big rises bits head xs n most some in_head small
+      (λ j h.
+      let place = digit_place big bits rises head (length xs) j in
+      let inside : digit_place big bits rises head (length xs) j < most = omega (arith, law.below j h, long) in
+      let two = more_words ((head + j) / bits) 1 (element xs j) _ _ _ (first_word a j h first) (second.digits j h) (joined place inside) in
+      more_words ((head + j) / bits) 2 (element xs j) _ _ _ two (third.digits j h) (more place inside)
+      ∙ ap (λ m. nat_lt ((head + j) / bits) m && element xs j) (sym three))
+      (λ q h. elim (cases_lt q most) [
+        | inr above ↦ digit_above n most q small above
+        | inl below ↦ more q below ∙ rw (joined q below, first.past q h, second.past q h, third.past q h) refl
       ])
 
 -- ---- the digits of a list's number

@@ -3,10 +3,10 @@ use Rattle.std.proofs.Common.{◌≡◌, ℕ, zero, suc, ◌+◌, ◌-◌, ◌*�
 use Rattle.std.specs.List.{slice_get}
 use Rattle.std.proofs.Math.Seq.{drop-nil}
 use Rattle.std.proofs.lemmas.Bool.{cases_lt}
-use Rattle.std.proofs.lemmas.List.{drop-drop, take-take, take_all, take-append-le, take-append-drop}
+use Rattle.std.proofs.lemmas.List.{drop-drop, drop-take, take-take, take_all, take-append-le, take-append-drop, length-take, nil_from_length}
 use Rattle.bitvec.specs.Memory.{tabulate}
-use Rattle.bitvec_slice.specs.Pieces.{windows_of}
-use Rattle.bitvec_slice.proofs.PieceLemmas.{windows_first, windows_last}
+use Rattle.bitvec_slice.specs.Pieces.{windows_of, chunks_of, rchunks_of}
+use Rattle.bitvec_slice.proofs.PieceLemmas.{windows_first, windows_last, chunks_first, rchunks_first, length-chunks_of, length-rchunks_of}
 
 -- the element behind the first n, and the element behind a list's front
 get_behind : {A : Type 0} (n : ℕ) (xs : List A) → slice_get (drop n xs) 0 ≡ slice_get xs n
@@ -91,4 +91,75 @@ windows_take n (suc k) xs some =
           sym (ap (windows_of n) (ap (λ m. take m rest) cut ∙ take-take (length xs - suc k) (length xs - 1) xs (omega arith)))
           ∙ windows_take n k rest some
           ∙ sym (ap (λ m. take m (windows_of n xs)) count ∙ ap (take (length before - k)) all ∙ take-append-le (length before - k) before (last ∷ []) (omega arith)))
+    ]
+
+-- the pieces of a list's rest, and of its front, by pieces from the front on
+no_chunks : (n : ℕ) (xs : List Bool) → length xs ≤ 0 → chunks_of n xs ≡ []
+no_chunks n xs none = nil_from_length (chunks_of n xs) (omega (arith, none, length-chunks_of n xs))
+
+pub chunks_drop : (n k : ℕ) (xs : List Bool) → 0 < n → chunks_of n (drop (k * n) xs) ≡ drop k (chunks_of n xs)
+chunks_drop n zero xs some = ap (λ m. chunks_of n (drop m xs)) (let start : 0 * n ≡ 0 = omega arith in start)
+chunks_drop n (suc k) xs some =
+    elim (cases_lt 0 (length xs)) [
+      | inr none ↦ no_chunks n (drop (suc k * n) xs) (omega (arith, none, length-drop (suc k * n) xs)) ∙ sym (ap (drop (suc k)) (no_chunks n xs none) ∙ drop-nil (suc k))
+      | inl more ↦ (
+          let step : n + k * n ≡ suc k * n = omega arith in
+          sym (ap (chunks_of n) (drop-drop (k * n) n xs ∙ ap (λ m. drop m xs) step))
+          ∙ chunks_drop n k (drop n xs) some
+          ∙ sym (ap (drop (suc k)) (chunks_first n xs (take n xs) (drop n xs) some more refl refl)))
+    ]
+
+pub chunks_take : (n k : ℕ) (xs : List Bool) → 0 < n → chunks_of n (take (k * n) xs) ≡ take k (chunks_of n xs)
+chunks_take n zero xs some = no_chunks n (take (0 * n) xs) (omega (arith, length-take (0 * n) xs))
+chunks_take n (suc k) xs some =
+    elim (cases_lt 0 (length xs)) [
+      | inr none ↦ no_chunks n (take (suc k * n) xs) (omega (arith, none, length-take (suc k * n) xs)) ∙ sym (ap (take (suc k)) (no_chunks n xs none))
+      | inl more ↦ (
+          let front : List Bool = take (suc k * n) xs in
+          let step : suc k * n ≡ n + k * n = omega arith in
+          let long : 0 < length (take (suc k * n) xs) = omega (arith, more, some, step, length-take (suc k * n) xs) in
+          let first = take-take n (suc k * n) xs (omega (arith, step)) in
+          let rest = ap (λ m. drop n (take m xs)) step ∙ drop-take n (k * n) xs in
+          chunks_first n front (take n xs) (take (k * n) (drop n xs)) some long (sym first) (sym rest)
+          ∙ ap (λ l. take n xs ∷ l) (chunks_take n k (drop n xs) some)
+          ∙ sym (ap (take (suc k)) (chunks_first n xs (take n xs) (drop n xs) some more refl refl)))
+    ]
+
+-- the same by pieces from the back on
+no_rchunks : (n : ℕ) (xs : List Bool) → length xs ≤ 0 → rchunks_of n xs ≡ []
+no_rchunks n xs none = nil_from_length (rchunks_of n xs) (omega (arith, none, length-rchunks_of n xs))
+
+pub rchunks_take : (n k : ℕ) (xs : List Bool) → 0 < n → rchunks_of n (take (length xs - k * n) xs) ≡ drop k (rchunks_of n xs)
+rchunks_take n zero xs some = ap (rchunks_of n) (take_all (length xs - 0 * n) xs (omega arith))
+rchunks_take n (suc k) xs some =
+    elim (cases_lt 0 (length xs)) [
+      | inr none ↦ no_rchunks n (take (length xs - suc k * n) xs) (omega (arith, none, length-take (length xs - suc k * n) xs)) ∙ sym (ap (drop (suc k)) (no_rchunks n xs none) ∙ drop-nil (suc k))
+      | inl more ↦ (
+          let rest : List Bool = take (length xs - n) xs in
+          let long : length (take (length xs - n) xs) ≡ length xs - n = length-take-le (length xs - n) xs (omega arith) in
+          let cut : length (take (length xs - n) xs) - k * n ≡ length xs - suc k * n = omega (arith, long) in
+          sym (ap (rchunks_of n) (ap (λ m. take m rest) cut ∙ take-take (length xs - suc k * n) (length xs - n) xs (omega arith)))
+          ∙ rchunks_take n k rest some
+          ∙ sym (ap (drop (suc k)) (rchunks_first n xs (drop (length xs - n) xs) rest some more refl refl)))
+    ]
+
+pub rchunks_drop : (n k : ℕ) (xs : List Bool) → 0 < n → rchunks_of n (drop (length xs - k * n) xs) ≡ take k (rchunks_of n xs)
+rchunks_drop n zero xs some = no_rchunks n (drop (length xs - 0 * n) xs) (omega (arith, length-drop (length xs - 0 * n) xs))
+rchunks_drop n (suc k) xs some =
+    elim (cases_lt 0 (length xs)) [
+      | inr none ↦ no_rchunks n (drop (length xs - suc k * n) xs) (omega (arith, none, length-drop (length xs - suc k * n) xs)) ∙ sym (ap (take (suc k)) (no_rchunks n xs none))
+      | inl more ↦ (
+          let cut : ℕ = length xs - suc k * n in
+          let back : List Bool = drop (length xs - suc k * n) xs in
+          let rest : List Bool = take (length xs - n) xs in
+          let step : suc k * n ≡ n + k * n = omega arith in
+          let back_long : length (drop (length xs - suc k * n) xs) ≡ length xs - (length xs - suc k * n) = length-drop (length xs - suc k * n) xs in
+          let rest_long : length (take (length xs - n) xs) ≡ length xs - n = length-take-le (length xs - n) xs (omega arith) in
+          let place : cut + (length back - n) ≡ length xs - n = omega (arith, back_long, step) in
+          let start : length rest - k * n ≡ cut = omega (arith, rest_long, step) in
+          let first = drop-drop (length back - n) cut xs ∙ ap (λ m. drop m xs) place in
+          let behind = ap (λ m. drop m rest) start ∙ ap (λ m. drop cut (take m xs)) (sym place) ∙ drop-take cut (length back - n) xs in
+          rchunks_first n back (drop (length xs - n) xs) (drop (length rest - k * n) rest) some (omega (arith, back_long, step, more, some)) (sym first) behind
+          ∙ ap (λ l. drop (length xs - n) xs ∷ l) (rchunks_drop n k rest some)
+          ∙ sym (ap (take (suc k)) (rchunks_first n xs (drop (length xs - n) xs) rest some more refl refl)))
     ]

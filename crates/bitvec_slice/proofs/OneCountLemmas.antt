@@ -28,7 +28,7 @@ counted_by p (x ∷ xs) =
     let first = sum_by-cons (λ y. if p y then 1 else 0) x xs in
     ap (count_below f) more ∙ omega (arith, count_split f 1 (length xs), rest, counted_by p xs, first)
 
--- so many times a one or a zero
+-- a one or a zero, n times
 times : (n : ℕ) (b : Bool) → n * (if b then 1 else 0) ≡ (if b then n else 0)
 times n true = omega arith
 times n false = omega arith

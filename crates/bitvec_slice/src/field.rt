@@ -6,7 +6,7 @@
 //! highest.
 
 ghost use Rattle.std.specs.Prelude.{◌≡◌, ℕ, ◌+◌, ◌-◌, ◌*◌, ◌<◌, ◌≤◌, ◌==◌, ◌&&◌, ◌^◌, ◌%◌};
-ghost use Rattle.std.specs.Prelude.{Bool, true, false, not, nat_lt};
+ghost use Rattle.std.specs.Prelude.{Bool, true, false, not, nat_lt, nat_abs, pos, ◌≤ℤ◌};
 ghost use Rattle.std.specs.Prelude.{length, refl};
 ghost use Rattle.bitvec.specs.BitSpan.{span_of, list_by, Becomes};
 ghost use Rattle.bitvec.specs.Digit.{digit};
@@ -254,6 +254,122 @@ fn load_near<R: BitRegister, O: Sequential<R>, N: BitRegister>(
     N::from_u128(digits.to_u128()).unwrap()
 }
 
+// Word `k` of a memory from a span's first word on, whole.
+#[inline(always)]
+fn word_from<R: BitRegister, O: BitOrder<R>>(span: BitSpan<R, O>, memory: &[R], k: usize) -> R
+    requires first { pos 0 ≤ℤ (span_of span).word }
+    requires there { nat_abs (span_of span).word + k < length memory.now }
+    ensures { HasElements R.BITS O.at_of (span_of span) k (R.number result) (element (list_by span
+        O.at_of memory.now)) }
+{
+    memory[span.address() as usize + k]
+}
+
+// The number of a word of 8 bits.
+#[inline(always)]
+fn byte<R: BitRegister>(word: R) -> u32
+    requires { R.BITS ≡ 8 }
+    ensures value { result ≡ R.number word }
+    ensures below { result < 256 }
+{
+    word.to_u128() as u32
+}
+
+// The number with the digits of four bytes side by side, those of `a` lowest.
+#[inline(always)]
+fn four_bytes<R: BitRegister>(a: R, b: R, c: R, d: R) -> u32
+    requires { R.BITS ≡ 8 }
+    ensures first { (p : ℕ) → p < 8 → digit result p ≡ digit (R.number a) p }
+    ensures second { (p : ℕ) → p < 8 → digit result (8 + p) ≡ digit (R.number b) p }
+    ensures third { (p : ℕ) → p < 8 → digit result (16 + p) ≡ digit (R.number c) p }
+    ensures last { (p : ℕ) → p < 8 → digit result (24 + p) ≡ digit (R.number d) p }
+{
+    let low = byte(a) + byte(b) * 0x100;
+    let high = byte(c) + byte(d) * 0x100;
+    low + high * 0x1_0000
+}
+
+// The digits of a span in their order, from the lowest on, where it lies in four bytes that the
+// memory has. Above them stands what lies beside them.
+#[inline(always)]
+fn load_four<R: BitRegister, O: Sequential<R>>(span: BitSpan<R, O>, memory: &[R]) -> u32
+    requires bytes { R.BITS ≡ 8 }
+    requires first { pos 0 ≤ℤ (span_of span).word }
+    requires there { nat_abs (span_of span).word + 4 ≤ length memory.now }
+    requires some { 0 < (span_of span).len }
+    requires few { (span_of span).head + (span_of span).len ≤ 32 }
+    ensures { (j : ℕ) → j < (span_of span).len → digit result
+        (digit_place (not O.RISES) R.BITS O.RISES (span_of span).head (span_of span).len j)
+        ≡ element (list_by span O.at_of memory.now) j }
+{
+    let first = word_from(span, memory, 0);
+    let second = word_from(span, memory, 1);
+    let third = word_from(span, memory, 2);
+    let last = word_from(span, memory, 3);
+    let head = span.head().into_inner();
+    if O::RISES {
+        return four_bytes(first, second, third, last).shr(head);
+    }
+    let end = head + span.len() as u8;
+    four_bytes(last, third, second, first).shr(32 - end)
+}
+
+// The number of such a span, which has its digits in their order.
+#[inline(always)]
+fn load_bytes<R: BitRegister, O: Sequential<R>, N: BitRegister>(
+    span: BitSpan<R, O>,
+    memory: &[R],
+) -> N
+    requires bytes { R.BITS ≡ 8 }
+    requires first { pos 0 ≤ℤ (span_of span).word }
+    requires there { nat_abs (span_of span).word + 4 ≤ length memory.now }
+    requires some { 0 < (span_of span).len }
+    requires few { (span_of span).head + (span_of span).len ≤ 32 }
+    requires small { (span_of span).len ≤ N.BITS }
+    ensures { N.number result ≡ field_number (not O.RISES) R.BITS O.RISES (span_of span).head
+        (list_by span O.at_of memory.now) }
+{
+    let digits = low_ones::<u32>(span.len()).and(load_four(span, memory));
+    N::from_u128(digits.to_u128()).unwrap()
+}
+
+// Whether a span of bytes lies in four that its memory has.
+#[inline(always)]
+fn in_four_bytes<R: BitRegister, O>(span: BitSpan<R, O>, memory: &[R]) -> bool
+    requires { Fits R.BITS (span_of span) (length memory.now) }
+    ensures bytes { result ≡ true → R.BITS ≡ 8 }
+    ensures there { result ≡ true → nat_abs (span_of span).word + 4 ≤ length memory.now }
+    ensures few { result ≡ true → (span_of span).head + (span_of span).len ≤ 32 }
+{
+    R::BITS == 8
+        && memory.len() - span.address() as usize >= 4
+        && usize::from(span.head().into_inner()) + span.len() <= 32
+}
+
+// The number of a span that meets two words or three, as `load` gives it.
+#[inline(always)]
+fn load_few<R: BitRegister, O: Sequential<R>, N: BitRegister>(
+    span: BitSpan<R, O>,
+    memory: &[R],
+    elements: usize,
+    big: bool,
+) -> N
+    requires fits { Fits R.BITS (span_of span) (length memory.now) }
+    requires small { (span_of span).len ≤ N.BITS }
+    requires met { elements ≡ words_met R.BITS (span_of span).head (span_of span).len }
+    requires least { 2 ≤ elements }
+    requires most { elements ≤ 3 }
+    ensures { N.number result ≡ field_number big R.BITS O.RISES (span_of span).head
+        (list_by span O.at_of memory.now) }
+{
+    let first: N = load_digits(span, memory, 0, big);
+    let both = first.or(load_digits(span, memory, 1, big));
+    if elements == 2 {
+        return both;
+    }
+    both.or(load_digits(span, memory, 2, big))
+}
+
 // The number of a span, its first word's part lowest, or highest where `big`.
 #[inline(always)]
 fn load<R: BitRegister, O: Sequential<R>, N: BitRegister>(
@@ -270,13 +386,15 @@ fn load<R: BitRegister, O: Sequential<R>, N: BitRegister>(
     if O::RISES != big && 0 < span.len() && span.len() <= width {
         return load_near(span, memory);
     }
+    if O::RISES != big && 0 < span.len() && in_four_bytes(span, memory) {
+        return load_bytes(span, memory);
+    }
     let elements = span.elements();
     if elements == 1 {
         return load_digits(span, memory, 0, big);
     }
-    if elements == 2 {
-        let first: N = load_digits(span, memory, 0, big);
-        return first.or(load_digits(span, memory, 1, big));
+    if elements >= 2 && elements <= 3 {
+        return load_few(span, memory, elements, big);
     }
     load_words(span, memory, big)
 }

@@ -1,4 +1,8 @@
 //! Slices of bits, for reading and for writing.
+//!
+//! The calls stand by subject: what is counted and found (`count_ones`, `first_zero`, `find_zeros`)
+//! in `find.rt`, edits in `edit.rt`, `edit_range.rt` and `moves.rt`, sets in `combine.rt`,
+//! comparisons in `compare.rt`, the types and single bits in `bit_slice.rt` and `bit_slice_mut.rt`.
 
 mod ahead;
 mod bit_slice;

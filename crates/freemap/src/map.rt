@@ -114,7 +114,7 @@ impl<'a, O: BitOrder<u64>> FreeMap<'a, O> {
     pub(crate) fn bits(&self) -> BitSlice<'_, u64, O>
         ensures { slice_bits result ≡ in_use self.now }
     {
-        BitSlice::new(BitSpan::at_unchecked(0, self.blocks), &*self.words).unwrap()
+        BitSlice::new_unchecked(BitSpan::at_unchecked(0, self.blocks), &*self.words)
     }
 
     // Makes `count` blocks from block `at` on be in use, or free.

@@ -1,2 +1,3 @@
+mod CountLemmas
 mod SliceRunLemmas
 mod SubsetLemmas

@@ -1,4 +1,4 @@
-//! A cursor over a slice: so many bits are taken at a time, from the first on.
+//! A cursor over a slice: a number of bits is taken at a time, from the first on.
 
 ghost use Rattle.std.specs.Prelude.{◌≡◌, ◌↔◌, ◌≤◌, IsSome, IfSome, MatchOption};
 ghost use Rattle.std.specs.Prelude.{take, drop, length};

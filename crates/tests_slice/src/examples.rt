@@ -132,6 +132,64 @@ fn windows_passed_over_from_the_back(rt: HostRuntime) {
 }
 
 #[test]
+fn chunks_passed_over(rt: HostRuntime) {
+    let memory = [0x2Cu8];
+    let mut chunks = BitSlice::<u8, Lsb0>::all_unchecked(&memory).chunks(3);
+    assert_eq!(rt; chunks.nth(1).unwrap().count_ones(), 2);
+    assert_eq!(rt; chunks.len(), 1);
+    assert!(rt; chunks.nth(1).is_none());
+    assert_eq!(rt; chunks.len(), 0);
+}
+
+#[test]
+fn chunks_passed_over_from_the_back(rt: HostRuntime) {
+    let memory = [0x2Cu8];
+    let mut chunks = BitSlice::<u8, Lsb0>::all_unchecked(&memory).chunks(3);
+    assert_eq!(rt; chunks.nth_back(1).unwrap().count_ones(), 2);
+    assert_eq!(rt; chunks.len(), 1);
+    assert!(rt; chunks.nth_back(1).is_none());
+    assert_eq!(rt; chunks.len(), 0);
+}
+
+#[test]
+fn chunks_from_the_back_passed_over(rt: HostRuntime) {
+    let memory = [0x2Cu8];
+    let mut chunks = BitSlice::<u8, Lsb0>::all_unchecked(&memory).rchunks(3);
+    assert_eq!(rt; chunks.nth(1).unwrap().first_zero(), Some(2));
+    assert_eq!(rt; chunks.len(), 1);
+    assert!(rt; chunks.nth(1).is_none());
+    assert_eq!(rt; chunks.len(), 0);
+}
+
+#[test]
+fn chunks_from_the_back_passed_over_from_the_back(rt: HostRuntime) {
+    let memory = [0x2Cu8];
+    let mut chunks = BitSlice::<u8, Lsb0>::all_unchecked(&memory).rchunks(3);
+    assert_eq!(rt; chunks.nth_back(1).unwrap().first_zero(), Some(2));
+    assert_eq!(rt; chunks.len(), 1);
+    assert!(rt; chunks.nth_back(1).is_none());
+    assert_eq!(rt; chunks.len(), 0);
+}
+
+#[test]
+fn whole_chunks_passed_over(rt: HostRuntime) {
+    let memory = [0x2Cu8];
+    let mut chunks = BitSlice::<u8, Lsb0>::all_unchecked(&memory).chunks_exact(3);
+    assert_eq!(rt; chunks.nth(1).unwrap().count_ones(), 2);
+    assert!(rt; chunks.nth(0).is_none());
+    assert_eq!(rt; chunks.remainder().len(), 2);
+}
+
+#[test]
+fn whole_chunks_passed_over_from_the_back(rt: HostRuntime) {
+    let memory = [0x2Cu8];
+    let mut chunks = BitSlice::<u8, Lsb0>::all_unchecked(&memory).chunks_exact(3);
+    assert_eq!(rt; chunks.nth_back(1).unwrap().count_ones(), 1);
+    assert!(rt; chunks.nth_back(0).is_none());
+    assert_eq!(rt; chunks.remainder().len(), 2);
+}
+
+#[test]
 fn the_windows_of_a_slice(rt: HostRuntime) -> Result<(), Fail> {
     let memory = [0x0Bu8];
     let span: BitSpan<u8, Lsb0> = BitSpan::new(0, BitIdx::new_unchecked(0), 4).unwrap();

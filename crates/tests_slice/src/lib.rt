@@ -7,6 +7,8 @@ mod block_map;
 mod bytes;
 #[cfg(test)]
 mod callers;
+#[cfg(test)]
+mod counts;
 mod cursor;
 #[cfg(test)]
 mod digits;

@@ -1,5 +1,5 @@
-//! Each slice of three bytes under orders that rise, that fall and that are a table, beside the
-//! list of its bits.
+//! Reads, fills, reversals and swaps of each slice of three bytes under orders that rise, that fall
+//! and that are a table, beside the list of its bits.
 
 ghost use Rattle.std.specs.Prelude.{◌+◌, ◌≤◌};
 ghost use Rattle.tests_slice.specs.Orders.{mixed_position, mixed_one_to_one};
@@ -193,19 +193,6 @@ fn fills<O: BitOrder<u8>>(start: usize, len: usize) -> bool
     bits_of::<O>(&memory) == bits
 }
 
-// The same of a turn by a third.
-fn rotates<O: BitOrder<u8>>(start: usize, len: usize) -> bool
-    requires { start + len ≤ 24 }
-{
-    let mut memory = MEMORY;
-    let mut bits = bits_of::<O>(&memory);
-    if let Ok(mut slice) = BitSliceMut::new(span_at::<O>(start, len), &mut memory) {
-        slice.rotate_left(slice.len() / 3);
-    }
-    bits[start..start + len].rotate_left(len / 3);
-    bits_of::<O>(&memory) == bits
-}
-
 // The same of bits that change places.
 fn swaps<O: BitOrder<u8>>(start: usize, len: usize) -> bool
     requires { start + len ≤ 24 }
@@ -229,9 +216,8 @@ fn swaps<O: BitOrder<u8>>(start: usize, len: usize) -> bool
 fn each_slice<O: BitOrder<u8>>() -> bool {
     for start in 0..25 {
         for len in 0..25 - start {
-            let reads = reads::<O>(start, len);
-            let turns = reverses::<O>(start, len) && rotates::<O>(start, len);
-            if !reads || !turns || !fills::<O>(start, len) || !swaps::<O>(start, len) {
+            let is_read = reads::<O>(start, len) && reverses::<O>(start, len);
+            if !is_read || !fills::<O>(start, len) || !swaps::<O>(start, len) {
                 return false;
             }
         }

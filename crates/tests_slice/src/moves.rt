@@ -1,5 +1,5 @@
-//! Shifts, copies and comparisons of each slice of three bytes under orders that rise, that fall
-//! and that are a table, beside the list of its bits.
+//! Shifts, rotations both ways, copies and comparisons of each slice of three bytes under orders
+//! that rise, that fall and that are a table, beside the list of its bits.
 
 ghost use Rattle.std.specs.Prelude.{◌+◌, ◌≤◌, length};
 ghost use Rattle.bitvec_slice.specs.BitSliceMut.{lent_len};
@@ -10,21 +10,23 @@ use bitvec::order::{BitOrder, Lsb0, Msb0};
 use bitvec::ptr::span::BitSpan;
 use bitvec_slice::slice::{BitSlice, BitSliceMut};
 
-/// A move of bits by a number of places: two shifts, a rotation, and two copies of those that stay
-/// inside.
+/// A move of bits by a number of places: two shifts, two rotations, and two copies of those that
+/// stay inside.
 #[derive(Clone, Copy)]
 enum Move {
     ShiftLeft,
     ShiftRight,
+    RotateLeft,
     RotateRight,
     CopyFront,
     CopyBack,
 }
 
 /// Each of them.
-const MOVES: [Move; 5] = [
+const MOVES: [Move; 6] = [
     Move::ShiftLeft,
     Move::ShiftRight,
+    Move::RotateLeft,
     Move::RotateRight,
     Move::CopyFront,
     Move::CopyBack,
@@ -38,6 +40,7 @@ fn move_bits<O: BitOrder<u8>>(slice: &mut BitSliceMut<'_, u8, O>, by: usize, how
     match how {
         Move::ShiftLeft => slice.shift_left(by),
         Move::ShiftRight => slice.shift_right(by),
+        Move::RotateLeft => slice.rotate_left(by),
         Move::RotateRight => slice.rotate_right(by),
         Move::CopyFront => slice.copy_within(by..len, 0),
         Move::CopyBack => slice.copy_within(0..len - by, by),
@@ -58,6 +61,7 @@ fn move_elements(list: &mut [bool], by: usize, how: Move)
             list.rotate_right(by);
             list[..by].fill(false);
         }
+        Move::RotateLeft => list.rotate_left(by),
         Move::RotateRight => list.rotate_right(by),
         Move::CopyFront => list.copy_within(by.., 0),
         Move::CopyBack => list.copy_within(..rest, by),

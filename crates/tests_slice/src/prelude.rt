@@ -157,6 +157,12 @@ fn ones_of_loan<R: BitRegister, O: BitOrder<R>>(slice: &BitSliceMut<'_, R, O>) -
     slice.count_ones()
 }
 
+fn ones_of_holder<R: BitRegister, O: BitOrder<R>, B: ReadBits<R, O>>(holder: &B) -> usize
+    ensures { result ≡ ones_in (B.bits holder.now) }
+{
+    holder.count_ones()
+}
+
 fn refusal<'a, R: BitRegister, O: BitOrder<R>>(
     slice: &mut BitSliceMut<'a, R, O>,
     text: &str,

@@ -23,7 +23,7 @@ use Rattle.bitvec_span.proofs.CoverLemmas.{covers-own}
 use Rattle.bitvec_span.proofs.LoanLemmas.{rows, heads, tails}
 use Rattle.tests_span.specs.FilledDomain.{word_of_bit, filled_slot_if, filled_memory}
 
--- a word so many times, by its number
+-- a word many times, by its number
 pub map-replicate : {X Y : Type 0} (f : X → Y) (n : ℕ) (x : X) → map f (replicate n x) ≡ replicate n (f x)
 map-replicate f zero x = refl
 map-replicate f (suc n) x = ap (λ l. f x ∷ l) (map-replicate f n x)

@@ -62,6 +62,7 @@ impl<'a, R: BitRegister, O: BitOrder<R>> BitSlice<'a, R, O> {
 
     /// The bits of a span in a memory. Requires that the span lies in it: [`fits`](BitSpan::fits)
     /// is the test. Constant time. Not in the Rust crate.
+    #[inline(always)]
     pub fn new_unchecked(span: BitSpan<R, O>, memory: &'a [R]) -> Self
         requires { Fits R.BITS (span_of span) (length memory.now) }
         ensures memory { slice_memory result ≡ memory.now }
@@ -88,6 +89,7 @@ impl<'a, R: BitRegister, O: BitOrder<R>> BitSlice<'a, R, O> {
     }
 
     /// How many bits there are. Constant time.
+    #[inline(always)]
     pub fn len(&self) -> usize
         ensures value { result ≡ slice_len self.now }
         ensures list { result ≡ length (slice_bits self.now) }
@@ -96,6 +98,7 @@ impl<'a, R: BitRegister, O: BitOrder<R>> BitSlice<'a, R, O> {
     }
 
     /// Whether there are none. Constant time.
+    #[inline(always)]
     pub fn is_empty(&self) -> bool
         ensures { IsTrue result ↔ (slice_len self.now ≡ 0) }
     {
@@ -127,6 +130,7 @@ impl<'a, R: BitRegister, O: BitOrder<R>> BitSlice<'a, R, O> {
     }
 
     /// The first bit, and `None` where there are no bits. Constant time.
+    #[inline(always)]
     pub fn first(&self) -> Option<bool>
         ensures { MatchOption result (length (slice_bits self.now) ≡ 0)
             (λ bit. (0 < length (slice_bits self.now)) × (bit ≡ element (slice_bits self.now) 0)) }
@@ -135,6 +139,7 @@ impl<'a, R: BitRegister, O: BitOrder<R>> BitSlice<'a, R, O> {
     }
 
     /// The last bit, and `None` where there are no bits. Constant time.
+    #[inline(always)]
     pub fn last(&self) -> Option<bool>
         ensures { IsLastOf (slice_bits self.now) result }
     {

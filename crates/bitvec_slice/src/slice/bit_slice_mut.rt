@@ -1,8 +1,9 @@
 //! Slices of bits for writing.
 
 ghost use Rattle.std.specs.Prelude.{◌≡◌, ◌<◌, ◌↔◌, IsTrue, IsOk, IfOk, IfErr, length};
-ghost use Rattle.std.specs.Prelude.{slice_get, slice_set};
-ghost use Rattle.bitvec.specs.BitSpan.{span_of};
+ghost use Rattle.std.specs.Prelude.{slice_get, slice_set, ◌==◌, if◌then◌else◌, ℕ};
+ghost use Rattle.bitvec.specs.BitSpan.{span_of, list_by, Becomes};
+ghost use Rattle.bitvec.specs.Digit.{digit};
 ghost use Rattle.std.specs.Prelude.{pos, ◌+◌, ◌≤◌, ◌+ℤ◌, ◌≤ℤ◌};
 ghost use Rattle.std.specs.Int.{int_div_euclid};
 ghost use Rattle.bitvec.specs.Place.{place_at, region_max_bits, greatest_isize};
@@ -13,10 +14,45 @@ ghost use Rattle.bitvec_slice.specs.Ranges.{KeepsBeside};
 
 use crate::slice::BitSlice;
 use bitvec::index::BitIdx;
+use bitvec::mem;
 use bitvec::mem::BitRegister;
 use bitvec::order::BitOrder;
 use bitvec::ptr::span::BitSpan;
 use std::marker::PhantomData;
+
+// A word with another bit at an index.
+#[inline(always)]
+fn with_bit<R: BitRegister, O: BitOrder<R>>(word: R, index: BitIdx<R>, bit: bool) -> R
+    ensures { (j : ℕ) → j < R.BITS → digit (R.number result) (O.at_of j)
+        ≡ (if j == index then bit else digit (R.number word) (O.at_of j)) }
+{
+    let selector = index.select::<O>().into_inner();
+    if bit {
+        word.or(selector)
+    } else {
+        word.and(selector.not())
+    }
+}
+
+// Writes bit `i` of a span into its word, and changes no other bit.
+#[inline(always)]
+fn put_bit<R: BitRegister, O: BitOrder<R>>(
+    span: BitSpan<R, O>,
+    memory: &mut [R],
+    i: usize,
+    bit: bool,
+)
+    requires fits { Fits R.BITS (span_of span) (length memory.old) }
+    requires inside { i < (span_of span).len }
+    ensures { Becomes span O.at_of memory.old memory.new
+        (slice_set (list_by span O.at_of memory.old) i bit) }
+{
+    let width = mem::bits_of::<R>();
+    let place = usize::from(span.head().into_inner()) + i;
+    let index = BitIdx::new_unchecked((place % width) as u8);
+    let at = span.address() as usize + place / width;
+    memory[at] = with_bit::<R, O>(memory[at], index, bit);
+}
 
 /// The bits of a span in a memory, borrowed for writing.
 ///
@@ -55,6 +91,7 @@ impl<'a, R: BitRegister, O: BitOrder<R>> BitSliceMut<'a, R, O> {
     ghost use Rattle.bitvec_slice.specs.BitSlice.{slice_memory, slice_span, slice_bits};
 
     // The index of the first word.
+    #[inline(always)]
     fn word(&self) -> isize
         ensures { result ≡ (lent_span self.now).word }
     {
@@ -62,6 +99,7 @@ impl<'a, R: BitRegister, O: BitOrder<R>> BitSliceMut<'a, R, O> {
     }
 
     // The span of its bits.
+    #[inline(always)]
     pub(crate) fn span(&self) -> BitSpan<R, O>
         ensures { span_of result ≡ lent_span self.now }
     {
@@ -70,6 +108,7 @@ impl<'a, R: BitRegister, O: BitOrder<R>> BitSliceMut<'a, R, O> {
 
     /// The bits of a span in a memory. Requires that the span lies in it: [`fits`](BitSpan::fits)
     /// is the test. Constant time. Not in the Rust crate.
+    #[inline(always)]
     pub fn new_unchecked(span: BitSpan<R, O>, memory: &'a mut [R]) -> Self
         requires { Fits R.BITS (span_of span) (length memory.old) }
         ensures reference { (lent_memory result).ghost_name ≡ memory.entry.ghost_name }
@@ -106,6 +145,7 @@ impl<'a, R: BitRegister, O: BitOrder<R>> BitSliceMut<'a, R, O> {
     }
 
     /// Its bits, for reading. Constant time.
+    #[inline(always)]
     pub fn as_bitslice(&self) -> BitSlice<'_, R, O>
         ensures memory { slice_memory result ≡ (lent_memory self.now).now }
         ensures span { slice_span result ≡ lent_span self.now }
@@ -136,6 +176,7 @@ impl<'a, R: BitRegister, O: BitOrder<R>> BitSliceMut<'a, R, O> {
     }
 
     /// How many bits there are. Constant time.
+    #[inline(always)]
     pub fn len(&self) -> usize
         ensures value { result ≡ lent_len self.now }
         ensures list { result ≡ length (lent_bits self.now) }
@@ -144,6 +185,7 @@ impl<'a, R: BitRegister, O: BitOrder<R>> BitSliceMut<'a, R, O> {
     }
 
     /// Whether there are none. Constant time.
+    #[inline(always)]
     pub fn is_empty(&self) -> bool
         ensures { IsTrue result ↔ (lent_len self.now ≡ 0) }
     {
@@ -178,6 +220,6 @@ impl<'a, R: BitRegister, O: BitOrder<R>> BitSliceMut<'a, R, O> {
     {
         let span = self.span();
         let memory = &mut *self.memory;
-        span.write(memory, i, bit);
+        put_bit(span, memory, i, bit);
     }
 }

@@ -8,6 +8,8 @@ ghost use Rattle.std.specs.Slice.Iter.{chunk_count};
 ghost use Rattle.bitvec_slice.specs.BitSlice.{slice_len, slice_bits};
 ghost use Rattle.bitvec_slice.specs.Pieces.{chunks_of, rchunks_of};
 
+mod nth;
+
 use crate::slice::BitSlice;
 use bitvec::mem::BitRegister;
 use bitvec::order::BitOrder;

@@ -133,6 +133,27 @@ impl<'a, R: BitRegister, O: BitOrder<R>> BitSlice<'a, R, O> {
     }
 
     // The number of a word from word `start` to word `end`, counted from the slice's first word,
+    // from which on to before word `end` all have the digits of `lacking`: it passes eight words a
+    // step.
+    fn pass_eights_back(&self, start: usize, end: usize, lacking: R) -> usize
+        requires ordered { start ≤ end }
+        requires met { end
+            ≤ words_met R.BITS (slice_span self.now).head (slice_span self.now).len }
+        requires below { R.number lacking < 2 ^ R.BITS }
+        ensures start { start ≤ result }
+        ensures end { result ≤ end }
+        ensures words { SliceHasDigits self.now lacking result end }
+    {
+        let mut at = end;
+        while at - start >= 8
+            && self.four_have_digits(at - 4, lacking) & self.four_have_digits(at - 8, lacking)
+        {
+            at -= 8;
+        }
+        at
+    }
+
+    // The number of a word from word `start` to word `end`, counted from the slice's first word,
     // from which on to before word `end` all have the digits of `lacking`.
     fn last_other(&self, start: usize, end: usize, lacking: R) -> usize
         requires ordered { start ≤ end }
@@ -143,7 +164,7 @@ impl<'a, R: BitRegister, O: BitOrder<R>> BitSlice<'a, R, O> {
         ensures end { result ≤ end }
         ensures words { SliceHasDigits self.now lacking result end }
     {
-        let mut at = end;
+        let mut at = self.pass_eights_back(start, end, lacking);
         while start < at && self.has_digits(at - 1, lacking) {
             at -= 1;
         }

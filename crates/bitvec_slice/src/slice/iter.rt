@@ -76,6 +76,7 @@ impl<'a, R: BitRegister, O: BitOrder<R>> Iterator for Iter<'a, R, O> {
     ghost remaining = { item_count iter_left };
 
     /// Takes the first of the bits that are left.
+    #[inline(always)]
     fn next(&mut self) -> Option<bool>
         ensures steps { YieldsFirst iter_left self.old result self.new }
         ensures goes { MakesProgress (λ _. ⊤) (item_count iter_left) self.old result self.new }
@@ -94,6 +95,7 @@ impl<'a, R: BitRegister, O: BitOrder<R>> Iterator for Iter<'a, R, O> {
         Some(bit)
     }
 
+    #[inline(always)]
     fn size_hint(&self) -> (usize, Option<usize>)
         ensures lower { IsWithinCount result.0 (at_most (length (iter_left self.now))) }
         ensures upper { IfSome result.1 (UpTo (at_most (length (iter_left self.now)))) }
@@ -110,6 +112,7 @@ impl<'a, R: BitRegister, O: BitOrder<R>> DoubleEndedIterator for Iter<'a, R, O> 
     ghost next_back_gives = { YieldsLast iter_left };
 
     /// Takes the last of the bits that are left.
+    #[inline(always)]
     fn next_back(&mut self) -> Option<bool>
         ensures steps { YieldsLast iter_left self.old result self.new }
         ensures goes { MakesProgress (λ _. ⊤) (item_count iter_left) self.old result self.new }
@@ -129,6 +132,7 @@ impl<'a, R: BitRegister, O: BitOrder<R>> DoubleEndedIterator for Iter<'a, R, O> 
 }
 
 impl<'a, R: BitRegister, O: BitOrder<R>> ExactSizeIterator for Iter<'a, R, O> {
+    #[inline(always)]
     fn len(&self) -> usize {
         self.end - self.next
     }
@@ -144,6 +148,7 @@ impl<'a, R: BitRegister, O: BitOrder<R>> BitSlice<'a, R, O> {
 
     /// Its bits as truth values, in order or from the back. Constant time, and so is each call of
     /// `next`.
+    #[inline(always)]
     pub fn iter(&self) -> Iter<'a, R, O>
         // All the bits are still to come, where they lie.
         ensures rest { iter_left result ≡ slice_bits self.now }
@@ -177,6 +182,7 @@ impl<'a, R: BitRegister, O: BitOrder<R>> IntoIterator for BitSlice<'a, R, O> {
         × (length (iter_left it) < 2 ^ 64) × GivesBitsInOrder it × GivesBitsInReverse it
         × (iter_memory it ≡ slice_memory slice) × (iter_span it ≡ slice_span slice) };
 
+    #[inline(always)]
     fn into_iter(self) -> Iter<'a, R, O> {
         self.iter()
     }

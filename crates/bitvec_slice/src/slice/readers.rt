@@ -19,8 +19,8 @@ use bitvec::order::BitOrder;
 /// What holds bits: a [`BitSliceMut`], a vector, an array. The questions of a [`BitSlice`] are
 /// asked of it as they are of its slice, and have the same contracts and costs.
 ///
-/// An impl gives the list and the slice; the rest follows. In the Rust crate each of these types
-/// is a reference to a slice, which this stands for.
+/// An impl gives the list and the slice; the rest follows. In the Rust crate a slice for writing is
+/// a reference to a slice, and a vector and an array dereference to one.
 pub trait ReadBits<R: BitRegister, O: BitOrder<R>> {
     // its bits, in order
     ghost bits: { Self → List Bool };
@@ -256,6 +256,7 @@ pub trait ReadBits<R: BitRegister, O: BitOrder<R>> {
 impl<'a, R: BitRegister, O: BitOrder<R>> ReadBits<R, O> for BitSlice<'a, R, O> {
     ghost bits = { slice_bits };
 
+    #[inline(always)]
     fn as_bitslice(&self) -> BitSlice<'_, R, O> {
         BitSlice::new_unchecked(self.span, self.memory)
     }
@@ -266,6 +267,7 @@ impl<'a, R: BitRegister, O: BitOrder<R>> ReadBits<R, O> for BitSliceMut<'a, R, O
 
     ghost bits = { lent_bits };
 
+    #[inline(always)]
     fn as_bitslice(&self) -> BitSlice<'_, R, O> {
         BitSliceMut::as_bitslice(self)
     }
@@ -293,6 +295,7 @@ impl<'a, R: BitRegister, O: BitOrder<R>> BitSliceMut<'a, R, O> {
 
     /// Its bits as truth values, in order or from the back. Constant time, and so is each call of
     /// `next`.
+    #[inline(always)]
     pub fn iter(&self) -> Iter<'_, R, O>
         ensures rest { iter_left result ≡ lent_bits self.now }
         ensures bound { length (iter_left result) < 2 ^ 64 }

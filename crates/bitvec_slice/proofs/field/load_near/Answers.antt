@@ -16,7 +16,7 @@ unwrap-requires g c =
     let eight = g.met.R.BitRegister.width_at_least_8 in
     let words = map g.R.BitRegister.number c.args.memory.now in
     let joined = g.R.BitRegister.number c.load_joined.result in
-    let is = near_number g.O.Sequential.RISES bits span.head span.len (list_of bits g.O.BitAt.at_of (span_of span) words) joined (g.R.BitRegister.number c.and-digits.result)
+    let is = near_number g.O.Sequential.RISES bits bits span.head span.len (list_of bits g.O.BitAt.at_of (span_of span) words) joined (g.R.BitRegister.number c.and-digits.result)
     (omega (arith, eight)) (omega (arith, span.in_word, eight)) (length-list_of bits g.O.BitAt.at_of (span_of span) words) c.requires.near c.and-digits.ensures.below
     (λ p h. c.and-digits.ensures.digits p h ∙ ap (λ b. b && digit joined p) (c.low_ones.ensures.digits p h ∙ ap (nat_lt p) c.len.ensures)) c.load_joined.ensures in
     let more : 2 ^ span.len ≤ 2 ^ most = pow_mono c.requires.small in
@@ -31,6 +31,6 @@ returns g c =
     let joined = g.R.BitRegister.number c.load_joined.result in
     let same : g.N.BitRegister.number c.unwrap.result ≡ g.R.BitRegister.number c.and-digits.result = search rules in
     same
-    ∙ (near_number g.O.Sequential.RISES bits span.head span.len (list_of bits g.O.BitAt.at_of (span_of span) words) joined (g.R.BitRegister.number c.and-digits.result)
+    ∙ (near_number g.O.Sequential.RISES bits bits span.head span.len (list_of bits g.O.BitAt.at_of (span_of span) words) joined (g.R.BitRegister.number c.and-digits.result)
     (omega (arith, eight)) (omega (arith, span.in_word, eight)) (length-list_of bits g.O.BitAt.at_of (span_of span) words) c.requires.near c.and-digits.ensures.below
     (λ p h. c.and-digits.ensures.digits p h ∙ ap (λ b. b && digit joined p) (c.low_ones.ensures.digits p h ∙ ap (nat_lt p) c.len.ensures)) c.load_joined.ensures).1

@@ -13,7 +13,7 @@ returns-clause-bits g c =
     let number = g.R.BitRegister.number in
     let span = lent_span c.args.self.now in
     let old = lent_words c.args.self.now in
-    let new = map number c.write.new.memory in
+    let new = map number c.put_bit.new.memory in
     let bits = λ (s : Span). slice_set (list_of width at s old) c.args.i c.args.bit in
-    let edit = edit-named width at (span_of c.span-span.result) span old new bits c.span-span.ensures c.write.ensures in
+    let edit = edit-named width at (span_of c.span-span.result) span old new bits c.span-span.ensures c.put_bit.ensures in
     (edit.list, refl, refl, edit)

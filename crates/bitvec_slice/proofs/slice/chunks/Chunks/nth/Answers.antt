@@ -1,0 +1,24 @@
+use Rattle.std.proofs.Common.{◌∙◌, ◌*◌, min, drop, ap}
+use Rattle.std.proofs.lemmas.List.{drop_min}
+use Rattle.bitvec_slice.specs.BitSlice.{slice_bits}
+use Rattle.bitvec_slice.specs.Pieces.{chunks_of}
+use Rattle.bitvec_slice.proofs.NthLemmas.{nth_item, nth_left, chunks_drop}
+use Rattle.bitvec_slice.proofs.slice.chunks.Chunks.nth.Goals as goal
+
+pub returns-clause-item : goal.returns-clause-item
+returns-clause-item g c =
+    let it = c.args.self.now in
+    let xs = slice_bits it.rest in
+    let passed = c.args.n * it.size in
+    let cut = c.bits_in-passed.ensures ∙ ap (min passed) c.len.ensures.list in
+    let behind = ap (chunks_of it.size) (c.split_at.ensures.back ∙ ap (λ l. drop l xs) cut ∙ drop_min passed xs) ∙ chunks_drop it.size c.args.n xs it.some in
+    nth_item slice_bits c.args.n _ _ _ behind c.next.result c.next.ensures.steps
+
+pub returns-clause-left : goal.returns-clause-left
+returns-clause-left g c =
+    let it = c.args.self.now in
+    let xs = slice_bits it.rest in
+    let passed = c.args.n * it.size in
+    let cut = c.bits_in-passed.ensures ∙ ap (min passed) c.len.ensures.list in
+    let behind = ap (chunks_of it.size) (c.split_at.ensures.back ∙ ap (λ l. drop l xs) cut ∙ drop_min passed xs) ∙ chunks_drop it.size c.args.n xs it.some in
+    nth_left slice_bits c.args.n _ _ _ behind c.next.result c.next.ensures.steps

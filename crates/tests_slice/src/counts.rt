@@ -1,0 +1,79 @@
+//! How many bits of a slice are one behind an edit: for every register and every lawful order. A
+//! search finds each proof by the lemmas that slices have of counts.
+#![tactic(auto, using(bitvec_slice::proofs::OneCountLemmas::counts))]
+
+ghost use Rattle.std.specs.Prelude.{◌≡◌, ◌<◌, ◌+◌, ◌||◌, ◌&&◌, if◌then◌else◌};
+ghost use Rattle.bitvec.specs.Memory.{zip_with};
+ghost use Rattle.bitvec.specs.Truths.{ones_in};
+ghost use Rattle.bitvec_slice.specs.Bits.{zeros_in};
+ghost use Rattle.bitvec_slice.specs.BitSlice.{slice_len, slice_bits};
+ghost use Rattle.bitvec_slice.specs.BitSliceMut.{lent_len, lent_bits};
+
+use bitvec::mem::BitRegister;
+use bitvec::order::BitOrder;
+use bitvec_slice::slice::{BitSlice, BitSliceMut, ReadBits};
+
+/// Adds a set to another, and returns how many numbers that has then: those of both, less those
+/// that they have in common.
+fn ones_of_union<'a, R: BitRegister, O: BitOrder<R>, R2: BitRegister, O2: BitOrder<R2>>(
+    set: &mut BitSliceMut<'a, R, O>,
+    other: BitSlice<'_, R2, O2>,
+) -> usize
+    requires { slice_len other ≡ lent_len set.old }
+    ensures { let xs = lent_bits set.old in let ys = slice_bits other.entry
+        in result + ones_in (zip_with (λ a b. a && b) xs ys) ≡ ones_in xs + ones_in ys }
+{
+    set.or_from(other);
+    set.count_ones()
+}
+
+/// Leaves in a set what another has too, and returns how many numbers that are: those of both, less
+/// those of their union.
+fn ones_in_common<'a, R: BitRegister, O: BitOrder<R>, R2: BitRegister, O2: BitOrder<R2>>(
+    set: &mut BitSliceMut<'a, R, O>,
+    other: BitSlice<'_, R2, O2>,
+) -> usize
+    requires { slice_len other ≡ lent_len set.old }
+    ensures { let xs = lent_bits set.old in let ys = slice_bits other.entry
+        in result + ones_in (zip_with (λ a b. a || b) xs ys) ≡ ones_in xs + ones_in ys }
+{
+    set.and_from(other);
+    set.count_ones()
+}
+
+/// Exchanges two bits: as many are one as before.
+#[tactic(auto, using(crate::proofs::CountLemmas::slice_counts))]
+fn exchange<'a, R: BitRegister, O: BitOrder<R>>(
+    bits: &mut BitSliceMut<'a, R, O>,
+    i: usize,
+    j: usize,
+)
+    requires first { i < lent_len bits.old }
+    requires second { j < lent_len bits.old }
+    ensures { ones_in (lent_bits bits.new) ≡ ones_in (lent_bits bits.old) }
+{
+    bits.swap(i, j);
+}
+
+/// Writes a bit and returns the one that was there: what was there goes, and what is written comes.
+#[tactic(auto, using(crate::proofs::CountLemmas::slice_counts))]
+fn write_over<'a, R: BitRegister, O: BitOrder<R>>(
+    bits: &mut BitSliceMut<'a, R, O>,
+    i: usize,
+    bit: bool,
+) -> bool
+    requires { i < lent_len bits.old }
+    ensures { ones_in (lent_bits bits.new) + (if result then 1 else 0)
+        ≡ ones_in (lent_bits bits.old) + (if bit then 1 else 0) }
+{
+    bits.replace(i, bit)
+}
+
+/// Turns each bit over: as many are one as were zero.
+#[tactic(auto, using(bitvec_slice::proofs::OneCountLemmas::turned_counts))]
+fn turn_all<'a, R: BitRegister, O: BitOrder<R>>(bits: &mut BitSliceMut<'a, R, O>) -> usize
+    ensures { result ≡ zeros_in (lent_bits bits.old) }
+{
+    bits.invert();
+    bits.count_ones()
+}
