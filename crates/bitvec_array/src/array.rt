@@ -2,6 +2,7 @@
 
 mod bit_array;
 mod edit;
+mod edit_range;
 mod equal;
 mod moves;
 mod operators;

@@ -3,6 +3,7 @@
 mod bit_vec;
 mod bools;
 mod edit;
+mod edit_range;
 mod ends;
 mod equal;
 mod front;

@@ -1,7 +1,7 @@
 //! The examples in the documents of arrays.
 
 use bitvec::order::{Lsb0, Msb0};
-use bitvec::ptr::combine::AndNot;
+use bitvec::ptr::combine::{AndNot, Or, Xor};
 use bitvec_array::array::BitArray;
 use bitvec_slice::slice::BitSlice;
 use std::test::Fail;
@@ -87,5 +87,42 @@ fn a_number_in_an_array(rt: HostRuntime) -> Result<(), Fail> {
     bits.store_digits_le(4, 9, 43u32);
     assert_eq!(rt; bits.load_digits_le::<u8>(4, 9), 11);
     assert_eq!(rt; bits.into_words(), [11 << 4]);
+    Ok(())
+}
+
+#[test]
+fn a_part_in_another_order(rt: HostRuntime) -> Result<(), Fail> {
+    let mut bits: BitArray<Lsb0, 1> = BitArray::from_words([0x13]);
+    bits.reverse_range(0, 4);
+    bits.invert_range(4, 6);
+    assert_eq!(rt; bits.into_words(), [0x2C]);
+    Ok(())
+}
+
+#[test]
+fn a_slice_with_a_part(rt: HostRuntime) -> Result<(), Fail> {
+    let memory = [0x0Fu8];
+    let slice = BitSlice::<u8, Lsb0>::all_unchecked(&memory);
+    let mut bits: BitArray<Lsb0, 1> = BitArray::from_words([0x3300]);
+    bits.combine_from_range::<Xor, u8, Lsb0>(8, slice);
+    assert_eq!(rt; bits.into_words(), [0x3C00]);
+    Ok(())
+}
+
+#[test]
+fn a_part_with_another(rt: HostRuntime) -> Result<(), Fail> {
+    let mut bits: BitArray<Lsb0, 1> = BitArray::from_words([0x8001]);
+    bits.combine_within::<Or>(0..13, 3);
+    assert_eq!(rt; bits.into_words(), [0x8009]);
+    Ok(())
+}
+
+#[test]
+fn an_intersection_with_a_slice(rt: HostRuntime) -> Result<(), Fail> {
+    let memory = [0x0Fu8, 0, 0, 0, 0, 0, 0, 0x80];
+    let slice = BitSlice::<u8, Lsb0>::all_unchecked(&memory);
+    let mut bits: BitArray<Lsb0, 1> = BitArray::from_words([0x33]);
+    bits.and_from(slice);
+    assert_eq!(rt; bits.into_words(), [0x03]);
     Ok(())
 }

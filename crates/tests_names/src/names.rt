@@ -59,6 +59,15 @@ pub type Iterators<'a, R, O> = (
     slice::RChunks<'a, R, O>,
 );
 
+/// Takes types with the traits of the constants of indices, masks, pointers, ranges and spans.
+pub fn have_constants<
+    A: index::Limits,
+    B: index::MaskLimits,
+    C: ptr::single::Dangling,
+    D: ptr::range::EmptyRange,
+    E: ptr::span::SpanLimits,
+>() {}
+
 /// Takes types with the traits of registers, orders, numbers, operators and holders of bits.
 pub fn have_traits<
     R: mem::BitRegister,

@@ -1,7 +1,7 @@
 //! The examples in the documents of vectors.
 
 use bitvec::order::{Lsb0, Msb0};
-use bitvec::ptr::combine::AndNot;
+use bitvec::ptr::combine::{AndNot, Or, Xor};
 use bitvec::ptr::span::BitSpan;
 use bitvec_slice::slice::{BitSlice, ReadBits};
 use bitvec_vec::vec::{BitVec, FromTextError};
@@ -251,5 +251,41 @@ fn questions_of_a_vector(rt: HostRuntime) -> Result<(), Fail> {
     assert_eq!(rt; ones.next(), Some(2));
     assert_eq!(rt; ones.next_back(), Some(8));
     assert_eq!(rt; ones.next(), Some(4));
+    Ok(())
+}
+
+#[test]
+fn a_part_in_another_order(rt: HostRuntime) -> Result<(), Fail> {
+    let mut bits = BitVec::<u8, Lsb0>::from_words(vec![in rt.alloc(); 0x13u8]?);
+    assert!(rt; bits.len() == 8);
+    bits.reverse_range(0, 4);
+    bits.invert_range(4, 6);
+    assert_eq!(rt; bits.load_digits_le::<u8>(0, 8), 0x2C);
+    Ok(())
+}
+
+#[test]
+fn a_slice_with_a_part(rt: HostRuntime) -> Result<(), Fail> {
+    let memory = [0x0Fu8];
+    let slice = BitSlice::<u8, Lsb0>::all_unchecked(&memory);
+    let mut bits = BitVec::<u16, Lsb0>::from_words(vec![in rt.alloc(); 0x3300u16]?);
+    assert!(rt; bits.len() == 16);
+    bits.combine_from_range::<Xor, u8, Lsb0>(8, slice);
+    assert_eq!(rt;
+        format!(in rt.alloc(); "{bits}")?.as_str(),
+        "0000000000111100"
+    );
+    Ok(())
+}
+
+#[test]
+fn a_part_with_another(rt: HostRuntime) -> Result<(), Fail> {
+    let mut bits = BitVec::<u16, Lsb0>::from_words(vec![in rt.alloc(); 0x8001u16]?);
+    assert!(rt; bits.len() == 16);
+    bits.combine_within::<Or>(0..13, 3);
+    assert_eq!(rt;
+        format!(in rt.alloc(); "{bits}")?.as_str(),
+        "1001000000000001"
+    );
     Ok(())
 }

@@ -13,7 +13,7 @@ use bitvec_vec::vec;
 use std::alloc::Allocator;
 use std::marker::PhantomData;
 use tests_names::names::{
-    Commands, Indices, Iterators, Parts, PartsMut, Places, Slices, have_traits,
+    Commands, Indices, Iterators, Parts, PartsMut, Places, Slices, have_constants, have_traits,
 };
 
 fn position_in_lsb0<R: BitRegister>(index: BitIdx<R>) -> BitPos<R>
@@ -169,6 +169,10 @@ fn traits<
     H: ReadBits<R, C>,
 >() {
     have_traits::<R, A, B, C, D, N, F, H>()
+}
+
+fn constants<A: Limits, B: MaskLimits, C: Dangling, D: EmptyRange, E: SpanLimits>() {
+    have_constants::<A, B, C, D, E>()
 }
 
 // The traits of constants are those by which the constants are read.

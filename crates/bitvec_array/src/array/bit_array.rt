@@ -139,7 +139,7 @@ impl<O: BitOrder<usize>, const N: usize> BitArray<O, N> {
         ensures span { slice_span result ≡ front_span (array_len N) }
         ensures bits { slice_bits result ≡ array_bits self.now }
     {
-        BitSlice::new(span_of_all::<O, N>(), &self.words).unwrap()
+        BitSlice::new_unchecked(span_of_all::<O, N>(), &self.words)
     }
 
     /// Its bits, borrowed for writing. Constant time.

@@ -57,6 +57,64 @@ impl<O: BitOrder<usize>, const N: usize> BitArray<O, N> {
         combine_slice::<C, O, N, R2, O2>(&mut self.words, source);
     }
 
+    /// Leaves set those bits whose bit in a slice is set: the intersection of two sets.
+    ///
+    /// Requires that the slice has the array's length; it may be of any register and order. Costs
+    /// as [`combine_from`](BitArray::combine_from) does. Not in the Rust crate.
+    ///
+    /// # Examples
+    ///
+    /// ```
+    /// let memory = [0x0Fu8, 0, 0, 0, 0, 0, 0, 0x80];
+    /// let slice = BitSlice::<u8, Lsb0>::all_unchecked(&memory);
+    /// let mut bits: BitArray<Lsb0, 1> = BitArray::from_words([0x33]);
+    /// bits.and_from(slice);
+    /// assert_eq!(rt; bits.into_words(), [0x03]);
+    /// ```
+    pub fn and_from<R2: BitRegister, O2: BitOrder<R2>>(&mut self, source: BitSlice<'_, R2, O2>)
+        requires { slice_len source ≡ array_len N }
+        ensures { array_bits self.new
+            ≡ zip_with (λ t s. t && s) (array_bits self.old) (slice_bits source.entry) }
+    {
+        self.combine_from::<And, R2, O2>(source);
+    }
+
+    /// Sets those bits whose bit in a slice is set: the union of two sets.
+    ///
+    /// Requires that the slice has the array's length; it may be of any register and order. Costs
+    /// as [`combine_from`](BitArray::combine_from) does. Not in the Rust crate.
+    pub fn or_from<R2: BitRegister, O2: BitOrder<R2>>(&mut self, source: BitSlice<'_, R2, O2>)
+        requires { slice_len source ≡ array_len N }
+        ensures { array_bits self.new
+            ≡ zip_with (λ t s. t || s) (array_bits self.old) (slice_bits source.entry) }
+    {
+        self.combine_from::<Or, R2, O2>(source);
+    }
+
+    /// Turns over those bits whose bit in a slice is set: the symmetric difference of two sets.
+    ///
+    /// Requires that the slice has the array's length; it may be of any register and order. Costs
+    /// as [`combine_from`](BitArray::combine_from) does. Not in the Rust crate.
+    pub fn xor_from<R2: BitRegister, O2: BitOrder<R2>>(&mut self, source: BitSlice<'_, R2, O2>)
+        requires { slice_len source ≡ array_len N }
+        ensures { array_bits self.new
+            ≡ zip_with exclusive_or (array_bits self.old) (slice_bits source.entry) }
+    {
+        self.combine_from::<Xor, R2, O2>(source);
+    }
+
+    /// Clears those bits whose bit in a slice is set: the difference of two sets.
+    ///
+    /// Requires that the slice has the array's length; it may be of any register and order. Costs
+    /// as [`combine_from`](BitArray::combine_from) does. Not in the Rust crate.
+    pub fn and_not_from<R2: BitRegister, O2: BitOrder<R2>>(&mut self, source: BitSlice<'_, R2, O2>)
+        requires { slice_len source ≡ array_len N }
+        ensures { array_bits self.new
+            ≡ zip_with (λ t s. t && not s) (array_bits self.old) (slice_bits source.entry) }
+    {
+        self.combine_from::<AndNot, R2, O2>(source);
+    }
+
     // Combines the bits of another array with the array's.
     fn combine<C: Combine>(&mut self, other: &Self)
         ensures { array_bits self.new ≡ zip_with C.of (array_bits self.old) (array_bits other.now) }

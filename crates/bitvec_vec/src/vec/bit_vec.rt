@@ -84,7 +84,7 @@ impl<R: BitRegister, O: BitOrder<R>, A: Allocator> BitVec<R, O, A> {
         ensures span { slice_span result ≡ front_span (length (vec_bits self.now)) }
         ensures bits { slice_bits result ≡ vec_bits self.now }
     {
-        BitSlice::new(span_of_front(self.len), self.words.as_slice()).unwrap()
+        BitSlice::new_unchecked(span_of_front(self.len), self.words.as_slice())
     }
 
     /// Bit `i`, and `None` where there are no more than `i` bits. Constant time.
