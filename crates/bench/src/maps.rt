@@ -194,7 +194,7 @@ enum Task {
     One,
     // So many are, one by one, and then taken back, one by one.
     Many(usize),
-    // The first run of so many free blocks is.
+    // The first run of that many free blocks is.
     Run(usize),
     // So many blocks from block 3 on are.
     Long(usize),

@@ -1,5 +1,5 @@
-//! Vectors of bits that grow: bit by bit, by a slice that lies otherwise in its words, and by a bit
-//! before all others.
+//! Vectors of bits that grow: bit by bit, by a list of truth values at once, by a slice that lies
+//! otherwise in its words, and by a bit before all others.
 
 ghost use Rattle.std.specs.Prelude.{⊤};
 
@@ -17,6 +17,8 @@ use std::io;
 enum Growth {
     // From nothing, by one bit after another.
     Push,
+    // From nothing, by a list at once.
+    Bools,
     // Behind three bits, by a slice.
     Extend,
     // By a bit before all others; the last is taken away again.
@@ -50,6 +52,10 @@ impl Job for Growing<'_> {
             Growth::Push => {
                 self.vec.clear();
                 push_all(&mut self.vec, self.list)
+            }
+            Growth::Bools => {
+                self.vec.clear();
+                self.vec.extend_from_bools(self.list)
             }
             Growth::Extend => {
                 self.vec.truncate(3);
@@ -88,7 +94,7 @@ fn begun(
     growth: Growth,
 ) -> Result<BitVec<u64, Lsb0>, AllocError> {
     match growth {
-        Growth::Push => Ok(BitVec::new(rt.alloc())),
+        Growth::Push | Growth::Bools => Ok(BitVec::new(rt.alloc())),
         Growth::Extend => BitVec::repeat(rt.alloc(), true, 3),
         Growth::Front => BitVec::from_bitslice(rt.alloc(), slice),
     }
@@ -118,15 +124,15 @@ fn grow(rt: HostRuntime, mode: Mode, name: Name, growth: Growth) -> io::Result<(
     }
     job.go();
     let agrees = match growth {
-        Growth::Push => is_grown(&job.vec, mode.words(), 0, &memory, 0),
+        Growth::Push | Growth::Bools => is_grown(&job.vec, mode.words(), 0, &memory, 0),
         Growth::Extend => is_grown(&job.vec, len + 3, 3, &memory, 5),
         Growth::Front => is_grown(&job.vec, len, 1, &memory, 5),
     };
     tell(rt, name, agrees)
 }
 
-/// Pushes, a slice put behind, and a bit put in front. `vec-push-bools` is `vec-push` again: beside
-/// it stands by hand std's `Vec<bool>`.
+/// Pushes, a list of truth values put behind, a slice put behind, and a bit put in front. Beside
+/// `vec-push-bools` stands by hand a push of each value to std's `Vec<bool>`.
 pub fn vectors(rt: HostRuntime, mode: Mode) -> io::Result<()> {
     let name = |kind, unit| Name {
         group: "vec-",
@@ -134,7 +140,7 @@ pub fn vectors(rt: HostRuntime, mode: Mode) -> io::Result<()> {
         unit,
     };
     grow(rt, mode, name("push", "bit"), Growth::Push)?;
-    grow(rt, mode, name("push-bools", "bit"), Growth::Push)?;
+    grow(rt, mode, name("push-bools", "bit"), Growth::Bools)?;
     grow(rt, mode, name("extend-shifted", "word"), Growth::Extend)?;
     grow(rt, mode, name("insert-front", "word"), Growth::Front)
 }

@@ -84,7 +84,7 @@ rank_once xs len s t some a b e =
       | inr (inr more) ↦ absurd (omega (arith, e, codes_yes xs t len second b, codes_rise xs len (t + 1) s (omega (arith, more)) (omega (arith, first))))
     ]
 
--- the symbol that stands behind so many of its length
+-- the symbol that stands behind a given number of its length
 abbrev Ranked : List ℕ → ℕ → ℕ → ℕ → Type 0
 Ranked xs len rank s = (get_or xs s 0 ≡ len) × (codes_of (take s xs) len ≡ rank)
 

@@ -6,7 +6,7 @@ use Rattle.example_huffman.specs.Codes.{IsComplete, HasCode, code_of}
 abbrev pub AreBeginnings : ℕ → (ℕ → ℕ) → Type 0
 AreBeginnings many at = (at 0 ≡ 0) × ((k : ℕ) → k < many → (2 * at k ≤ at (k + 1)) × (at (k + 1) ≤ 2 * at k + 1))
 
--- a text of so many bits begins with a symbol's code
+-- a text of `many` bits begins with a symbol's code
 abbrev pub BeginsWith : List ℕ → ℕ → (ℕ → ℕ) → ℕ → Type 0
 BeginsWith lengths many at symbol =
     HasCode lengths symbol × (slice_index lengths symbol ≤ many) × (at (slice_index lengths symbol) ≡ code_of lengths symbol)

@@ -8,7 +8,7 @@ ghost use Rattle.example_huffman.specs.Codes.{code_of, HasCode};
 /// The most bits that a code can have.
 pub const LONGEST: u8 = 15;
 
-/// How many numbers have so many digits.
+/// How many numbers have this many digits.
 const ALL: usize = 32768;
 
 /// Why lengths are refused.

@@ -96,52 +96,52 @@ behind_other many j less = sym (mod-eq_of_lt {n = j + 1} {m = many} less)
 -- what a search takes of the places
 pub ruleset places = (before_first, before_other, behind_last, behind_other)
 
-module _ (xs : List Bool) (many j : ℕ) (long : length xs ≡ many) (inside : j < many) where
+module _ (xs : List Bool) (j : ℕ) (inside : j < length xs) where
   -- a row that is turned so that each cell is where the one behind it was
-  pub turned_left : element (drop 1 xs ++ take 1 xs) j ≡ element xs (place_behind many j)
+  pub turned_left : element (drop 1 xs ++ take 1 xs) j ≡ element xs (place_behind (length xs) j)
   turned_left =
       let short = length-drop 1 xs in
-      elim (cases_lt (j + 1) many) [
+      elim (cases_lt (j + 1) (length xs)) [
         | inl less ↦ (
-            let here : j < length (drop 1 xs) = omega (arith, less, long, short) in
-            let place : 1 + j ≡ (j + 1) % many = omega arith ∙ sym (mod-eq_of_lt {n = j + 1} {m = many} less) in
+            let here : j < length (drop 1 xs) = omega (arith, less, short) in
+            let place : 1 + j ≡ (j + 1) % length xs = omega arith ∙ sym (mod-eq_of_lt {n = j + 1} {m = length xs} less) in
             get_or_append_left (drop 1 xs) (take 1 xs) false j here ∙ get_or-drop 1 xs j false ∙ ap (element xs) place
             )
         | inr last ↦ (
-            let past : length (drop 1 xs) ≤ j = omega (arith, last, long, short) in
-            let first : j - length (drop 1 xs) ≡ 0 = omega (arith, inside, long, short) in
-            let end : j + 1 ≡ many = omega (arith, last, inside) in
-            let place : 0 ≡ (j + 1) % many = sym (ap (λ n. n % many) end ∙ mod_self many) in
+            let past : length (drop 1 xs) ≤ j = omega (arith, last, short) in
+            let first : j - length (drop 1 xs) ≡ 0 = omega (arith, inside, short) in
+            let end : j + 1 ≡ length xs = omega (arith, last, inside) in
+            let place : 0 ≡ (j + 1) % length xs = sym (ap (λ n. n % length xs) end ∙ mod_self (length xs)) in
             get_or-append_right (drop 1 xs) (take 1 xs) j false past ∙ ap (element (take 1 xs)) first ∙ get_or-take 1 xs 0 false (omega arith) ∙ ap (element xs) place
             )
       ]
 
   -- and the other way
-  pub turned_right : element (drop (many - 1) xs ++ take (many - 1) xs) j ≡ element xs (place_before many j)
+  pub turned_right : element (drop (length xs - 1) xs ++ take (length xs - 1) xs) j ≡ element xs (place_before (length xs) j)
   turned_right =
-      let short = length-drop (many - 1) xs in
+      let short = length-drop (length xs - 1) xs in
       elim (cases_lt j 1) [
         | inl none ↦ (
-            let here : j < length (drop (many - 1) xs) = omega (arith, none, inside, long, short) in
-            let sum : (many - 1) + j ≡ j + (many - 1) = omega arith in
-            let place : j + (many - 1) ≡ (j + (many - 1)) % many = sym (mod-eq_of_lt {n = j + (many - 1)} {m = many} (omega (arith, none, inside))) in
-            get_or_append_left (drop (many - 1) xs) (take (many - 1) xs) false j here ∙ get_or-drop (many - 1) xs j false ∙ ap (element xs) (sum ∙ place)
+            let here : j < length (drop (length xs - 1) xs) = omega (arith, none, inside, short) in
+            let sum : (length xs - 1) + j ≡ j + (length xs - 1) = omega arith in
+            let place : j + (length xs - 1) ≡ (j + (length xs - 1)) % length xs = sym (mod-eq_of_lt {n = j + (length xs - 1)} {m = length xs} (omega (arith, none, inside))) in
+            get_or_append_left (drop (length xs - 1) xs) (take (length xs - 1) xs) false j here ∙ get_or-drop (length xs - 1) xs j false ∙ ap (element xs) (sum ∙ place)
             )
         | inr some ↦ (
-            let past : length (drop (many - 1) xs) ≤ j = omega (arith, some, inside, long, short) in
-            let before : j - length (drop (many - 1) xs) ≡ j - 1 = omega (arith, some, inside, long, short) in
-            let sum : j + (many - 1) ≡ many + (j - 1) = omega (arith, some, inside) in
-            let place : j - 1 ≡ (j + (many - 1)) % many = sym (ap (λ n. n % many) sum ∙ add-mod_left many (j - 1) ∙ mod-eq_of_lt {n = j - 1} {m = many} (omega (arith, inside))) in
-            get_or-append_right (drop (many - 1) xs) (take (many - 1) xs) j false past ∙ ap (element (take (many - 1) xs)) before
-            ∙ get_or-take (many - 1) xs (j - 1) false (omega (arith, some, inside)) ∙ ap (element xs) place
+            let past : length (drop (length xs - 1) xs) ≤ j = omega (arith, some, inside, short) in
+            let before : j - length (drop (length xs - 1) xs) ≡ j - 1 = omega (arith, some, inside, short) in
+            let sum : j + (length xs - 1) ≡ length xs + (j - 1) = omega (arith, some, inside) in
+            let place : j - 1 ≡ (j + (length xs - 1)) % length xs = sym (ap (λ n. n % length xs) sum ∙ add-mod_left (length xs) (j - 1) ∙ mod-eq_of_lt {n = j - 1} {m = length xs} (omega (arith, inside))) in
+            get_or-append_right (drop (length xs - 1) xs) (take (length xs - 1) xs) j false past ∙ ap (element (take (length xs - 1) xs)) before
+            ∙ get_or-take (length xs - 1) xs (j - 1) false (omega (arith, some, inside)) ∙ ap (element xs) place
             )
       ]
 
 -- the two cells beside one, of a row and the rows that are it turned both ways
-pub beside_of : (xs back forth : List Bool) (many j : ℕ) → length xs ≡ many → j < many → back ≡ drop 1 xs ++ take 1 xs → forth ≡ drop (many - 1) xs ++ take (many - 1) xs → one_if (element back j) + one_if (element forth j) ≡ beside xs j
-beside_of xs back forth many j long inside e f =
-    let behind : element back j ≡ element xs (place_behind (length xs) j) = ap (λ ys. element ys j) e ∙ turned_left xs many j long inside ∙ ap (λ n. element xs (place_behind n j)) (sym long) in
-    let before : element forth j ≡ element xs (place_before (length xs) j) = ap (λ ys. element ys j) f ∙ turned_right xs many j long inside ∙ ap (λ n. element xs (place_before n j)) (sym long) in
+pub beside_of : (xs back forth : List Bool) (j : ℕ) → j < length xs → back ≡ drop 1 xs ++ take 1 xs → forth ≡ drop (length xs - 1) xs ++ take (length xs - 1) xs → one_if (element back j) + one_if (element forth j) ≡ beside xs j
+beside_of xs back forth j inside e f =
+    let behind : element back j ≡ element xs (place_behind (length xs) j) = ap (λ ys. element ys j) e ∙ turned_left xs j inside in
+    let before : element forth j ≡ element xs (place_before (length xs) j) = ap (λ ys. element ys j) f ∙ turned_right xs j inside in
     omega (arith, ap one_if behind, ap one_if before)
 
 -- a grid's row, and what a grid is with one row written
@@ -157,13 +157,13 @@ row_kept f xs i k x other inside =
 
 -- a row's cell in the next generation, by the rows that are these turned both ways
 pub next_at : (xs row ys la ra lr rr lb rb : List Bool) (cell : Bool) (j : ℕ) → length xs ≡ 64 → length row ≡ 64 → length ys ≡ 64 → j < 64
-    → la ≡ drop 1 xs ++ take 1 xs → ra ≡ drop 63 xs ++ take 63 xs → lr ≡ drop 1 row ++ take 1 row → rr ≡ drop 63 row ++ take 63 row → lb ≡ drop 1 ys ++ take 1 ys → rb ≡ drop 63 ys ++ take 63 ys
+    → la ≡ drop 1 xs ++ take 1 xs → ra ≡ drop (length xs - 1) xs ++ take (length xs - 1) xs → lr ≡ drop 1 row ++ take 1 row → rr ≡ drop (length row - 1) row ++ take (length row - 1) row → lb ≡ drop 1 ys ++ take 1 ys → rb ≡ drop (length ys - 1) ys ++ take (length ys - 1) ys
     → cell ≡ lives (element row j) (0 + one_if (element la j) + one_if (element xs j) + one_if (element ra j) + one_if (element lr j) + one_if (element rr j) + one_if (element lb j) + one_if (element ys j) + one_if (element rb j))
     → cell ≡ next_cell xs row ys j
 next_at xs row ys la ra lr rr lb rb cell j a b c inside e f g h k l is =
-    let up = beside_of xs la ra 64 j a inside e f in
-    let here = beside_of row lr rr 64 j b inside g h in
-    let down = beside_of ys lb rb 64 j c inside k l in
+    let up = beside_of xs la ra j (omega (arith, inside, a)) e f in
+    let here = beside_of row lr rr j (omega (arith, inside, b)) g h in
+    let down = beside_of ys lb rb j (omega (arith, inside, c)) k l in
     let sum : 0 + one_if (element la j) + one_if (element xs j) + one_if (element ra j) + one_if (element lr j) + one_if (element rr j) + one_if (element lb j) + one_if (element ys j) + one_if (element rb j)
     ≡ around xs j + beside row j + around ys j = omega (arith, up, here, down) in
     subst (λ n. cell ≡ lives (element row j) n) sum is

@@ -7,7 +7,7 @@ use Rattle.bitvec.specs.Span.{element}
 abbrev pub one_if : Bool → ℕ
 one_if bit = cond bit 1 0
 
--- the place before one of so many, and the place behind it, where the last is before the first
+-- the place before one of `many`, and the place behind it, where the last is before the first
 abbrev pub place_before : ℕ → ℕ → ℕ
 place_before many j = (j + (many - 1)) % many
 
@@ -21,7 +21,7 @@ beside row j = one_if (element row (place_before (length row) j)) + one_if (elem
 abbrev pub around : List Bool → ℕ → ℕ
 around row j = beside row j + one_if (element row j)
 
--- whether a cell lives next that has so many neighbours
+-- whether a cell lives next that has n neighbours
 abbrev pub lives : Bool → ℕ → Bool
 lives alive n = (n == 3) || (alive && (n == 2))
 

@@ -1,47 +1,32 @@
 //! Rows and grids of cells, and the next generation of each.
 
-ghost use Rattle.std.specs.Prelude.{◌≡◌, ◌-◌, ◌<◌, ◌≤◌, ℕ, ◌++◌, length, map, take, drop};
+ghost use Rattle.std.specs.Prelude.{◌≡◌, ◌-◌, ◌<◌, ℕ, ◌++◌, length, map, take, drop};
 ghost use Rattle.bitvec.specs.Span.{element};
-ghost use Rattle.bitvec_array.specs.Array.{array_len, bits_in};
 ghost use Rattle.bitvec_array.specs.BitArray.{array_bits};
 ghost use Rattle.example_life.specs.Rule.{place_before, place_behind, next_cell, IsNext};
 
 use crate::counts::{Counts, Row};
-use bitvec_array::prelude::{BitArray, BitOrder, BitSliceMut};
-
-// Puts the first `by` bits of some words behind the others.
-fn turn<O: BitOrder<usize>, const N: usize>(words: &mut [usize], len: usize, by: usize)
-    requires many { length words.old ≡ N }
-    requires all { len ≡ array_len N }
-    requires inside { by ≤ len }
-    ensures { let xs = bits_in O.at_of N words.old
-        in bits_in O.at_of N words.new ≡ drop by xs ++ take by xs }
-{
-    let mut bits = BitSliceMut::<usize, O>::front_unchecked(words, len);
-    bits.rotate_left(by);
-}
+use bitvec_array::prelude::{BitArray, BitOrder};
 
 // The row with each cell where the one behind it was, and the first cell last.
 fn left<O: BitOrder<usize>, const N: usize>(row: BitArray<O, N>) -> BitArray<O, N>
     requires { 0 < N }
-    ensures { array_bits result ≡ drop 1 (array_bits row) ++ take 1 (array_bits row) }
+    ensures { let xs = array_bits row in array_bits result ≡ drop 1 xs ++ take 1 xs }
 {
-    let len = row.len();
-    let mut words = row.into_words();
-    turn::<O, N>(&mut words, len, 1);
-    BitArray::from_words(words)
+    let mut turned = row;
+    turned.rotate_left(1);
+    turned
 }
 
 // The row with each cell where the one before it was, and the last cell first.
 fn right<O: BitOrder<usize>, const N: usize>(row: BitArray<O, N>) -> BitArray<O, N>
     requires { 0 < N }
-    ensures { array_bits result ≡ drop (array_len N - 1) (array_bits row)
-        ++ take (array_len N - 1) (array_bits row) }
+    ensures { let xs = array_bits row in array_bits result
+        ≡ drop (length xs - 1) xs ++ take (length xs - 1) xs }
 {
-    let len = row.len();
-    let mut words = row.into_words();
-    turn::<O, N>(&mut words, len, len - 1);
-    BitArray::from_words(words)
+    let mut turned = row;
+    turned.rotate_right(1);
+    turned
 }
 
 /// The next generation of a row, by the rows above and below it. Each row goes round at its ends.

@@ -10,7 +10,7 @@ use Rattle.std.proofs.lemmas.List.FromFn.{length-range_with_len, get_or-range_wi
 use Rattle.std.proofs.lemmas.List.Kept.{IsStrictlyIncreasing-filter}
 use Rattle.std.proofs.lemmas.Nat.Gcd.{dvd_of_mod-eq-zero, mod-eq-zero_of_dvd, dvd_trans}
 use Rattle.bitvec.specs.Span.{element}
-use Rattle.example_primes.specs.Primes.{HasNoDivisorBelow, IsSetOf}
+use Rattle.example_primes.specs.Primes.{HasNoDivisorBelow, IsPrime, IsSetOf}
 
 differ : true ≡ false → ⊥
 differ e = cc
@@ -169,3 +169,31 @@ numbers_are P xs numbers bound is many so n =
           let at : Contains (filter (element xs) all) n = filter_keeps (element xs) all n (n, inside, get_or-range_with_len 0 (length xs - 0) n n (omega (arith, less)) ∙ zero_more n) ((so n less).1 both.0) in
           subst (λ (ns : List ℕ). Contains ns n) (sym is) at,
     )
+
+-- a set that has the numbers below a bound, or none where no number below it is a prime
+pub primes_are : (xs : List Bool) (numbers : List ℕ) (bound : ℕ) → numbers ≡ filter (element xs) (range_with_len 0 (length xs - 0)) → (2 < bound → length xs ≡ bound) → (bound ≤ 2 → length xs ≡ 0)
+    → IsSetOf IsPrime xs → (n : ℕ) → Contains numbers n ↔ (IsPrime n × (n < bound))
+primes_are xs numbers bound is long none so n =
+    let both = numbers_are IsPrime xs numbers (length xs) is refl so n in (
+      λ at. let it = both.0 at in (
+        it.0,
+        elim (cases_lt 2 bound) [
+          | inl more ↦ (let e = long more in omega (arith, it.1, e))
+          | inr few ↦ (let e = none few in absurd (omega (arith, it.1, e)))
+        ],
+      ),
+      λ it. let e = long (omega (arith, it.0.0, it.1)) in both.1 (it.0, omega (arith, it.1, e)),
+    )
+
+-- a list with an element has its first
+first_in : (ns : List ℕ) → 0 < length ns → (n : ℕ) × Contains ns n
+first_in [] h = absurd (omega (arith, h))
+first_in (n ∷ ns) h = (n, (zero, omega arith, refl))
+
+-- a set of primes that has a number has one above 1
+pub bound_above_2 : (xs : List Bool) (bound : ℕ) → (2 < bound → length xs ≡ bound) → (bound ≤ 2 → length xs ≡ 0) → IsSetOf IsPrime xs
+    → 0 < length (filter (element xs) (range_with_len 0 (length xs - 0))) → 2 < bound
+bound_above_2 xs bound long none so some =
+    let first = first_in (filter (element xs) (range_with_len 0 (length xs - 0))) some in
+    let is = (primes_are xs (filter (element xs) (range_with_len 0 (length xs - 0))) bound refl long none so first.0).0 first.1 in
+    omega (arith, is.0.0, is.1)

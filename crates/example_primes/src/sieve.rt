@@ -1,7 +1,8 @@
 //! A set of numbers as a vector in which bit n says whether n is in it: a sieve, and the numbers
 //! that it leaves.
 
-ghost use Rattle.std.specs.Prelude.{◌≡◌, ◌<◌, ◌%◌, ◌↔◌, ℕ, IfOk, true, length, Contains};
+ghost use Rattle.std.specs.Prelude.{◌≡◌, ◌<◌, ◌≤◌, ◌%◌, ◌↔◌, ℕ, IfOk, OnErr, true, length};
+ghost use Rattle.std.specs.Prelude.{Contains};
 ghost use Rattle.std.specs.List.Sorted.{IsStrictlyIncreasing};
 ghost use Rattle.bitvec.specs.Span.{element};
 ghost use Rattle.bitvec_slice.specs.Bits.{ones_between};
@@ -31,11 +32,17 @@ fn take_multiples(set: &mut BitVec<u64, Lsb0>, number: usize)
 }
 
 // The set of the primes below a bound: what is left of the numbers from 2 on where, of each that is
-// still there, the multiples are taken out.
+// still there, the multiples are taken out. Below a bound of at most 2 there are none: the set has
+// no numbers then, and takes no memory.
 fn sieve(alloc: Global, bound: usize) -> Result<BitVec<u64, Lsb0>, AllocError>
-    ensures len { IfOk result (λ set. length (vec_bits set) ≡ bound) }
+    ensures len { IfOk result (λ set. 2 < bound → length (vec_bits set) ≡ bound) }
+    ensures none { IfOk result (λ set. bound ≤ 2 → length (vec_bits set) ≡ 0) }
     ensures primes { IfOk result (λ set. IsSetOf IsPrime (vec_bits set)) }
+    ensures full { OnErr result (2 < bound) }
 {
+    if bound <= 2 {
+        return Ok(BitVec::new(alloc));
+    }
     let mut set: BitVec<u64, Lsb0> = BitVec::repeat(alloc, false, 2)?;
     set.resize(bound, true)?;
     for number in 2..bound {
@@ -46,10 +53,12 @@ fn sieve(alloc: Global, bound: usize) -> Result<BitVec<u64, Lsb0>, AllocError>
     Ok(set)
 }
 
-// The numbers of a set, in rising order.
+// The numbers of a set, in rising order. It refuses only where the set has a number.
 fn numbers_of(alloc: Global, set: &BitVec<u64, Lsb0>) -> Result<Vec<usize>, AllocError>
-    ensures { IfOk result (λ numbers. numbers.items
+    ensures numbers { IfOk result (λ numbers. numbers.items
         ≡ ones_between (vec_bits set.now) 0 (length (vec_bits set.now))) }
+    ensures full { OnErr result
+        (0 < length (ones_between (vec_bits set.now) 0 (length (vec_bits set.now)))) }
 {
     let mut numbers = Vec::new(alloc);
     for number in set.iter_ones() {
@@ -58,11 +67,13 @@ fn numbers_of(alloc: Global, set: &BitVec<u64, Lsb0>) -> Result<Vec<usize>, Allo
     Ok(numbers)
 }
 
-/// The primes below a bound, in rising order. It refuses where memory is refused.
+/// The primes below a bound, in rising order. It refuses where memory is refused; for a bound of at
+/// most 2 there are no primes, and it asks for no memory and never refuses.
 pub fn primes_below(alloc: Global, bound: usize) -> Result<Vec<usize>, AllocError>
     ensures rising { IfOk result (λ primes. IsStrictlyIncreasing primes.items) }
     ensures primes { IfOk result (λ primes. (n : ℕ) → Contains primes.items n
         ↔ (IsPrime n × (n < bound))) }
+    ensures full { OnErr result (2 < bound) }
 {
     let set = sieve(alloc, bound)?;
     let primes = numbers_of(alloc, &set)?;

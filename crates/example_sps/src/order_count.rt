@@ -7,9 +7,9 @@ use std::fmt;
 /// How the pictures' places in the order of output are told.
 #[derive(Clone, Copy, PartialEq, Eq, Debug, Drop)]
 pub enum OrderCount {
-    /// The lowest digits of the place stand with each picture: so many.
+    /// The lowest digits of the place stand with each picture: this many.
     Digits(u32),
-    /// The place follows from the frame's number, by a cycle of so many reference frames.
+    /// The place follows from the frame's number, by a cycle of this many reference frames.
     Cycle(u32),
     /// The order of output is that of decoding.
     Decoding,

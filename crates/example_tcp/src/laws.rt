@@ -1,6 +1,7 @@
 //! What was written is read.
 
-ghost use Rattle.std.specs.Prelude.{◌≡◌, ◌↔◌, ◌≤◌, IsOk, IfOk, MatchResult, length, drop};
+ghost use Rattle.std.specs.Prelude.{◌≡◌, ◌↔◌, ◌≤◌, ◌++◌, IsOk, IfOk, MatchResult};
+ghost use Rattle.std.specs.Prelude.{Bool, List, length};
 ghost use Rattle.bitvec_slice.specs.BitSlice.{slice_bits};
 ghost use Rattle.bitvec_stream.specs.Writer.{written, room, Writes};
 ghost use Rattle.example_tcp.specs.Header.{header_bits, HeaderFits, OneHeader};
@@ -20,7 +21,8 @@ fn behind<'b, R: BitRegister, O: BitOrder<R>>(
     before: usize,
 ) -> BitSlice<'b, R, O>
     requires { before ≤ length (written writer.now) }
-    ensures { slice_bits result ≡ drop before (written writer.now) }
+    ensures { (front bits : List Bool) → length front ≡ before
+        → written writer.now ≡ front ++ bits → slice_bits result ≡ bits }
 {
     let (_, last) = writer.written().split_at(before);
     last

@@ -7,6 +7,8 @@ mod bloom;
 #[cfg(test)]
 mod huffman;
 #[cfg(test)]
+mod huffman_text;
+#[cfg(test)]
 mod life;
 #[cfg(test)]
 mod numbers;

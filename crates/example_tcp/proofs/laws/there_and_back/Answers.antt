@@ -1,5 +1,4 @@
-use Rattle.std.proofs.Common.{◌≡◌, ◌++◌, ◌≤◌, [], length, drop, refl, sym, ap, ◌∙◌, arith, rules, length-append}
-use Rattle.std.proofs.lemmas.List.{drop_at}
+use Rattle.std.proofs.Common.{◌≡◌, ◌++◌, [], length, refl, sym, ap, ◌∙◌, arith, rules, length-append}
 use Rattle.bitvec_stream.specs.Reader.{unread}
 use Rattle.bitvec_stream.specs.Writer.{written}
 use Rattle.example_tcp.specs.Header.{header_bits, HeaderFits}
@@ -12,14 +11,12 @@ behind-requires g c =
 
 pub unwrap-requires : goal.unwrap-requires
 unwrap-requires g c =
-    let old = written c.args.writer.now in
-    let bits = c.new-reader.ensures.rest ∙ c.behind.ensures ∙ ap (drop c.position-before.result) c.in_ok-write.ensures.written.0 ∙ drop_at old (header_bits c.args.header) c.position-before.result (sym c.position-before.ensures.list) in
+    let bits = c.new-reader.ensures.rest ∙ c.behind.ensures (written c.args.writer.now) (header_bits c.args.header) (sym c.position-before.ensures.list) c.in_ok-write.ensures.written.0 in
     c.read.ensures.accepted.1 (header_there c.args.header [] (unread c.new-reader.result) refl bits)
 
 pub returns-clause-value : goal.returns-clause-value
 returns-clause-value g c =
-    let old = written c.args.writer.now in
-    let bits = c.new-reader.ensures.rest ∙ c.behind.ensures ∙ ap (drop c.position-before.result) c.in_ok-write.ensures.written.0 ∙ drop_at old (header_bits c.args.header) c.position-before.result (sym c.position-before.ensures.list) in
+    let bits = c.new-reader.ensures.rest ∙ c.behind.ensures (written c.args.writer.now) (header_bits c.args.header) (sym c.position-before.ensures.list) c.in_ok-write.ensures.written.0 in
     let read : unread c.new-reader.result ≡ header_bits c.unwrap.result ++ unread c.read.new.reader = search rules in
     let fits : HeaderFits c.unwrap.result = search rules in
     header_back c.args.header c.unwrap.result [] _ _ refl bits read (c.in_ok-write.ensures.accepted.0 refl).1 fits

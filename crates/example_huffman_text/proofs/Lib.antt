@@ -1,0 +1,3 @@
+mod EmptyWrites
+pub mod SymbolLemmas
+pub mod TextLemmas

@@ -1,0 +1,9 @@
+use Rattle.std.proofs.Common.{take}
+use Rattle.bitvec_stream.specs.Writer.{Writes}
+use Rattle.example_huffman.specs.Huffman.{lengths_of}
+use Rattle.example_huffman_text.specs.Text.{text_bits}
+use Rattle.example_huffman_text.proofs.text.put_symbols.Given as goal
+
+-- the symbols so far were written
+abbrev pub invariant-loop-place : goal.invariant-loop-place
+invariant-loop-place g l = Writes l.fn.writer l.writer (text_bits (lengths_of l.code) (take l.place l.symbols))

@@ -1,0 +1,24 @@
+-- A text of symbols: their codes, one behind the other.
+use Rattle.std.specs.Prelude.{◌≡◌, ℕ, Bool, List, ◌++◌, length, slice_index}
+use Rattle.std.specs.List.{All, flat_map}
+use Rattle.bitvec_stream.specs.Golomb.{StartsWith}
+use Rattle.bitvec_stream.specs.Numbers.{digits_be}
+use Rattle.example_huffman.specs.Codes.{IsComplete, HasCode, code_of}
+
+-- the bits of a symbol's code, the highest digit first
+abbrev pub code_bits : List ℕ → ℕ → List Bool
+code_bits lengths symbol = digits_be (slice_index lengths symbol) (code_of lengths symbol)
+
+-- a list begins with a symbol's code
+abbrev pub BeginsWithSymbol : List ℕ → List Bool → ℕ → Type 0
+BeginsWithSymbol lengths xs symbol = HasCode lengths symbol × StartsWith xs (code_bits lengths symbol)
+
+-- the bits of symbols, one code behind the other
+abbrev pub text_bits : List ℕ → List ℕ → List Bool
+text_bits lengths symbols = flat_map (code_bits lengths) symbols
+
+-- Bits begin with one text of so many symbols and no other, and what stands behind it is known: what was written is read.
+abbrev pub OneText : Type 0
+OneText =
+    (lengths one other : List ℕ) (after left : List Bool) → IsComplete lengths → All (HasCode lengths) one → All (HasCode lengths) other
+    → length one ≡ length other → text_bits lengths one ++ after ≡ text_bits lengths other ++ left → (one ≡ other) × (after ≡ left)
