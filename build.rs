@@ -25,9 +25,6 @@ const BESIDES: [(&str, Option<&str>); 2] = [
 const LEFT_OUT: [&str; 2] = ["bench", "bitvec_c"];
 
 fn main() -> ExitCode {
-    for read in ["build.rs", "rust/strip", "crates.txt"] {
-        println!("cargo::rerun-if-changed={read}");
-    }
     match make() {
         Ok(()) => ExitCode::SUCCESS,
         Err(fault) => {
@@ -43,11 +40,18 @@ fn make() -> Result<(), String> {
             .map(PathBuf::from)
             .ok_or(format!("{name} is not set"))
     };
-    let (here, out) = (
+    let (package, out) = (
         folder_of("CARGO_MANIFEST_DIR")?,
         folder_of("OUT_DIR")?.join("proved"),
     );
-    let crates = crates::listed(&here)?;
+    // (the list is at the top, which is the package's folder, but for `rust/serde`)
+    let mut above = package.ancestors();
+    let here = above.find(|folder| folder.join("crates.txt").exists());
+    let here = here.ok_or("there is no crates.txt")?;
+    for read in ["build.rs", "rust/strip", "crates.txt"] {
+        println!("cargo::rerun-if-changed={}", here.join(read).display());
+    }
+    let crates = crates::listed(here)?;
     let mut library = with_those_below(TOP, &crates);
     for (name, feature) in BESIDES {
         if feature.is_none_or(|it| env::var_os(it).is_some()) {

@@ -10,8 +10,28 @@ use crate::slice::{BitSlice, granted};
 use crate::slice_mut::BitSliceMut;
 #[cfg(feature = "alloc")]
 use crate::vec::BitVec;
+use crate::words::whole;
 use core::cmp::Ordering;
 use core::hash::{Hash, Hasher};
+
+/// Whether so many bits from two places on are the same: words that are whole in both as std's
+/// slices compare them, and what stands before and behind these by calls of the library.
+fn equal<T: Register, O: Order>(one: (&[T], usize), other: (&[T], usize), len: usize) -> bool {
+    let ((words, start), (others, from)) = (one, other);
+    let same = |at: usize, count: usize| {
+        let (here, there) = ((words, start + at), (others, from + at));
+        count == 0 || granted(T::equal(O::CODE, here, there, count))
+    };
+    match whole::<T>(start, len) {
+        Some((head, count)) if start % T::BITS == from % T::BITS => {
+            let words = &words[(start + head) / T::BITS..][..count];
+            let others = &others[(from + head) / T::BITS..][..count];
+            let behind = head + count * T::BITS;
+            same(0, head) && words == others && same(behind, len - behind)
+        }
+        _ => same(0, len),
+    }
+}
 
 impl<T: Register, O: Order> BitSlice<'_, T, O> {
     /// Whether another slice has as many bits, and the same ones: what `==` answers. Costs by words
@@ -34,11 +54,9 @@ impl<T: Register, O: Order> BitSlice<'_, T, O> {
         if self.len() != other.len() {
             return false;
         }
-        let (words, start) = self.place();
         match T::same(&other.seen()) {
             Some(others) if O::CODE == O2::CODE => {
-                let there = (others, other.place().1);
-                granted(T::equal(O::CODE, (words, start), there, self.len()))
+                equal::<T, O>(self.place(), (others, other.place().1), self.len())
             }
             _ => self.first_difference(other).is_none(),
         }

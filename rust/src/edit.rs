@@ -9,7 +9,29 @@ use crate::refusal::{Refusal, refused};
 use crate::register::Register;
 use crate::slice::{granted, load_bits, to_boundary};
 use crate::slice_mut::BitSliceMut;
+use crate::words::whole;
 use core::ops::RangeBounds;
+
+/// Copies so many bits from one place to another, of two memories: words that are whole in both as
+/// std's slices copy them, and what stands before and behind these by calls of the library.
+fn copy<T: Register, O: Order>(
+    (source, from): (&[T], usize),
+    (target, to): (&mut [T], usize),
+    len: usize,
+) -> Result<(), Refusal> {
+    let Some((head, count)) = whole::<T>(to, len).filter(|_| from % T::BITS == to % T::BITS) else {
+        return T::copy(O::CODE, (source, from), (target, to), len);
+    };
+    let (first, place) = ((from + head) / T::BITS, (to + head) / T::BITS);
+    target[place..][..count].copy_from_slice(&source[first..][..count]);
+    let behind = head + count * T::BITS;
+    for (at, len) in [(0, head), (behind, len - behind)] {
+        if len != 0 {
+            T::copy(O::CODE, (source, from + at), (target, to + at), len)?;
+        }
+    }
+    Ok(())
+}
 
 crate::refusal::or_panics! {
     [T: Register, O: Order] BitSliceMut<'_, T, O>:
@@ -334,6 +356,29 @@ impl<T: Register, O: Order> BitSliceMut<'_, T, O> {
         self.store_le(number);
     }
 
+    /// As [`store`](Self::store), by a name that says what becomes of a number of more digits than
+    /// there are bits: those above are dropped, by each call that stores. A
+    /// [`BitWriter`](crate::BitWriter) refuses such a number. Constant time.
+    ///
+    /// # Panics
+    ///
+    /// As that call.
+    ///
+    /// # Examples
+    ///
+    /// ```
+    /// use worghulen::{BitView, Lsb0};
+    ///
+    /// let mut words = [0_u8; 2];
+    /// words.view_bits_mut::<Lsb0>().get_mut(4..12).unwrap().store_wrapping(0x123);
+    /// assert_eq!(words, [0x30, 0x02]);
+    /// ```
+    #[inline]
+    #[track_caller]
+    pub fn store_wrapping<N: Number>(&mut self, number: N) {
+        self.store_le(number);
+    }
+
     /// Makes the bits the lowest digits of a number, as many as there are bits, so that
     /// [`load_le`](Self::load_le) gives these back. Constant time.
     ///
@@ -414,8 +459,7 @@ impl<T: Register, O: Order> BitSliceMut<'_, T, O> {
         }
         match T::same(&source.seen()) {
             Some(words) if O::CODE == B::Order::CODE => {
-                let from = (words, source.place().1);
-                T::copy(O::CODE, from, self.place_mut(), len)
+                copy::<T, O>((words, source.place().1), self.place_mut(), len)
             }
             _ => T::convert(
                 B::Order::CODE,

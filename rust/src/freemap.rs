@@ -49,7 +49,7 @@ impl<'a, O: Order> FreeMap<'a, O> {
         freemap::map::words_for(blocks)
     }
 
-    /// A map of so many blocks, which are all free. Costs by words.
+    /// A map of that many blocks, which are all free. Costs by words.
     ///
     /// # Errors
     ///
@@ -109,7 +109,7 @@ impl<'a, O: Order> FreeMap<'a, O> {
         self.0.blocks()
     }
 
-    /// Whether there are so many blocks from one on, and each is in use. Costs by words.
+    /// Whether there are that many blocks from one on, and each is in use. Costs by words.
     ///
     /// # Examples
     ///
@@ -126,7 +126,7 @@ impl<'a, O: Order> FreeMap<'a, O> {
         self.0.is_in_use(at, count)
     }
 
-    /// Whether there are so many blocks from one on, and each is free. Costs by words.
+    /// Whether there are that many blocks from one on, and each is free. Costs by words.
     ///
     /// # Examples
     ///
@@ -243,7 +243,7 @@ impl<'a, O: Order> FreeMap<'a, O> {
     ///
     /// # Panics
     ///
-    /// Panics where there are not so many, or one is not in use; [`try_free`](Self::try_free) does
+    /// Panics where there are not that many, or one is not in use; [`try_free`](Self::try_free) does
     /// not. The map stays then.
     ///
     /// # Examples
@@ -267,7 +267,7 @@ impl<'a, O: Order> FreeMap<'a, O> {
     ///
     /// # Errors
     ///
-    /// [`Refusal::Outside`] where there are not so many, otherwise [`Refusal::NotInUse`] where one
+    /// [`Refusal::Outside`] where there are not that many, otherwise [`Refusal::NotInUse`] where one
     /// is not in use. The map stays then.
     ///
     /// # Examples

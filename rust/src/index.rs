@@ -43,10 +43,28 @@ pub trait BitIndex<'a, T, O>: sealed::Sealed {
     /// The same, lent for writing.
     type OutputMut;
 
-    /// What is named, and `None` where it is not among the bits.
+    /// What is named, and `None` where it is not among the bits. Constant time.
+    ///
+    /// # Examples
+    ///
+    /// ```
+    /// use worghulen::{BitIndex, bits};
+    ///
+    /// assert_eq!((1..3).of(bits![0, 1, 1]).unwrap(), bits![1, 1]);
+    /// ```
     fn of(self, bits: BitSlice<'a, T, O>) -> Option<Self::Output>;
 
     /// The same, lent for writing.
+    ///
+    /// # Examples
+    ///
+    /// ```
+    /// use worghulen::{BitIndex, BitView, Lsb0};
+    ///
+    /// let mut word = 0_u8;
+    /// *3.of_mut(word.view_bits_mut::<Lsb0>()).unwrap() = true;
+    /// assert_eq!(word, 8);
+    /// ```
     fn of_mut(self, bits: BitSliceMut<'a, T, O>) -> Option<Self::OutputMut>;
 }
 
@@ -84,6 +102,12 @@ mod sealed {
 )]
 pub trait BitPosition: sealed::Sealed {
     /// The index.
+    ///
+    /// # Examples
+    ///
+    /// ```
+    /// assert_eq!(worghulen::BitPosition::position(3), 3);
+    /// ```
     fn position(self) -> usize;
 }
 

@@ -68,7 +68,7 @@ pub struct IoReader<R, O> {
 }
 
 impl<R: Read, O: Order> IoReader<R, O> {
-    /// A reader before the first bit of an input.
+    /// A reader before the first bit of an input. Nothing of it is read yet. Constant time.
     ///
     /// # Examples
     ///
@@ -108,7 +108,8 @@ impl<R: Read, O: Order> IoReader<R, O> {
     }
 
     /// The input, behind the last byte that was taken. Where only `read` and its like were called,
-    /// that is the byte of the last bit that was read: bits of it that were not are lost.
+    /// that is the byte of the last bit that was read: bits of it that were not are lost. Constant
+    /// time.
     ///
     /// # Examples
     ///
@@ -198,7 +199,8 @@ impl<R: Read, O: Order> IoReader<R, O> {
     }
 
     /// The number of the next `count` bits, as the order has it: as [`read_be`](Self::read_be) by
-    /// `Msb0`, and as [`read_le`](Self::read_le) by `Lsb0`.
+    /// `Msb0`, and as [`read_le`](Self::read_le) by `Lsb0`. Constant time, but for the input: bytes
+    /// are taken where fewer bits are held.
     ///
     /// # Errors
     ///
@@ -220,7 +222,7 @@ impl<R: Read, O: Order> IoReader<R, O> {
     }
 
     /// The number of the next `count` bits, the first the highest digit; a signed number is in two's
-    /// complement of `count` digits.
+    /// complement of `count` digits. Constant time, as [`read`](Self::read).
     ///
     /// # Errors
     ///
@@ -241,7 +243,7 @@ impl<R: Read, O: Order> IoReader<R, O> {
     }
 
     /// The number of the next `count` bits, the first the lowest digit; a signed number is in two's
-    /// complement of `count` digits.
+    /// complement of `count` digits. Constant time, as [`read`](Self::read).
     ///
     /// # Errors
     ///
@@ -284,7 +286,7 @@ impl<R: Read, O: Order> IoReader<R, O> {
         Ok(N::of_digits(self.digits(O::BIG, count)?, count))
     }
 
-    /// The next bit.
+    /// The next bit. Constant time, but for the input.
     ///
     /// # Errors
     ///
@@ -358,7 +360,8 @@ impl<R: Read, O: Order> IoReader<R, O> {
         self.skip(to.ok_or(Refusal::TooFew)? - self.position)
     }
 
-    /// How many bits are `bit` before the first that is not, which is read too.
+    /// How many bits are `bit` before the first that is not, which is read too. Costs by bytes of the
+    /// input.
     ///
     /// # Errors
     ///
@@ -395,7 +398,7 @@ impl<R: Read, O: Order> IoReader<R, O> {
 
     /// The number whose Exp-Golomb code stands next: `ue(v)` of ITU-T H.264 and H.265, or for a
     /// signed type `se(v)`, as [`BitReader::read_exp_golomb`](crate::BitReader::read_exp_golomb)
-    /// says.
+    /// says. Constant time, but for the input: a code has at most 129 bits.
     ///
     /// # Errors
     ///
@@ -494,7 +497,7 @@ pub struct IoWriter<W, O> {
 }
 
 impl<W: Write, O: Order> IoWriter<W, O> {
-    /// A writer of nothing yet.
+    /// A writer of nothing yet. Constant time.
     ///
     /// # Examples
     ///
@@ -533,7 +536,8 @@ impl<W: Write, O: Order> IoWriter<W, O> {
         self.position
     }
 
-    /// The output, to which all is written: the last byte is filled by zeros.
+    /// The output, to which all is written: the last byte is filled by zeros. Constant time, but for
+    /// the output.
     ///
     /// # Errors
     ///
@@ -556,7 +560,7 @@ impl<W: Write, O: Order> IoWriter<W, O> {
     }
 
     /// Hands on the bytes that are whole, and has the output do so with what it keeps. The bits of a
-    /// byte that is not whole yet stay here.
+    /// byte that is not whole yet stay here. Constant time, but for the output.
     ///
     /// # Errors
     ///
@@ -647,7 +651,8 @@ impl<W: Write, O: Order> IoWriter<W, O> {
     }
 
     /// Writes a number in `count` bits, as the order has it: as [`write_be`](Self::write_be) by
-    /// `Msb0`, and as [`write_le`](Self::write_le) by `Lsb0`.
+    /// `Msb0`, and as [`write_le`](Self::write_le) by `Lsb0`. Constant time, but for the output,
+    /// which has the bytes by eight.
     ///
     /// # Errors
     ///
@@ -672,7 +677,7 @@ impl<W: Write, O: Order> IoWriter<W, O> {
     }
 
     /// Writes a number in `count` bits, the first the highest digit; a signed number in two's
-    /// complement of `count` digits.
+    /// complement of `count` digits. Constant time, as [`write`](Self::write).
     ///
     /// # Errors
     ///
@@ -694,7 +699,7 @@ impl<W: Write, O: Order> IoWriter<W, O> {
     }
 
     /// Writes a number in `count` bits, the first the lowest digit; a signed number in two's
-    /// complement of `count` digits.
+    /// complement of `count` digits. Constant time, as [`write`](Self::write).
     ///
     /// # Errors
     ///
@@ -715,7 +720,7 @@ impl<W: Write, O: Order> IoWriter<W, O> {
         self.number(false, count, number)
     }
 
-    /// Writes a bit.
+    /// Writes a bit. Constant time, but for the output.
     ///
     /// # Errors
     ///
@@ -736,7 +741,7 @@ impl<W: Write, O: Order> IoWriter<W, O> {
         self.put(O::BIG, u64::from(bit), 1)
     }
 
-    /// Writes `count` bits that are `bit`, and one that is not.
+    /// Writes `count` bits that are `bit`, and one that is not. Costs by words of 64.
     ///
     /// # Errors
     ///
@@ -771,7 +776,7 @@ impl<W: Write, O: Order> IoWriter<W, O> {
     }
 
     /// Writes bits that are `bit` up to the next place that is a multiple of `of` bits, from the
-    /// first on: none where it stands at one.
+    /// first on: none where it stands at one. Costs by words of 64.
     ///
     /// # Errors
     ///
@@ -795,7 +800,8 @@ impl<W: Write, O: Order> IoWriter<W, O> {
     }
 
     /// Writes a number's Exp-Golomb code: `ue(v)` of ITU-T H.264 and H.265, or for a signed type
-    /// `se(v)`, as [`BitReader::read_exp_golomb`](crate::BitReader::read_exp_golomb) says.
+    /// `se(v)`, as [`BitReader::read_exp_golomb`](crate::BitReader::read_exp_golomb) says. Constant
+    /// time, but for the output: a code has at most 129 bits.
     ///
     /// # Errors
     ///

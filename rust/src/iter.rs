@@ -75,7 +75,7 @@ impl<'a, T: Register, O: Order> Iter<'a, T, O> {
         self.0
     }
 
-    /// The same bits, each a `&bool`.
+    /// The same bits, each a `&bool`. Constant time.
     ///
     /// # Examples
     ///
@@ -208,6 +208,10 @@ fn before<T: Register, O: Order>(bits: &BitSlice<'_, T, O>) -> usize {
 /// As many words as are read in one call where every bit is to be seen.
 const BLOCK: usize = 16;
 
+/// So many words in a row that have a bit which is looked for are read one by one before more are
+/// read in one call.
+const FEW: usize = 4;
+
 /// Bits that were read in one call, at most as many as `BLOCK` words of 64 have.
 struct Block {
     /// As digits, the first bit lowest in the first word.
@@ -219,15 +223,10 @@ struct Block {
 
 impl Block {
     /// The bits with an index from `from` to before `to`, there are some, to where the word of 64
-    /// bits ends in which the first lies and as many more words as make `words`.
+    /// bits ends in which the first lies and as many more words as make `BLOCK`.
     #[inline]
-    fn read<T: Register, O: Order>(
-        bits: BitSlice<'_, T, O>,
-        from: usize,
-        to: usize,
-        words: usize,
-    ) -> Self {
-        let len = (bits.ahead(from) + 64 * (words - 1)).min(to - from);
+    fn read<T: Register, O: Order>(bits: BitSlice<'_, T, O>, from: usize, to: usize) -> Self {
+        let len = (bits.ahead(from) + 64 * (BLOCK - 1)).min(to - from);
         let mut digits = [0; BLOCK];
         if len <= 64 {
             digits[0] = bits.window(from, len);
@@ -313,7 +312,7 @@ impl<T: Register, O: Order> Iterator for BitValIter<'_, T, O> {
         let mut acc = held(init, self.front);
         let mut from = 0;
         while from < self.bits.len() {
-            let block = Block::read(self.bits, from, self.bits.len(), BLOCK);
+            let block = Block::read(self.bits, from, self.bits.len());
             for (digits, at) in block.words::<false>() {
                 let len = (block.behind() - at).min(64);
                 acc = held(acc, Held { digits, len });
@@ -409,18 +408,27 @@ impl<'a, T: Register, O: Order, const FLIP: bool> Indices<'a, T, O, FLIP> {
             acc
         };
         let mut acc = each(init, self.front);
-        let mut from = self.from;
-        // (more words at a time from one that has some on, since few are passed by faster)
-        let mut words = 1;
+        let (mut from, mut in_a_row) = (self.from, 0);
         while from < self.to {
-            let block = Block::read(self.bits, from, self.to, words);
-            from = block.behind();
-            if block.words::<FLIP>().all(|(digits, _)| digits == 0) {
-                from += passed::<T, O, FLIP>(&self.bits, from, self.to - from);
-                words = 1;
+            // (many words at a time behind some that have any, since few are passed by faster)
+            let at = from;
+            let has_any;
+            if in_a_row < FEW {
+                let count = self.bits.ahead(from).min(self.to - from);
+                let digits = sought::<T, O, FLIP>(&self.bits, from, count);
+                (from, has_any) = (at + count, digits != 0);
+                acc = each(acc, (digits, at));
             } else {
+                let block = Block::read(self.bits, from, self.to);
+                from = block.behind();
+                has_any = block.words::<FLIP>().any(|(digits, _)| digits != 0);
                 acc = block.words::<FLIP>().fold(acc, &mut each);
-                words = BLOCK.min(2 * words);
+            }
+            if has_any {
+                in_a_row += 1;
+            } else {
+                from += passed::<T, O, FLIP>(&self.bits, from, self.to - from);
+                in_a_row = 0;
             }
         }
         each(acc, self.back)
@@ -675,8 +683,8 @@ impl<T: Register, O: Order> FusedIterator for Chunks<'_, T, O> {}
 
 impl<'a, T: Register, O: Order> BitSlice<'a, T, O> {
     /// The bits in order, each lent to be read by a [`BitRef`]; [`by_vals`](Iter::by_vals) makes
-    /// `bool`s of them. It reads up to 64 of them by one call, and up to 1024 where all that are left
-    /// are asked for at once.
+    /// `bool`s of them. Constant time, and then by bits: it reads up to 64 of them by one call, and
+    /// up to 1024 where all that are left are asked for at once.
     ///
     /// # Examples
     ///

@@ -14,9 +14,15 @@ compile_error!("a usize has 64 bits here, as the library is proved for, or 32");
 #[cfg(test)]
 extern crate std;
 
+// (first, since rustdoc lists the calls of a type by its modules in this order)
 mod array;
 #[cfg(feature = "alloc")]
 mod boxed;
+mod slice;
+mod slice_mut;
+#[cfg(feature = "alloc")]
+mod vec;
+
 #[cfg(feature = "std")]
 mod bytes;
 mod combine;
@@ -42,13 +48,11 @@ mod readers;
 mod refusal;
 mod register;
 mod run;
-mod slice;
-mod slice_mut;
+#[cfg(feature = "serde")]
+mod serde;
 mod stream;
 mod sys;
 mod text;
-#[cfg(feature = "alloc")]
-mod vec;
 mod view;
 mod words;
 mod writer;
@@ -79,7 +83,7 @@ pub use sys::Span;
 #[cfg(feature = "alloc")]
 pub use vec::{BitVec, IntoIter};
 pub use view::{AsBits, AsMutBits, BitView};
-pub use writer::BitWriter;
+pub use writer::{BitWriter, HeldWriter};
 
 /// The number of the version of the proved library: 10000 times its first part, 100 times its second,
 /// and its third.

@@ -6,6 +6,7 @@ pub mod parts {
     use crate::order::Order;
 
     /// At which digit of a word an index lies.
+    #[doc(hidden)]
     #[must_use]
     pub const fn digit<O: Order>(index: usize, width: usize) -> usize {
         if O::BIG { width - 1 - index } else { index }

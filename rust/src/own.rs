@@ -13,7 +13,7 @@ use std_alloc::vec::Vec;
 extern crate alloc as std_alloc;
 
 /// Words that the library hands back, as this crate has them: the same, of the same type.
-pub trait Owned: Exports {
+pub trait Owned: Exports + Eq {
     /// A word of no ones.
     const ZERO: Self;
 
@@ -23,11 +23,11 @@ pub trait Owned: Exports {
     /// The words, to be written.
     fn own_mut(words: &mut [Self::Word]) -> &mut [Self];
 
-    /// The 64 bits of the words from one on, where there are so many: the digits of the first are
+    /// The 64 bits of the words from one on, where there are that many: the digits of the first are
     /// the highest where `big`, and the lowest else.
     fn joined(words: &[Self], from: usize, big: bool) -> Option<u64>;
 
-    /// Puts in place of the 64 bits that `joined` has what is made of them, where there are so many,
+    /// Puts in place of the 64 bits that `joined` has what is made of them, where there are that many,
     /// and returns it.
     fn rejoin(
         words: &mut [Self],
@@ -199,6 +199,15 @@ pub trait AsBitSlice {
     type Order: Order;
 
     /// The bits, to be read. Constant time.
+    ///
+    /// # Examples
+    ///
+    /// ```
+    /// use worghulen::{AsBitSlice, BitArray, Lsb0};
+    ///
+    /// let array = BitArray::<_, Lsb0>::new([3_u8]);
+    /// assert_eq!(AsBitSlice::as_bitslice(&&array).count_ones(), 2);
+    /// ```
     fn as_bitslice(&self) -> BitSlice<'_, Self::Word, Self::Order>;
 }
 

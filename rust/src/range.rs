@@ -12,12 +12,9 @@ pub(crate) fn bits_of(words: usize, width: usize) -> usize {
     words.saturating_mul(width)
 }
 
-/// Where a range starts, and how many bits it has; refused where these are not among `bits`.
+/// Where a range of `bits` starts and ends; `None` where that is past the greatest number.
 #[inline]
-pub(crate) fn within(
-    range: impl RangeBounds<usize>,
-    bits: usize,
-) -> Result<(usize, usize), Refusal> {
+pub(crate) fn ends(range: &impl RangeBounds<usize>, bits: usize) -> Option<(usize, usize)> {
     let start = match range.start_bound() {
         Bound::Included(&start) => Some(start),
         Bound::Excluded(&before) => before.checked_add(1),
@@ -28,8 +25,17 @@ pub(crate) fn within(
         Bound::Excluded(&end) => Some(end),
         Bound::Unbounded => Some(bits),
     };
+    start.zip(end)
+}
+
+/// Where a range starts, and how many bits it has; refused where these are not among `bits`.
+#[inline]
+pub(crate) fn within(
+    range: impl RangeBounds<usize>,
+    bits: usize,
+) -> Result<(usize, usize), Refusal> {
     let outside = |index| Refusal::Outside { index, len: bits };
-    let (start, end) = start.zip(end).ok_or(outside(usize::MAX))?;
+    let (start, end) = ends(&range, bits).ok_or(outside(usize::MAX))?;
     let len = length(start, end)?;
     if end > bits {
         return Err(outside(end));

@@ -61,7 +61,7 @@ pub enum Refusal {
     SharedWord,
     /// A block that is to be freed is not in use.
     NotInUse,
-    /// There is no memory for so many bits. What was to grow is as it was.
+    /// There is no memory for that many bits. What was to grow is as it was.
     NoMemory,
     /// The character of a text at this place, counted from 0, is neither `0` nor `1`.
     NotADigit(usize),
@@ -124,7 +124,7 @@ impl Display for Refusal {
             }
             Self::SharedWord => "a cut does not lie between two words",
             Self::NotInUse => "a block is not in use",
-            Self::NoMemory => "there is no memory for so many bits",
+            Self::NoMemory => "there is no memory for that many bits",
             Self::NotADigit(at) => return write!(f, "character {at} is neither 0 nor 1"),
             Self::Unknown(number) => return write!(f, "the library answered {number}"),
         })

@@ -301,6 +301,16 @@ impl Span {
     ///
     /// [`Refusal::Reversed`] where the range starts past its end, and [`Refusal::TooLong`] where it
     /// has too many bits.
+    ///
+    /// # Examples
+    ///
+    /// ```
+    /// use worghulen::{Refusal, Span};
+    ///
+    /// assert_eq!(Span::new(3..8)?, Span { start: 3, count: 5 });
+    /// assert_eq!(Span::new(3..2), Err(Refusal::Reversed));
+    /// # Ok::<(), Refusal>(())
+    /// ```
     pub fn new(range: Range<usize>) -> Result<Self, Refusal> {
         let count = length(range.start, range.end)?;
         Ok(Self {

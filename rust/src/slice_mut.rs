@@ -2,10 +2,11 @@
 
 use crate::index::BitIndex;
 use crate::order::Order;
-use crate::range::{bits_of, run_of, within};
+use crate::range::{bits_of, ends, run_of, within};
 use crate::refusal::Refusal;
 use crate::register::Register;
 use crate::slice::BitSlice;
+use crate::words::are_few;
 use core::marker::PhantomData;
 use core::ops::RangeBounds;
 
@@ -90,6 +91,12 @@ impl<'a, T: Register, O: Order> BitSliceMut<'a, T, O> {
     #[must_use]
     pub fn as_bitslice(&self) -> BitSlice<'_, T, O> {
         BitSlice::of(self.words, self.start, self.len)
+    }
+
+    /// The place behind the last bit.
+    #[inline]
+    pub(crate) fn end(&self) -> usize {
+        self.start + self.len
     }
 
     /// The words, the place of the first bit in them, and how many bits there are.
@@ -276,6 +283,27 @@ impl<T: Register, O: Order> Default for BitSliceMut<'_, T, O> {
 /// # Ok::<(), Refusal>(())
 /// ```
 pub fn copy_bits<T: Register, O: Order>(
+    source: &[T],
+    range: impl RangeBounds<usize>,
+    target: &mut [T],
+    start: usize,
+) -> Result<(), Refusal> {
+    // (of few bits the library tests the places)
+    let copied = ends(&range, bits_of(source.len(), T::BITS)).is_some_and(|(from, end)| {
+        end.checked_sub(from).is_some_and(|count| {
+            let (source, target) = ((source, from), (&mut *target, start));
+            are_few::<T>(count) && T::copy(O::CODE, source, target, count).is_ok()
+        })
+    });
+    if copied {
+        return Ok(());
+    }
+    copy_many::<T, O>(source, range, target, start)
+}
+
+/// The same of many bits, or why it is refused.
+#[cold]
+fn copy_many<T: Register, O: Order>(
     source: &[T],
     range: impl RangeBounds<usize>,
     target: &mut [T],

@@ -116,6 +116,31 @@ fn ahead<T: Register, O: Order>(
     Some((window, kept.min(more)))
 }
 
+/// What a reader does for a number of no bits or of 64: a window of these, how many bits were taken,
+/// and the window and the bits of it that are left. `None` where they end.
+#[cold]
+#[inline(never)]
+fn none_or_64<T: Register, O: Order>(
+    words: &[T],
+    place: usize,
+    left: usize,
+    (window, held): (u64, usize),
+    count: usize,
+) -> Option<(u64, usize, (u64, usize))> {
+    if count == 0 {
+        return Some((0, 0, (window, held)));
+    }
+    let lacking = 64 - held;
+    let (next, more) = next_bits::<T, O>(words, place, left, lacking)?;
+    let window = window | behind_held::<O>(next, held);
+    let behind = if lacking == 64 {
+        0
+    } else {
+        behind::<O>(next, lacking)
+    };
+    Some((window, more, (behind, more - lacking)))
+}
+
 /// The first bits of a window, at most 64, as a number has their digits.
 #[inline]
 fn digits_of<O: Order>(window: u64, big: bool, count: usize) -> u64 {
@@ -131,19 +156,25 @@ fn digits_of<O: Order>(window: u64, big: bool, count: usize) -> u64 {
     }
 }
 
-/// The same of fewer than 64.
+/// The same of some, fewer than 64.
 #[inline]
 fn few_digits_of<O: Order>(window: u64, big: bool, count: usize) -> u64 {
-    if big {
-        digits_of::<O>(window, big, count)
+    let window = if O::BIG == big {
+        window
     } else {
-        let window = if O::BIG {
-            window.reverse_bits()
-        } else {
-            window
-        };
+        window.reverse_bits()
+    };
+    if big {
+        window >> (64 - count)
+    } else {
         window & !(!0 << count)
     }
+}
+
+/// Bits as they stand in a window behind those that it holds, fewer than 64.
+#[inline]
+fn behind_held<O: Order>(next: u64, held: usize) -> u64 {
+    if O::BIG { next >> held } else { next << held }
 }
 
 /// A window whose first bits are gone, fewer than 64.
@@ -256,11 +287,13 @@ impl<'a, T: Register, O: Order> BitReader<'a, T, O> {
         }
     }
 
-    /// The number of the next so many bits, which are passed over.
-    #[inline]
+    /// The number of the next so many bits, which are passed over. (Always inlined: of a number of
+    /// bits that is known few tests are left.)
+    #[inline(always)]
+    #[allow(clippy::inline_always)]
     fn number<N: Number>(&mut self, big: bool, count: usize) -> Result<N, Refusal> {
-        // (fewer than 64 are held: no number of 64 bits wants a second test)
-        if count <= self.held && (N::WIDTH == 64 || count <= N::WIDTH) {
+        // (some, and fewer than 64 are held: no number of 64 bits wants a second test)
+        if count.wrapping_sub(1) < self.held && (N::WIDTH == 64 || count <= N::WIDTH) {
             let window = self.window;
             self.window = behind::<O>(window, count);
             self.held -= count;
@@ -269,24 +302,23 @@ impl<'a, T: Register, O: Order> BitReader<'a, T, O> {
         if count > N::WIDTH {
             return Err(Refusal::TooWide);
         }
-        let (left, lacking) = (self.bits.len() - self.taken, count - self.held);
         let (words, start) = self.bits.place();
-        let found = next_bits::<T, O>(words, start + self.taken, left, lacking);
+        let (place, left) = (start + self.taken, self.bits.len() - self.taken);
+        let had = (self.window, self.held);
+        if count.is_multiple_of(64) {
+            let found = none_or_64::<T, O>(words, place, left, had, count);
+            let (window, more, behind) = found.ok_or(Refusal::TooFew)?;
+            (self.window, self.held) = behind;
+            self.taken += more;
+            return Ok(N::of_digits(digits_of::<O>(window, big, count), count));
+        }
+        let lacking = count - self.held;
+        let found = next_bits::<T, O>(words, place, left, lacking);
         let (next, more) = found.ok_or(Refusal::TooFew)?;
-        let window = self.window
-            | if O::BIG {
-                next >> self.held
-            } else {
-                next << self.held
-            };
-        self.window = if lacking == 64 {
-            0
-        } else {
-            behind::<O>(next, lacking)
-        };
-        self.held = more - lacking;
+        let window = self.window | behind_held::<O>(next, self.held);
+        (self.window, self.held) = (behind::<O>(next, lacking), more - lacking);
         self.taken += more;
-        Ok(N::of_digits(digits_of::<O>(window, big, count), count))
+        Ok(N::of_digits(few_digits_of::<O>(window, big, count), count))
     }
 
     /// Passes over so many bits. Constant time.

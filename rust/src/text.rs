@@ -10,6 +10,7 @@ use crate::slice_mut::BitSliceMut;
 #[cfg(feature = "alloc")]
 use crate::vec::BitVec;
 use core::fmt::{self, Alignment, Binary, Debug, Display, Formatter, Write};
+use core::fmt::{LowerHex, Octal, UpperHex};
 
 /// Writes a prefix and the bits in order, each as 0 or 1, in as wide a field as is asked for.
 fn write_bits<T: Register, O: Order>(
@@ -88,6 +89,95 @@ impl<T: Register, O: Order> Debug for BitSlice<'_, T, O> {
     }
 }
 
+/// What is written of a number of so many digits.
+type Writes = fn(&mut Formatter<'_>, u64, usize) -> fmt::Result;
+
+/// The number of the bits that a word has of a slice, as an item of a list.
+struct Item(u64, usize, Writes);
+
+impl Debug for Item {
+    fn fmt(&self, f: &mut Formatter<'_>) -> fmt::Result {
+        self.2(f, self.0, self.1)
+    }
+}
+
+/// Writes a list of numbers, one for each word that a slice has bits of: of these the first is the
+/// highest digit, and each digit that is written stands for `size` of them.
+fn write_words<T: Register, O: Order>(
+    f: &mut Formatter<'_>,
+    bits: &BitSlice<'_, T, O>,
+    size: usize,
+    writes: Writes,
+) -> fmt::Result {
+    let mut list = f.debug_list();
+    let mut left = *bits;
+    while !left.is_empty() {
+        let (_, start) = left.place();
+        let len = left.len().min(T::BITS - start % T::BITS);
+        let number = left.window(0, len).reverse_bits() >> (64 - len);
+        list.entry(&Item(number, len.div_ceil(size), writes));
+        left = left.rest(len);
+    }
+    list.finish()
+}
+
+macro_rules! lists {
+    ($($(#[$doc:meta])* $text:ident: $size:literal, $prefix:literal, $format:literal;)*) => { $(
+        $(#[$doc])*
+        impl<T: Register, O: Order> $text for BitSlice<'_, T, O> {
+            fn fmt(&self, f: &mut Formatter<'_>) -> fmt::Result {
+                write_words(f, self, $size, |f, number, width| {
+                    f.write_str(if f.alternate() { $prefix } else { "" })?;
+                    write!(f, $format, number, width = width)
+                })
+            }
+        }
+    )* };
+}
+
+lists! {
+    /// A list of numbers in base 16, one for each word that has some of the bits (not compared with
+    /// what the crate `bitvec` writes): the first bit of a word is the number's highest digit in base 2, by both
+    /// orders, and as many digits are written as the bits fill. The flag `#` puts `0x` before each,
+    /// and each in a line. Costs by words.
+    ///
+    /// # Examples
+    ///
+    /// ```
+    /// use worghulen::{BitView, Lsb0, Msb0};
+    ///
+    /// let words = [0x1a_u8, 0xbc, 0xde];
+    /// let bits = words.view_bits::<Msb0>();
+    /// assert_eq!(format!("{bits:x}"), "[1a, bc, de]");
+    /// assert_eq!(format!("{:x}", bits.get(6..18).unwrap()), "[2, bc, 3]");
+    /// assert_eq!(format!("{:x}", words.view_bits::<Lsb0>()), "[58, 3d, 7b]");
+    /// assert_eq!(format!("{:#x}", bits.get(..4).unwrap()), "[\n    0x1,\n]");
+    /// ```
+    LowerHex: 4, "0x", "{:0width$x}";
+    /// As [`LowerHex`], by the digits `A` to `F`.
+    ///
+    /// # Examples
+    ///
+    /// ```
+    /// use worghulen::{BitView, Msb0};
+    ///
+    /// assert_eq!(format!("{:X}", [0x1a_u8, 0xbc].view_bits::<Msb0>()), "[1A, BC]");
+    /// ```
+    UpperHex: 4, "0x", "{:0width$X}";
+    /// As [`LowerHex`], in base 8, with `0o` by the flag `#`.
+    ///
+    /// # Examples
+    ///
+    /// ```
+    /// use worghulen::{BitView, Msb0};
+    ///
+    /// let words = [0b10_001_101_u8, 0b01_000_000];
+    /// let bits = words.view_bits::<Msb0>();
+    /// assert_eq!(format!("{:o}", bits.get(..10).unwrap()), "[215, 1]");
+    /// ```
+    Octal: 3, "0o", "{:0width$o}";
+}
+
 macro_rules! text {
     ($text:ident [$($generics:tt)*] $type:ty) => {
         /// The text of the same bits as a [`BitSlice`]. Costs by bits.
@@ -103,6 +193,9 @@ macro_rules! texts {
     ($generics:tt $type:ty) => {
         text! { Display $generics $type }
         text! { Binary $generics $type }
+        text! { LowerHex $generics $type }
+        text! { UpperHex $generics $type }
+        text! { Octal $generics $type }
         text! { Debug $generics $type }
     };
 }

@@ -17,6 +17,7 @@ use crate::slice::BitSlice;
 use crate::slice_mut::BitSliceMut;
 use crate::sys::Exports;
 use core::iter::FusedIterator;
+use core::mem;
 use core::ops::{Range, RangeBounds};
 use core::str::FromStr;
 use std_alloc::vec::Vec;
@@ -80,7 +81,7 @@ impl<T: Register, O: Order> BitVec<T, O> {
         Self(Proved::<T, O>::new(Global))
     }
 
-    /// No bits, with room for so many bits at least. Constant time.
+    /// No bits, with room for that many bits at least. Constant time.
     ///
     /// # Panics
     ///
@@ -177,7 +178,7 @@ impl<T: Register, O: Order> BitVec<T, O> {
         Self::from_bitslice(BitSlice::<T, O>::from_slice(words))
     }
 
-    /// All bits of a word.
+    /// All bits of a word. Constant time, but for the memory.
     ///
     /// # Panics
     ///
@@ -376,7 +377,8 @@ impl<T: Register, O: Order> BitVec<T, O> {
         T::own(self.0.words.as_slice())
     }
 
-    /// Takes room for so many more bits at least.
+    /// Takes room for that many more bits at least. Costs by the words that are there, where the memory
+    /// is another.
     ///
     /// # Panics
     ///
@@ -489,7 +491,7 @@ impl<T: Register, O: Order> BitVec<T, O> {
         self.0.truncate(len);
     }
 
-    /// Drops every bit. The memory stays.
+    /// Drops every bit. The memory stays. Constant time.
     ///
     /// # Examples
     ///
@@ -832,25 +834,54 @@ impl<T: Register, O: Order> BitVec<T, O> {
         self.0.try_clone().map(Self).map_err(no_memory)
     }
 
-    /// Puts bits behind the last, up to 1024 by one call.
+    /// Puts bits behind the last: one by one up to where a word ends, and then whole words of them.
     #[track_caller]
     fn gather(&mut self, mut bits: impl Iterator<Item = bool>) {
         self.reserve(bits.size_hint().0);
-        loop {
-            let (mut block, mut len) = ([0; 16], 0);
-            for word in &mut block {
-                let (digits, count) = gathered(&mut bits);
-                *word = O::turned(digits, 64);
-                len += count;
-                if count < 64 {
-                    break;
-                }
-            }
-            self.extend_from_bitslice(BitSlice::<u64, O>::of(&block, 0, len));
-            if len < 1024 {
+        while !self.len().is_multiple_of(T::BITS) {
+            let Some(bit) = bits.next() else {
                 return;
+            };
+            self.push(bit);
+        }
+        let (mut len, mut full) = (self.len(), Full::of(self));
+        loop {
+            let (digits, count) = gathered(&mut bits);
+            let mut words = [T::ZERO; 8];
+            let _ = T::rejoin(&mut words, 0, O::BIG, |_| O::turned(digits, 64));
+            full.words
+                .extend_from_slice(&words[..count.div_ceil(T::BITS)]);
+            len += count;
+            if count < 64 {
+                break;
             }
         }
+        drop(full);
+        self.truncate(len);
+    }
+}
+
+/// The words of a vector whose bits fill them, while std's calls put more behind these. The vector
+/// has all of them when this is dropped, so also where an iterator panics.
+struct Full<'a, T: Register, O: Order> {
+    bits: &'a mut BitVec<T, O>,
+    words: Vec<T>,
+}
+
+impl<'a, T: Register, O: Order> Full<'a, T, O> {
+    /// Those of a vector, which has no bits meanwhile.
+    #[inline]
+    fn of(bits: &'a mut BitVec<T, O>) -> Self {
+        let words = mem::take(bits).into_vec();
+        Self { bits, words }
+    }
+}
+
+impl<T: Register, O: Order> Drop for Full<'_, T, O> {
+    /// (No machine has more words than a vector takes.)
+    #[inline]
+    fn drop(&mut self) {
+        *self.bits = BitVec::from_vec(mem::take(&mut self.words));
     }
 }
 
@@ -924,7 +955,7 @@ crate::refusal::or_panics! {
     #[must_use]
     split_off by try_split_off(at: usize) -> Self;
 
-    /// Drops the last bits, or puts bits that are `bit` behind them, until there are so many. Costs
+    /// Drops the last bits, or puts bits that are `bit` behind them, until there are that many. Costs
     /// by words.
     ///
     /// # Examples
@@ -958,7 +989,9 @@ impl<T: Register, O: Order> Default for BitVec<T, O> {
     }
 }
 
-/// Bits behind the last, up to 1024 by one call. Costs by bits.
+/// Bits behind the last, up to 64 of them by one store. Costs by bits.
+///
+/// Where the iterator panics, the bits are those that it gave before, at most 64 of these left out.
 ///
 /// # Examples
 ///
@@ -998,9 +1031,17 @@ where
     }
 }
 
-/// All bits of words behind the last, up to 64 words by one call.
+/// All bits of words behind the last: by `extend` of a `Vec` where the last bit ends a word, else up
+/// to 64 words by one call. Costs by words.
+///
+/// Where the iterator panics, the bits are those of words that it gave before, at most 64 of these
+/// left out.
 impl<T: Register, O: Order> Extend<T> for BitVec<T, O> {
     fn extend<I: IntoIterator<Item = T>>(&mut self, words: I) {
+        if self.len().is_multiple_of(T::BITS) {
+            Full::of(self).words.extend(words);
+            return;
+        }
         let mut words = words.into_iter();
         loop {
             // (some at a time, since each call has a cost of its own)

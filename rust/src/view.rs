@@ -31,6 +31,14 @@ pub trait BitView {
     /// # Panics
     ///
     /// Panics where there are more than 2305843009213693951 bits, which are 262144 tebibytes.
+    ///
+    /// # Examples
+    ///
+    /// ```
+    /// use worghulen::{BitView, Msb0};
+    ///
+    /// assert_eq!([0x80_u8, 1].view_bits::<Msb0>().iter_ones().collect::<Vec<_>>(), [0, 15]);
+    /// ```
     fn view_bits<O: Order>(&self) -> BitSlice<'_, Self::Word, O>;
 
     /// All their bits, to be written. Constant time.
@@ -38,6 +46,16 @@ pub trait BitView {
     /// # Panics
     ///
     /// As [`view_bits`](Self::view_bits).
+    ///
+    /// # Examples
+    ///
+    /// ```
+    /// use worghulen::{BitView, Msb0};
+    ///
+    /// let mut words = [0_u8; 2];
+    /// words.view_bits_mut::<Msb0>().set(15, true);
+    /// assert_eq!(words, [0, 1]);
+    /// ```
     fn view_bits_mut<O: Order>(&mut self) -> BitSliceMut<'_, Self::Word, O>;
 }
 
@@ -104,6 +122,15 @@ pub trait AsBits<T: Register> {
     /// # Panics
     ///
     /// As [`BitView::view_bits`].
+    ///
+    /// # Examples
+    ///
+    /// ```
+    /// use worghulen::{AsBits, Lsb0};
+    ///
+    /// let words: Box<[u8]> = Box::new([3, 1]);
+    /// assert_eq!(words.as_bits::<Lsb0>().len(), 16);
+    /// ```
     fn as_bits<O: Order>(&self) -> BitSlice<'_, T, O>;
 }
 
@@ -130,6 +157,16 @@ pub trait AsMutBits<T: Register> {
     /// # Panics
     ///
     /// As [`BitView::view_bits`].
+    ///
+    /// # Examples
+    ///
+    /// ```
+    /// use worghulen::{AsMutBits, Lsb0};
+    ///
+    /// let mut words = vec![3_u8, 1];
+    /// words.as_mut_bits::<Lsb0>().invert();
+    /// assert_eq!(words, [0xfc, 0xfe]);
+    /// ```
     fn as_mut_bits<O: Order>(&mut self) -> BitSliceMut<'_, T, O>;
 }
 

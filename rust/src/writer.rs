@@ -45,7 +45,7 @@ pub struct BitWriter<'a, T: Register, O: Order> {
 
 /// Puts digits, their number before them, from a place on, which end before that of an end. Returns 64
 /// bits of words, from that of the last of them on, this word, and how many of these bits are behind
-/// them: 0 where that is so or the words have not so many before the end. (What a writer holds is not
+/// them: 0 where that is so or the words have not that many before the end. (What a writer holds is not
 /// lent, so that it can stay in registers.)
 #[inline(never)]
 fn begun<T: Register, O: Order>(
@@ -61,6 +61,159 @@ fn begun<T: Register, O: Order>(
     match T::joined(words, word, O::BIG) {
         Some(window) if until <= end => (window, word, until - behind),
         _ => (0, word, 0),
+    }
+}
+
+/// The digits of a window whose last bits, fewer than 64, are free: one where they are.
+#[inline]
+fn free_digits<O: Order>(free: usize) -> u64 {
+    if O::BIG { !(!0 << free) } else { !(!0 >> free) }
+}
+
+/// A [`BitWriter`] that holds up to 64 bits back: what [`BitWriter::held`] returns.
+///
+/// It writes as that does, and puts 64 bits in the words at once. When it is dropped, all that was
+/// written stands there, also where a call panics; where it is forgotten (`core::mem::forget`),
+/// the writer stands where it stood before, and of what is behind some may be written.
+///
+/// # Examples
+///
+/// ```
+/// use worghulen::{BitView, BitWriter, Msb0};
+///
+/// let mut bytes = [0_u8; 16];
+/// let mut writer = BitWriter::new(bytes.view_bits_mut::<Msb0>());
+/// let mut held = writer.held();
+/// for number in 0..9_u16 {
+///     held.write(12, number)?;
+/// }
+/// drop(held);
+/// assert_eq!(writer.position(), 108);
+/// assert_eq!(bytes[..6], [0, 0, 1, 0, 0x20, 3]);
+/// # Ok::<(), worghulen::Refusal>(())
+/// ```
+#[derive(Debug)]
+pub struct HeldWriter<'w, T: Register, O: Order> {
+    /// Of its window the digits that are free are zero: these bits are in the words alone.
+    own: BitWriter<'w, T, O>,
+    /// Where the writer stands behind this one.
+    until: &'w mut usize,
+}
+
+impl<T: Register, O: Order> HeldWriter<'_, T, O> {
+    /// As [`BitWriter::remaining`]. Constant time.
+    ///
+    /// # Examples
+    ///
+    /// ```
+    /// use worghulen::{BitView, BitWriter, Lsb0};
+    ///
+    /// let mut words = [0_u16; 2];
+    /// assert_eq!(BitWriter::new(words.view_bits_mut::<Lsb0>()).held().remaining(), 32);
+    /// ```
+    #[inline]
+    #[must_use]
+    pub fn remaining(&self) -> usize {
+        self.own.remaining()
+    }
+
+    /// As [`BitWriter::write_bit`]. Constant time.
+    ///
+    /// # Errors
+    ///
+    /// As that call.
+    ///
+    /// # Examples
+    ///
+    /// ```
+    /// use worghulen::{BitView, BitWriter, Lsb0};
+    ///
+    /// let mut word = 0_u8;
+    /// BitWriter::new(word.view_bits_mut::<Lsb0>()).held().write_bit(true)?;
+    /// assert_eq!(word, 1);
+    /// # Ok::<(), worghulen::Refusal>(())
+    /// ```
+    #[inline]
+    pub fn write_bit(&mut self, bit: bool) -> Result<(), Refusal> {
+        self.own.put::<u8, true>(O::BIG, 1, u8::from(bit))
+    }
+
+    /// As [`BitWriter::write`]. Costs by words.
+    ///
+    /// # Errors
+    ///
+    /// As [`BitWriter::write_be`].
+    ///
+    /// # Examples
+    ///
+    /// ```
+    /// use worghulen::{BitView, BitWriter, Lsb0};
+    ///
+    /// let mut word = 0_u8;
+    /// BitWriter::new(word.view_bits_mut::<Lsb0>()).held().write(4, -3_i8)?;
+    /// assert_eq!(word, 0b1101);
+    /// # Ok::<(), worghulen::Refusal>(())
+    /// ```
+    #[inline]
+    pub fn write<N: Number>(&mut self, count: usize, number: N) -> Result<(), Refusal> {
+        self.own.put::<N, true>(O::BIG, count, number)
+    }
+
+    /// As [`BitWriter::write_be`]. Costs by words.
+    ///
+    /// # Errors
+    ///
+    /// As that call.
+    ///
+    /// # Examples
+    ///
+    /// ```
+    /// use worghulen::{BitView, BitWriter, Lsb0};
+    ///
+    /// let mut word = 0_u8;
+    /// BitWriter::new(word.view_bits_mut::<Lsb0>()).held().write_be(4, 0b1011_u8)?;
+    /// assert_eq!(word, 0b1101);
+    /// # Ok::<(), worghulen::Refusal>(())
+    /// ```
+    #[inline]
+    pub fn write_be<N: Number>(&mut self, count: usize, number: N) -> Result<(), Refusal> {
+        self.own.put::<N, true>(true, count, number)
+    }
+
+    /// As [`BitWriter::write_le`]. Costs by words.
+    ///
+    /// # Errors
+    ///
+    /// As that call.
+    ///
+    /// # Examples
+    ///
+    /// ```
+    /// use worghulen::{BitView, BitWriter, Lsb0};
+    ///
+    /// let mut word = 0_u8;
+    /// BitWriter::new(word.view_bits_mut::<Lsb0>()).held().write_le(4, 0b1011_u8)?;
+    /// assert_eq!(word, 0b1011);
+    /// # Ok::<(), worghulen::Refusal>(())
+    /// ```
+    #[inline]
+    pub fn write_le<N: Number>(&mut self, count: usize, number: N) -> Result<(), Refusal> {
+        self.own.put::<N, true>(false, count, number)
+    }
+}
+
+impl<T: Register, O: Order> Drop for HeldWriter<'_, T, O> {
+    /// Puts what is held in the words, whose bits behind it stay.
+    #[inline]
+    fn drop(&mut self) {
+        let BitWriter {
+            window, word, free, ..
+        } = self.own;
+        if free > 0 {
+            let new = |bits| bits & free_digits::<O>(free) | window;
+            T::rejoin(self.own.bits.place_mut().0, word, O::BIG, new);
+        }
+        *self.until = self.own.until - free;
     }
 }
 
@@ -162,6 +315,31 @@ impl<'a, T: Register, O: Order> BitWriter<'a, T, O> {
     #[must_use]
     pub fn finish(self) -> BitSliceMut<'a, T, O> {
         self.bits
+    }
+
+    /// A writer of the same place that holds up to 64 bits back, until it is dropped: for many numbers
+    /// in a row. Constant time.
+    ///
+    /// # Examples
+    ///
+    /// ```
+    /// use worghulen::{BitView, BitWriter, Msb0};
+    ///
+    /// let mut bytes = [0_u8; 3];
+    /// let mut writer = BitWriter::new(bytes.view_bits_mut::<Msb0>());
+    /// writer.write(4, 1_u8)?;
+    /// writer.held().write(4, 2_u8)?;
+    /// writer.write(12, 0x345_u16)?;
+    /// assert_eq!(bytes, [0x12, 0x34, 0x50]);
+    /// # Ok::<(), worghulen::Refusal>(())
+    /// ```
+    #[inline]
+    pub fn held(&mut self) -> HeldWriter<'_, T, O> {
+        self.stand_at(self.position());
+        let mut own = BitWriter::new(self.bits.lend());
+        own.until = self.until;
+        let until = &mut self.until;
+        HeldWriter { own, until }
     }
 
     /// Has a call of the library write from the place on, which it moves.
@@ -403,10 +581,22 @@ impl<'a, T: Register, O: Order> BitWriter<'a, T, O> {
         self.number(false, count, number)
     }
 
-    /// (Always inlined: of a number of bits that is known few tests are left.)
     #[inline(always)]
     #[allow(clippy::inline_always)]
     fn number<N: Number>(&mut self, big: bool, count: usize, number: N) -> Result<(), Refusal> {
+        self.put::<N, false>(big, count, number)
+    }
+
+    /// Writes a number: where `HOLDS`, in the window alone until this is full. (Always inlined: of a
+    /// number of bits that is known few tests are left.)
+    #[inline(always)]
+    #[allow(clippy::inline_always)]
+    fn put<N: Number, const HOLDS: bool>(
+        &mut self,
+        big: bool,
+        count: usize,
+        number: N,
+    ) -> Result<(), Refusal> {
         let turned = |digits: u64| {
             if O::BIG == big {
                 digits
@@ -422,9 +612,20 @@ impl<'a, T: Register, O: Order> BitWriter<'a, T, O> {
             } else {
                 64 - self.free
             };
-            self.window = self.window & !(!(!0 << count) << up) | digits << up;
+            if !HOLDS {
+                self.window &= !(!(!0 << count) << up);
+            }
+            self.window |= digits << up;
             self.free -= count;
-            T::rejoin(self.bits.place_mut().0, self.word, O::BIG, |_| self.window);
+            if !HOLDS || self.free == 0 {
+                self.put_window();
+            }
+            return Ok(());
+        }
+        let are_behind = |it: &Self| it.bits.end() - it.until >= 64;
+        if HOLDS && self.free > 0 && count.wrapping_sub(1) < N::WIDTH.min(63) && are_behind(self) {
+            let digits = turned(number.digits(count).ok_or(Refusal::TooLarge)?);
+            self.pass_on(count, digits);
             return Ok(());
         }
         if count > N::WIDTH {
@@ -442,7 +643,33 @@ impl<'a, T: Register, O: Order> BitWriter<'a, T, O> {
         } else {
             self.begin(count, turned(digits));
         }
+        if HOLDS {
+            self.window &= !free_digits::<O>(self.free);
+        }
         Ok(())
+    }
+
+    /// As `cross` of fewer than 64 bits where what is free of the window is zero, and 64 bits are
+    /// behind it, which a window of the rest alone then stands for.
+    #[inline]
+    fn pass_on(&mut self, count: usize, digits: u64) {
+        let (free, rest) = (self.free, count - self.free);
+        let (last, first) = if O::BIG {
+            (digits >> rest, digits << (64 - rest))
+        } else {
+            (digits << (64 - free), digits >> free)
+        };
+        self.window |= last;
+        self.put_window();
+        (self.window, self.free) = (first, 64 - rest);
+        self.word += 64 / T::BITS;
+        self.until += 64;
+    }
+
+    /// Puts the window in place of the 64 bits that it stands for, where there are any.
+    #[inline]
+    fn put_window(&mut self) {
+        T::rejoin(self.bits.place_mut().0, self.word, O::BIG, |_| self.window);
     }
 
     /// Puts digits, the first by the order, in the bits of the window that are free and, since these

@@ -207,10 +207,11 @@ mod cases {
         if !random.one_in(64) {
             return;
         }
-        let kind = random.below(3);
-        let word = |_| match kind {
+        let (kind, run) = (random.below(4), 1 + random.below(1500 / T::BITS));
+        let word = |i: usize| match kind {
             0 => T::of(u64::MAX),
             1 if !random.one_in(40) => T::of(0),
+            2 if (i / run).is_multiple_of(2) => T::of(0),
             _ => T::of(random.number()),
         };
         let words: Vec<T> = (0..4096 / T::BITS).map(word).collect();
@@ -317,12 +318,50 @@ mod cases {
             .map(|bit| if *bit { '1' } else { '0' })
             .collect();
         let numbers: Vec<_> = model.iter().map(|bit| u8::from(*bit)).collect();
+        let start = range.start;
         let bits = BitSliceMut::<T, O>::new(&mut words, range).unwrap();
         assert_eq!(format!("{bits} {bits:b}"), format!("{digits} {digits}"));
         assert_eq!(
             format!("{bits:#b} {bits:?}"),
             format!("0b{digits} {numbers:?}")
         );
+        let hex = by_words::<T>(&model, start, 4);
+        assert_eq!(format!("{bits:x}"), list_of(&hex));
+        assert_eq!(format!("{bits:X}"), list_of(&hex).to_uppercase());
+        let octal = by_words::<T>(&model, start, 3);
+        assert_eq!(format!("{bits:o}"), list_of(&octal));
+        let lines = |prefix: &str| -> String {
+            let line = |text: &String| format!("    {prefix}{text},\n");
+            octal.iter().map(line).collect()
+        };
+        let expected = if model.is_empty() {
+            "[]".to_owned()
+        } else {
+            format!("[\n{}]", lines("0o"))
+        };
+        assert_eq!(format!("{bits:#o}"), expected);
+    }
+
+    /// The bits of each word, the first the highest digit, as digits of so many bits each.
+    fn by_words<T: Word>(bits: &[bool], start: usize, size: usize) -> Vec<String> {
+        let head = (T::BITS - start % T::BITS).min(bits.len());
+        let (head, rest) = bits.split_at(head);
+        let digit = |bits: &[bool]| {
+            let number = bits.iter().fold(0, |all, bit| 2 * all + u32::from(*bit));
+            char::from_digit(number, 16).unwrap()
+        };
+        std::iter::once(head)
+            .chain(rest.chunks(T::BITS))
+            .filter(|word| !word.is_empty())
+            .map(|word| {
+                let digits: Vec<char> = word.rchunks(size).map(digit).collect();
+                digits.iter().rev().collect()
+            })
+            .collect()
+    }
+
+    fn list_of(texts: &[String]) -> String {
+        format!("[{}]", texts.join(", "))
     }
 
     fn hash(value: &impl Hash) -> u64 {
@@ -625,6 +664,14 @@ mod cases {
             bits.try_store_le(number)
         };
         assert_eq!((stored, list(bits.as_bitslice())), (Ok(()), before));
+        let (wide, above) = (random.number(), 64 - count);
+        bits.store_wrapping(wide);
+        let kept = if count == 0 {
+            0
+        } else {
+            wide << above >> above
+        };
+        assert_eq!(bits.load::<u64>(), kept);
     }
 
     pub fn numbers_have_types<T: Word, O: Layout>(random: &mut Random) {

@@ -1,5 +1,6 @@
 //! The page "From `bitvec` to `worghulen`" (`rust/FROM_BITVEC.md`) names what is there: each name in
-//! its second column is one that `rust/src` declares, and where there is none, it has a reason.
+//! its second column is one that `rust/src` declares, and where there is none, it has a reason. Each
+//! call that is public has an example.
 
 use std::collections::BTreeSet;
 use std::fs;
@@ -17,7 +18,8 @@ fn words(text: &str) -> impl Iterator<Item = &str> {
 
 /// Each name that the sources declare, also by a macro that makes `name by try_name(..)` a function.
 fn declared() -> BTreeSet<String> {
-    const BEFORE: [&str; 7] = [
+    const BEFORE: [&str; 8] = [
+        "mod",
         "fn",
         "macro_rules",
         "struct",
@@ -50,6 +52,79 @@ fn declared() -> BTreeSet<String> {
         }
     }
     names
+}
+
+/// The docs and attributes of an item: the lines before its own, up to one that is none of these.
+fn docs_before<'a>(lines: &[&'a str]) -> Vec<&'a str> {
+    let is_of_docs = |line: &str| {
+        let begins = ["///", "#[", ")]", "\"", "$(#[", "stringify!"];
+        begins.iter().any(|it| line.starts_with(it))
+    };
+    let before = lines.iter().rev().map(|line| line.trim());
+    before.take_while(|line| is_of_docs(line)).collect()
+}
+
+/// The public calls of a source that have no example in their docs, and how many have one: functions
+/// and methods, those of public traits, and those that a macro makes panic (`set by try_set(..)`).
+fn without_example(source: &str, traits: &BTreeSet<String>) -> (Vec<String>, usize) {
+    let lines: Vec<&str> = source.lines().collect();
+    let (mut without, mut with, mut in_trait) = (Vec::new(), 0, false);
+    for (at, line) in lines.iter().enumerate() {
+        if !line.starts_with([' ', '}']) {
+            let name = line
+                .strip_prefix("pub trait ")
+                .and_then(|it| words(it).next());
+            in_trait = in_trait && line.is_empty() || name.is_some_and(|it| traits.contains(it));
+        }
+        in_trait &= *line != "}";
+        let text = line.trim_start();
+        let names: Vec<&str> = words(text).take(3).collect();
+        let is_call = text.starts_with("pub fn ")
+            || text.starts_with("pub const fn ")
+            || in_trait && line.starts_with("    fn ")
+            || names.get(1) == Some(&"by") && text.contains('(') && text.ends_with(';');
+        if !is_call {
+            continue;
+        }
+        let docs = docs_before(&lines[..at]);
+        let has = |part: &str| docs.iter().any(|it| it.contains(part));
+        // (what a macro makes of entries is asked of these)
+        if has("doc(hidden)") || has("$(#[$attribute])*") {
+            continue;
+        }
+        if has("/// # Examples") || has("example!(") {
+            with += 1;
+        } else {
+            without.push((*line).to_owned());
+        }
+    }
+    (without, with)
+}
+
+#[test]
+fn each_public_call_has_an_example() {
+    let library = read("rust/src/lib.rs");
+    let public = library.lines().filter(|line| line.starts_with("pub use"));
+    let traits = public.flat_map(words).map(str::to_owned).collect();
+    let (mut calls, folder) = (0, Path::new(env!("CARGO_MANIFEST_DIR")).join("rust/src"));
+    for file in fs::read_dir(folder).expect("it is here") {
+        let path = file.expect("a file").path();
+        if path.extension().is_some_and(|it| it == "rs") {
+            let source = fs::read_to_string(&path).expect("a text");
+            let (without, with) = without_example(&source, &traits);
+            assert!(without.is_empty(), "{}: {without:#?}", path.display());
+            calls += with;
+        }
+    }
+    assert!(calls > 240, "{calls} calls");
+    let (without, with) = without_example(
+        "impl A {\n    /// B.\n    pub fn c() {}\n}\npub trait D {\n    /// E.\n    fn f();\n}\n",
+        &BTreeSet::from(["D".to_owned()]),
+    );
+    assert_eq!((without.len(), with), (2, 0));
+    // (each call that is handed on has its lines in the entry, which the macros ask for)
+    let entries = read("rust/src/readers.rs");
+    assert_eq!(entries.matches("=>\n                \"").count(), 55 + 29);
 }
 
 /// The parts of a line of a table.

@@ -504,11 +504,11 @@ fn what_is_refused_is_said_and_changes_nothing() {
         "swap (0, 3) of 3 bits: 3 lies outside of 3 bits (`try_swap` answers that)",
         "rotate_left 4 of 3 bits: 4 lies outside of 3 bits (`try_rotate_left` answers that)",
         "copy_within ((Included(2), Excluded(4)), 0) of 3 bits: 4 lies outside of 3 bits (`try_copy_within` answers that)",
-        "resize (18446744073709551615, true) of 3 bits: there is no memory for so many bits (`try_resize` answers that)",
-        "reserve () of 18446744073709551615 bits: there is no memory for so many bits (`try_reserve` answers that)",
+        "resize (18446744073709551615, true) of 3 bits: there is no memory for that many bits (`try_resize` answers that)",
+        "reserve () of 18446744073709551615 bits: there is no memory for that many bits (`try_reserve` answers that)",
         "there is no bit 3 in a slice of 3 bits",
         "copy_from_bitslice of 2 bits to 3: these are not as many (`copy_from` answers that)",
-        "repeat () of 18446744073709551615 bits: there is no memory for so many bits (`try_repeat` answers that)",
+        "repeat () of 18446744073709551615 bits: there is no memory for that many bits (`try_repeat` answers that)",
         "load_le () of 65 bits: a number is to have more bits than its type (`try_load_le` answers that)",
     ];
     for (said, expected) in zip(said, expected) {
@@ -518,18 +518,57 @@ fn what_is_refused_is_said_and_changes_nothing() {
     assert_eq!("1 1".parse::<BitVec>(), Err(Refusal::NotADigit(1)));
 }
 
+/// Extends a vector of so many bits by words and by truth values, so many words of each.
+fn extended<T: Word, O: Layout>(random: &mut Random, len: usize, count: usize) {
+    let words: Vec<T> = (0..count).map(|_| T::of(random.number())).collect();
+    let listed = bits_of::<T, O>(&words);
+    let mut model: Vec<bool> = (0..len).map(|_| random.bit()).collect();
+    let mut bits: BitVec<T, O> = model.iter().collect();
+    bits.extend(words.iter().copied());
+    model.extend(&listed);
+    assert_eq!(bits, model[..]);
+    let some = listed.len() - random.below(T::BITS).min(listed.len());
+    bits.extend(&listed[..some]);
+    model.extend(&listed[..some]);
+    assert_eq!(bits, model[..]);
+    assert_eq!(bits.as_raw_slice().len(), model.len().div_ceil(T::BITS));
+    assert_eq!(words.into_iter().collect::<BitVec<T, O>>(), listed[..]);
+}
+
 #[test]
-fn many_words_extend_a_vector() {
-    for count in [0, 1, 63, 64, 65, 128, 200] {
-        let words: Vec<u8> = (0..count).collect();
-        let mut bits = bitvec![u8, Msb0; 1, 0];
-        bits.extend(words.iter().copied());
-        assert_eq!(bits.len(), 2 + 8 * words.len());
-        assert_eq!(bits.get(..2).unwrap(), [true, false]);
-        assert_eq!(
-            bits.get(2..).unwrap(),
-            BitSlice::<u8, Msb0>::from_slice(&words)
-        );
+fn words_and_bits_extend_a_vector_of_any_length() {
+    let mut random = Random::new(312);
+    for len in (0..=65).chain([127, 128, 129]) {
+        for count in [0, 1, 2, 63, 64, 65, 128, 200] {
+            extended::<u8, Msb0>(&mut random, len, count);
+            extended::<u16, Lsb0>(&mut random, len, count);
+            extended::<u32, Msb0>(&mut random, len, count);
+            extended::<u64, Lsb0>(&mut random, len, count);
+            extended::<usize, Msb0>(&mut random, len, count);
+        }
+    }
+}
+
+#[test]
+fn what_an_iterator_gave_before_it_panics_is_there() {
+    for len in [0, 3, 8, 16, 19] {
+        let ends = |at: usize| move |i: usize| if i == at { panic!("it ends at {i}") } else { i };
+        let mut bits = BitVec::<u16, Msb0>::repeat(true, len);
+        panics(|| bits.extend((0..200).map(ends(150)).map(|i| i % 3 == 0)));
+        let had = bits.len() - len;
+        assert!((150 - 64..=150).contains(&had), "{had} of 150 bits");
+        let mut model = vec![true; len];
+        model.extend((0..had).map(|i| i % 3 == 0));
+        assert_eq!(bits, model[..]);
+        let word = |i: usize| u16::try_from(i).unwrap().wrapping_mul(40_503);
+        panics(|| bits.extend((0..200).map(ends(150)).map(word)));
+        let had = (bits.len() - model.len()) / 16;
+        assert!((150 - 64..=150).contains(&had), "{had} of 150 words");
+        let words: Vec<u16> = (0..had).map(word).collect();
+        model.extend(bits_of::<u16, Msb0>(&words));
+        assert_eq!(bits, model[..]);
+        bits.push(true);
+        assert_eq!(bits.len(), model.len() + 1);
     }
 }
 
@@ -547,4 +586,15 @@ fn macros_write_bits_down() {
     assert_eq!(bitbox![1, 0,].len(), 2);
     let flags: BitArr!(for 9, in u8, Msb0) = bitarr![u8, Msb0; 1; 9];
     assert_eq!(flags.into_inner(), [0xff, 0xff]);
+}
+
+/// Slices go to other threads as those of words do, and vectors as those of words do.
+#[test]
+fn other_threads_take_what_they_take_of_words() {
+    fn goes<T: Send + Sync>() {}
+    goes::<BitSlice<'_, u8, Lsb0>>();
+    goes::<BitSliceMut<'_, u64, Msb0>>();
+    goes::<BitVec<u16, Lsb0>>();
+    goes::<BitBox<u32, Msb0>>();
+    goes::<BitArray<[u8; 2], Lsb0>>();
 }

@@ -3,9 +3,9 @@
 
 mod common;
 
-use common::{CASES, Random, for_all_memories};
+use common::{CASES, Layout, Random, Word, bits_of, for_all_memories};
 use std::ops::Bound;
-use worghulen::{BitSlice, BitSliceMut, Lsb0, Msb0, Refusal};
+use worghulen::{BitSlice, BitSliceMut, Lsb0, Msb0, Refusal, copy_bits};
 
 for_all_memories!(a_slice_has_the_bits_of_its_range, 1);
 for_all_memories!(get_reads_one_bit, 2);
@@ -274,6 +274,74 @@ mod cases {
         assert_eq!(answer, expected);
         assert_eq!(bits_of::<T, O>(&target), model);
     }
+}
+
+/// Copies and compares so many bits, of words of which many lie whole in the ranges, from two places
+/// on: what std's slices copy and compare.
+fn many_words_move<T: Word, O: Layout>(random: &mut Random, from: usize, to: usize, len: usize) {
+    let words = |random: &mut Random, bits: usize| -> Vec<T> {
+        let count = bits.div_ceil(T::BITS) + random.below(3);
+        (0..count).map(|_| T::of(random.number())).collect()
+    };
+    let (source, mut target) = (words(random, from + len), words(random, to + len));
+    let (read, mut model) = (bits_of::<T, O>(&source), bits_of::<T, O>(&target));
+    let bits = BitSlice::<T, O>::new(&source, from..from + len).unwrap();
+    let mut copy = BitSliceMut::<T, O>::new(&mut target, to..to + len).unwrap();
+    copy.copy_from(bits).unwrap();
+    assert!(bits == copy);
+    model[to..to + len].copy_from_slice(&read[from..from + len]);
+    assert_eq!(bits_of::<T, O>(&target), model);
+    let mut again = words(random, to + len);
+    let mut other = bits_of::<T, O>(&again);
+    copy_bits::<T, O>(&source, from..from + len, &mut again, to).unwrap();
+    other[to..to + len].copy_from_slice(&read[from..from + len]);
+    assert_eq!(bits_of::<T, O>(&again), other);
+    let past = other.len() - len + 1;
+    let refused = copy_bits::<T, O>(&source, from..from + len, &mut again, past);
+    let outside = |len| Refusal::Outside {
+        index: len + 1,
+        len,
+    };
+    assert_eq!(refused, Err(outside(other.len())));
+    assert_eq!(bits_of::<T, O>(&again), other);
+    for place in [to, to + random.below(len), to + len - 1] {
+        let mut all = BitSlice::<T, O>::from_slice_mut(&mut target);
+        all.set(place, !model[place]);
+        assert!(bits != all.part(to..to + len).unwrap());
+        all.set(place, model[place]);
+    }
+    for place in [to.wrapping_sub(1), to + len] {
+        let mut all = BitSlice::<T, O>::from_slice_mut(&mut target);
+        if let Some(mut bit) = all.get_mut(place) {
+            *bit = !*bit;
+        }
+        assert!(bits == all.part(to..to + len).unwrap());
+    }
+}
+
+fn many_words<T: Word, O: Layout>(random: &mut Random) {
+    for words in [63, 64, 65, 130] {
+        for from in 0..T::BITS {
+            let len = words * T::BITS + random.below(2 * T::BITS);
+            let near = from + T::BITS * random.below(3);
+            for to in [near, near + 1, random.below(3 * T::BITS)] {
+                many_words_move::<T, O>(random, from, to, len);
+                many_words_move::<T, O>(random, to, from, words * T::BITS);
+            }
+        }
+    }
+}
+
+#[test]
+fn many_words_are_copied_and_compared_from_any_places() {
+    let mut random = Random::new(36);
+    many_words::<u8, Lsb0>(&mut random);
+    many_words::<u8, Msb0>(&mut random);
+    many_words::<u16, Msb0>(&mut random);
+    many_words::<u32, Lsb0>(&mut random);
+    many_words::<u64, Lsb0>(&mut random);
+    many_words::<u64, Msb0>(&mut random);
+    many_words::<usize, Msb0>(&mut random);
 }
 
 #[test]

@@ -19,7 +19,8 @@ mod cases {
     use crate::common::{Layout, Random, Word, bits_of, checked, with_any_other};
     use std::fmt::Debug;
     use std::ops::Range;
-    use worghulen::{BitReader, BitSlice, BitSliceMut, BitWriter, Lsb0, Msb0, Number, Refusal};
+    use worghulen::{BitReader, BitSlice, BitSliceMut, BitWriter, HeldWriter, Number, Refusal};
+    use worghulen::{Lsb0, Msb0};
 
     /// A number that the model knows as one of 128 bits.
     trait Plain: Number + Eq + Debug + TryFrom<i128> + Into<i128> {
@@ -442,12 +443,33 @@ mod cases {
         });
     }
 
+    /// What writes numbers.
+    trait Writes {
+        fn put<N: Plain>(&mut self, big: bool, count: usize, number: N) -> Result<(), Refusal>;
+    }
+
+    impl<T: Word, O: Layout> Writes for BitWriter<'_, T, O> {
+        fn put<N: Plain>(&mut self, big: bool, count: usize, number: N) -> Result<(), Refusal> {
+            if big {
+                self.write_be(count, number)
+            } else {
+                self.write_le(count, number)
+            }
+        }
+    }
+
+    impl<T: Word, O: Layout> Writes for HeldWriter<'_, T, O> {
+        fn put<N: Plain>(&mut self, big: bool, count: usize, number: N) -> Result<(), Refusal> {
+            if big {
+                self.write_be(count, number)
+            } else {
+                self.write_le(count, number)
+            }
+        }
+    }
+
     /// A write of a number.
-    fn puts<T: Word, O: Layout, N: Plain>(
-        random: &mut Random,
-        writer: &mut BitWriter<'_, T, O>,
-        target: &mut Target,
-    ) {
+    fn puts<N: Plain>(random: &mut Random, writer: &mut impl Writes, target: &mut Target) {
         let (count, big) = (random.below(N::DIGITS + 1), random.bit());
         let number = any_number::<N>(random);
         let digits = digits_of(number.into(), count, big);
@@ -458,12 +480,34 @@ mod cases {
         } else {
             Err(Refusal::TooLarge)
         };
-        let answer = if big {
-            writer.write_be(count, number)
-        } else {
-            writer.write_le(count, number)
-        };
-        assert_eq!(answer, expected);
+        assert_eq!(writer.put(big, count, number), expected);
+    }
+
+    /// Writes of numbers that are held back.
+    fn puts_held<T: Word, O: Layout>(
+        random: &mut Random,
+        writer: &mut BitWriter<'_, T, O>,
+        target: &mut Target,
+    ) {
+        let mut held = writer.held();
+        for _ in 0..random.below(20) {
+            match random.below(8) {
+                0 => puts::<u8>(random, &mut held, target),
+                1 => puts::<i16>(random, &mut held, target),
+                2 => puts::<u32>(random, &mut held, target),
+                3 => puts::<i64>(random, &mut held, target),
+                4 => puts::<u64>(random, &mut held, target),
+                5 => {
+                    let count = 9 + random.below(99);
+                    assert_eq!(held.write(count, 1_u8), Err(Refusal::TooWide));
+                }
+                _ => {
+                    let bit = random.bit();
+                    assert_eq!(held.write_bit(bit), target.put(&[bit]));
+                }
+            }
+            assert_eq!(held.remaining(), target.left().len());
+        }
     }
 
     pub fn writes_take_turns<T: Word, O: Layout>(random: &mut Random) {
@@ -484,12 +528,13 @@ mod cases {
             .map(|_| u8::of(random.number()))
             .collect();
         for _ in 0..random.below(12) {
-            match random.below(16) {
-                0 | 1 => puts::<T, O, u8>(random, &mut writer, &mut target),
-                2 => puts::<T, O, i16>(random, &mut writer, &mut target),
-                3 | 4 => puts::<T, O, u32>(random, &mut writer, &mut target),
-                5 => puts::<T, O, i64>(random, &mut writer, &mut target),
-                6 | 7 => puts::<T, O, u64>(random, &mut writer, &mut target),
+            match random.below(20) {
+                16.. => puts_held(random, &mut writer, &mut target),
+                0 | 1 => puts::<u8>(random, &mut writer, &mut target),
+                2 => puts::<i16>(random, &mut writer, &mut target),
+                3 | 4 => puts::<u32>(random, &mut writer, &mut target),
+                5 => puts::<i64>(random, &mut writer, &mut target),
+                6 | 7 => puts::<u64>(random, &mut writer, &mut target),
                 8..12 => {
                     let bit = random.bit();
                     assert_eq!(writer.write_bit(bit), target.put(&[bit]));
@@ -519,6 +564,40 @@ mod cases {
     pub fn bits_and_slices_are_written<T: Word, O: Layout>(random: &mut Random) {
         with_any_other!(random, writes_slices::<T, O>);
     }
+}
+
+#[test]
+fn a_held_writer_that_is_forgotten_leaves_the_place() {
+    let mut bytes = [0xff_u8; 24];
+    let mut writer = BitWriter::new(bytes.view_bits_mut::<Msb0>().into_part(3..150).unwrap());
+    writer.write(5, 0_u8).unwrap();
+    let mut held = writer.held();
+    (0..9).for_each(|_| held.write(12, 0_u16).unwrap());
+    std::mem::forget(held);
+    assert_eq!(writer.position(), 5);
+    (0..9).for_each(|_| writer.held().write(12, 1_u16).unwrap());
+    assert_eq!(writer.position(), 113);
+    let expected: Vec<u64> = (0..9).map(|_| 1).collect();
+    let mut reader = BitReader::new(writer.written());
+    assert_eq!(reader.read::<u8>(5), Ok(0));
+    let read: Vec<u64> = (0..9).map(|_| reader.read(12).unwrap()).collect();
+    assert_eq!(read, expected);
+    let bits = bytes.view_bits::<Msb0>();
+    assert!(bits.get(..3).unwrap().all() && bits.get(150..).unwrap().all());
+}
+
+#[test]
+fn what_is_held_is_written_where_a_call_panics() {
+    let mut bytes = [0_u8; 24];
+    let mut writer = BitWriter::new(bytes.view_bits_mut::<Lsb0>());
+    let said = std::panic::catch_unwind(std::panic::AssertUnwindSafe(|| {
+        let mut held = writer.held();
+        (0..99_u8).for_each(|i| held.write(3, i).unwrap());
+    }));
+    assert!(said.is_err());
+    assert_eq!(writer.position(), 24);
+    let read: Vec<u8> = writer.written().chunks(3).map(|it| it.load()).collect();
+    assert_eq!(read, [0, 1, 2, 3, 4, 5, 6, 7]);
 }
 
 #[test]

@@ -797,6 +797,23 @@ mod slices_compared {
         );
         assert_eq!(format!("{:#b}", bits![0, 1]), "0b01");
     }
+
+    #[test]
+    fn lower_hex_upper_hex_octal() {
+        // (the same: a list with a number for each word, its digits from its last bit on)
+        let data = [0b0000_0010_u8, 0b1000_1101, 0b0100_0000];
+        let bits = data.view_bits::<Msb0>().get(6..18).unwrap();
+        assert_eq!(format!("{bits:o}"), "[2, 215, 1]");
+        assert_eq!(format!("{bits:x}"), "[2, 8d, 1]");
+        assert_eq!(format!("{bits:X}"), "[2, 8D, 1]");
+        assert_eq!(format!("{bits:#x}"), "[\n    0x2,\n    0x8d,\n    0x1,\n]");
+        let data = [0b0100_0000_u8, 0b1000_1101, 0b0000_0010];
+        let bits = data.view_bits::<Lsb0>().get(6..18).unwrap();
+        assert_eq!(format!("{bits:o}"), "[2, 261, 1]");
+        assert_eq!(format!("{bits:X}"), "[2, B1, 1]");
+        let all = bitvec![u16, Msb0; 1, 0, 1, 1, 1];
+        assert_eq!(format!("{all:x} {:o}", bitarr![u8, Lsb0; 1]), "[17] [200]");
+    }
 }
 
 mod fields {

@@ -412,6 +412,22 @@ fn compare_writes<const BITS: usize>() {
         },
     );
     assert_eq!(target, other);
+    target.fill(0);
+    compare(
+        &format!("write-{BITS}-bytes-held"),
+        numbers,
+        || {
+            let bytes = black_box(&mut target[..]);
+            let mut writer = BitWriter::new(BitSlice::<_, Msb0>::from_slice_mut(bytes));
+            let mut writer = writer.held();
+            (0..numbers).for_each(|i| writer.write(black_box(BITS), number(i)).unwrap());
+        },
+        || {
+            let mut writer = by_hand::ByteWriter::new(black_box(&mut other[..]));
+            (0..numbers).for_each(|i| writer.write(black_box(BITS), number(i)).unwrap());
+            writer.finish();
+        },
+    );
 }
 
 /// Bytes in one call, to a place that is a multiple of 8 and to one that is not; and words that a

@@ -48,7 +48,7 @@ impl<T, A: Allocator> Vec<T, A> {
         &self.alloc
     }
 
-    /// Takes room for so many more items, where the allocator gives leave.
+    /// Takes room for that many more items, where the allocator gives leave.
     #[inline]
     pub fn reserve(&mut self, more: usize) -> Result<(), AllocError> {
         let len = self.items.len().checked_add(more).ok_or(AllocError)?;
@@ -63,9 +63,18 @@ impl<T, A: Allocator> Vec<T, A> {
     /// Puts an item behind the last.
     #[inline]
     pub fn push(&mut self, item: T) -> Result<(), AllocError> {
-        self.reserve(1)?;
+        if self.items.len() == self.items.capacity() {
+            self.make_room()?;
+        }
         self.items.push(item);
         Ok(())
+    }
+
+    /// Takes room for one more item.
+    #[cold]
+    #[inline(never)]
+    fn make_room(&mut self) -> Result<(), AllocError> {
+        self.reserve(1)
     }
 
     /// Puts copies of items behind the last.
@@ -87,7 +96,7 @@ impl<T, A: Allocator> Vec<T, A> {
         Ok(())
     }
 
-    /// Puts copies of an item behind the last, or drops the last, until there are so many.
+    /// Puts copies of an item behind the last, or drops the last, until there are that many.
     #[inline]
     pub fn resize(&mut self, len: usize, item: T) -> Result<(), AllocError>
     where
@@ -150,7 +159,7 @@ impl<T, A> Vec<T, A> {
         self.items.rotate_left(by);
     }
 
-    /// Drops the last, until there are so many.
+    /// Drops the last, until there are that many.
     #[inline]
     pub fn truncate(&mut self, len: usize) {
         self.items.truncate(len);
