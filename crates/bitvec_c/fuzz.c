@@ -139,10 +139,10 @@ static void protect(struct buffer buffer, int way) {
 static void fill_any(struct buffer buffer) {
     size_t kind = below(4);
     for (size_t i = 0; i < buffer.size; i++)
-        buffer.at[i] = kind == 0   ? 0
-                       : kind == 1 ? 0xff
-                       : kind == 2 ? (uint8_t)(one_in(16) ? 1u << below(8) : 0)
-                                   : (uint8_t)any();
+        buffer.at[i] = (uint8_t)(kind == 0   ? 0
+                                 : kind == 1 ? 0xff
+                                 : kind == 2 ? (one_in(16) ? 1u << below(8) : 0)
+                                             : any());
 }
 
 /* The model: the word and its digit of a place, in a memory of words of so many bits. */
@@ -306,30 +306,8 @@ static struct bitvec_reply model_bits(unsigned width, uint8_t order, struct bitv
 
 #define MOST_SPANS 70
 
-static bool meet(struct bitvec_span a, struct bitvec_span b) {
-    return a.count != 0 && b.count != 0 && a.start < b.start + b.count &&
-           b.start < a.start + a.count;
-}
-
-/* The status of spans, where `roomy` for as many numbers as `places`. */
-static uint8_t spans_status(unsigned width, uint8_t order, const struct bitvec_span *spans,
-                            size_t count, size_t words, bool roomy, size_t places) {
-    if (order > 1)
-        return BITVEC_NO_ORDER;
-    if (roomy ? places != count : count > BITVEC_MAX_SPANS)
-        return roomy ? BITVEC_NO_ROOM : BITVEC_TOO_MANY_SPANS;
-    for (size_t i = 0; i < count; i++)
-        if (spans[i].count > BITVEC_MAX_BITS)
-            return BITVEC_TOO_LONG;
-    for (size_t i = 0; i < count; i++)
-        if (range_status(width, order, words, spans[i].start, spans[i].count) != BITVEC_OK)
-            return BITVEC_OUTSIDE;
-    for (size_t i = 0; i < count; i++)
-        for (size_t j = 0; j < i; j++)
-            if (meet(spans[i], spans[j]))
-                return BITVEC_OVERLAP;
-    return BITVEC_OK;
-}
+/* The room that the model is given. */
+static size_t model_room[MOST_SPANS];
 
 /* Spans that mostly lie in a memory and have no bit in common. */
 static struct buffer any_spans(size_t bits) {
@@ -544,8 +522,9 @@ static void sorted_room(struct buffer room, const struct bitvec_span *spans, uin
         same_bytes(memory, model);                                                                 \
     }                                                                                              \
 
-/* The runs, without room and with it: the ends of their names, and what else they are given. */
-#define RUNS(W, T, IN, ROOMY, TAIL)                                                                \
+/* The runs, without room and with it: the ends of their names, what else they are given, and what
+ * else their model is. */
+#define RUNS(W, T, IN, ROOMY, TAIL, MODEL_TAIL)                                                    \
     static void can_run##IN##_##W(uint8_t order, unsigned width) {                                 \
         size_t words = below(20);                                                                  \
         struct buffer buffer = any_spans(words * width);                                           \
@@ -553,11 +532,11 @@ static void sorted_room(struct buffer room, const struct bitvec_span *spans, uin
         size_t count = buffer.size / sizeof(struct bitvec_span);                                   \
         struct buffer room = any_room(count);                                                      \
         size_t *numbers = (size_t *)(void *)room.at, places = room.size / sizeof(size_t);          \
-        (void)numbers;                                                                             \
+        (void)numbers, (void)places;                                                               \
         protect(buffer, PROT_READ);                                                                \
         uint8_t status = bitvec_c_can_run##IN##_##W(order, words, spans, count TAIL);              \
         protect(buffer, PROT_READ | PROT_WRITE);                                                   \
-        uint8_t expected = spans_status(width, order, spans, count, words, ROOMY, places);         \
+        uint8_t expected = model_can_run##IN##_##W(order, words, spans, count MODEL_TAIL);         \
         same_status(status, expected);                                                             \
         sorted_room(room, spans, (ROOMY) ? expected : BITVEC_NO_ROOM);                             \
     }                                                                                              \
@@ -585,7 +564,7 @@ static void sorted_room(struct buffer room, const struct bitvec_span *spans, uin
         struct buffer number_buffer = any_room(span_count);                                        \
         size_t *numbers = (size_t *)(void *)number_buffer.at;                                      \
         size_t places = number_buffer.size / sizeof(size_t);                                       \
-        (void)numbers;                                                                             \
+        (void)numbers, (void)places;                                                               \
         size_t room = one_in(32) ? below(12) : asked;                                              \
         struct buffer reply_buffer = take(REPLIES, room * sizeof(struct bitvec_reply));            \
         struct bitvec_reply *replies = (struct bitvec_reply *)(void *)reply_buffer.at;             \
@@ -599,7 +578,7 @@ static void sorted_room(struct buffer room, const struct bitvec_span *spans, uin
         protect(request_buffer, PROT_READ | PROT_WRITE);                                           \
         protect(span_buffer, PROT_READ | PROT_WRITE);                                              \
         uint8_t expected =                                                                         \
-            spans_status(width, order, spans, span_count, words, ROOMY, places);                   \
+            model_can_run##IN##_##W(order, words, spans, span_count MODEL_TAIL);                   \
         sorted_room(number_buffer, spans, (ROOMY) ? expected : BITVEC_NO_ROOM);                    \
         if (expected == BITVEC_OK && room != asked)                                                \
             expected = BITVEC_NO_ROOM;                                                             \
@@ -623,20 +602,21 @@ static void sorted_room(struct buffer room, const struct bitvec_span *spans, uin
     }
 
 #define ROOM_OF_RUN , numbers, places
+#define MODEL_ROOM , model_room, places
 #define NO_ROOM_OF_RUN
 
 CALLS(u8, uint8_t)
 CALLS(u16, uint16_t)
 CALLS(u32, uint32_t)
 CALLS(u64, uint64_t)
-RUNS(u8, uint8_t, , false, NO_ROOM_OF_RUN)
-RUNS(u16, uint16_t, , false, NO_ROOM_OF_RUN)
-RUNS(u32, uint32_t, , false, NO_ROOM_OF_RUN)
-RUNS(u64, uint64_t, , false, NO_ROOM_OF_RUN)
-RUNS(u8, uint8_t, _in, true, ROOM_OF_RUN)
-RUNS(u16, uint16_t, _in, true, ROOM_OF_RUN)
-RUNS(u32, uint32_t, _in, true, ROOM_OF_RUN)
-RUNS(u64, uint64_t, _in, true, ROOM_OF_RUN)
+RUNS(u8, uint8_t, , false, NO_ROOM_OF_RUN, NO_ROOM_OF_RUN)
+RUNS(u16, uint16_t, , false, NO_ROOM_OF_RUN, NO_ROOM_OF_RUN)
+RUNS(u32, uint32_t, , false, NO_ROOM_OF_RUN, NO_ROOM_OF_RUN)
+RUNS(u64, uint64_t, , false, NO_ROOM_OF_RUN, NO_ROOM_OF_RUN)
+RUNS(u8, uint8_t, _in, true, ROOM_OF_RUN, MODEL_ROOM)
+RUNS(u16, uint16_t, _in, true, ROOM_OF_RUN, MODEL_ROOM)
+RUNS(u32, uint32_t, _in, true, ROOM_OF_RUN, MODEL_ROOM)
+RUNS(u64, uint64_t, _in, true, ROOM_OF_RUN, MODEL_ROOM)
 
 /* A place from which on so many bits mostly lie among `bits`. */
 static size_t any_start(size_t bits, size_t count) {

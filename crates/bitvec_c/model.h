@@ -1,6 +1,6 @@
 /* A model of the calls in plain C: loops over two functions, of which one reads a bit and one puts it. fuzz.c compares the
- * archive with it, and `proved/check` proves it by the contracts of bitvec_acsl.h, all but the calls of Exp-Golomb codes: for
- * Frama-C each function here is the call of its name, so that its contract is that of the call. */
+ * archive with it, and `proved/check` proves it by the contracts of bitvec_acsl.h: for Frama-C each function here is the call
+ * of its name, so that its contract is that of the call. */
 #ifndef MODEL_BITS
 #ifndef BITVEC_MODEL_H
 #define BITVEC_MODEL_H
@@ -98,6 +98,55 @@ static uint64_t model_complement(size_t count, int64_t number) {
     int64_t power = (int64_t)model_power(count), left = number % power;
     return (uint64_t)(left < 0 ? left + power : left);
 }
+
+/* Lemmas on digits, by which three functions are proved, and nothing else, as the provers find more without them. The proof
+ * of digits_bound, powers_least, top_all and powers_rise is by induction, as proved/script says; that of the others the
+ * provers find. */
+#ifdef MODEL_LEMMAS
+/*@ lemma digits_bound: \forall integer n; 1 <= n ==>
+  @   1 <= digit_count(n) && power_of_two(digit_count(n) - 1) <= n < power_of_two(digit_count(n));
+  @ lemma quotient: \forall integer a, p, q; 0 < p && 0 <= q && p * q <= a < p * q + p ==> a / p == q;
+  @ lemma quotient_parts: \forall integer a, p; 0 < p && 0 <= a ==> 0 <= a / p && p * (a / p) <= a < p * (a / p) + p;
+  @ lemma quotient_even: \forall integer a, p; 0 < p && 0 <= a ==> (2 * a) / (2 * p) == a / p;
+  @ lemma quotient_odd: \forall integer a, p; 0 < p && 0 <= a ==> (2 * a + 1) / (2 * p) == a / p;
+  @ lemma powers_least: \forall integer n; 0 <= n ==> 1 <= power_of_two(n);
+  @ lemma digit_even: \forall integer n, k; 0 <= n && 0 <= k ==> (2 * n) / power_of_two(k + 1) == n / power_of_two(k);
+  @ lemma digit_odd: \forall integer n, k; 0 <= n && 0 <= k ==> (2 * n + 1) / power_of_two(k + 1) == n / power_of_two(k);
+  @ lemma digit_halved: \forall integer n, k; 0 <= n && 0 < k ==> (digit_of(n, k) <==> digit_of(n / 2, k - 1));
+  @ lemma half_of: \forall integer n, k; 0 < k && power_of_two(k) <= n < power_of_two(k + 1) ==>
+  @   power_of_two(k - 1) <= n / 2 < power_of_two(k);
+  @ predicate has_top(integer k) = \forall integer n; power_of_two(k) <= n < power_of_two(k + 1) ==> digit_of(n, k);
+  @ lemma top_none: has_top(0);
+  @ lemma top_more: \forall integer k; 0 < k && has_top(k - 1) ==> has_top(k);
+  @ lemma top_all: \forall integer k; 0 <= k ==> has_top(k);
+  @ lemma digit_top: \forall integer n, k; 0 <= k && power_of_two(k) <= n < power_of_two(k + 1) ==> digit_of(n, k);
+  @ lemma powers_rise: \forall integer m, n; 0 <= m <= n ==> power_of_two(m) <= power_of_two(n);
+  @ lemma digits_are: \forall integer n, k; 0 <= k && power_of_two(k) <= n < power_of_two(k + 1) ==> digit_count(n) == k + 1;
+  @*/
+#endif
+
+/* A digit of a number is one of its half; the greatest one; and how many digits there are. */
+/*@ ghost
+  /@ assigns \nothing;
+   @ ensures \forall integer n, k; 0 <= n && 0 < k ==> (digit_of(n, k) <==> digit_of(n / 2, k - 1));
+   @/
+  void model_halved(void) {}
+  /@ assigns \nothing;
+   @ ensures \forall integer n; 1 <= n ==> 1 <= digit_count(n) && n < power_of_two(digit_count(n)) &&
+   @   digit_of(n, digit_count(n) - 1);
+   @/
+  void model_top(void) {}
+  /@ requires 0 <= k;
+   @ assigns \nothing;
+   @ ensures 1 <= power_of_two(k);
+   @ ensures \forall integer n; power_of_two(k) <= n < power_of_two(k + 1) ==> digit_count(n) == k + 1;
+   @ ensures 64 < k ==> 36893488147419103232 <= power_of_two(k);
+   @/
+  void model_length(size_t k) {
+      model_powers();
+      /@ assert power_of_two(65) == 36893488147419103232; @/
+  }
+*/
 #endif
 #ifdef __FRAMAC__
 #define MODEL(call) MODEL_JOIN(bitvec_c_##call, _u, MODEL_BITS)
@@ -115,6 +164,17 @@ static uint64_t model_complement(size_t count, int64_t number) {
 #define LEFT MODEL_JOIN(model_left, _u, MODEL_BITS)
 #define NUMBER MODEL_JOIN(number, _u, MODEL_BITS)
 #define HOLDS MODEL_JOIN(holds, _u, MODEL_BITS)
+#define IS_CODE MODEL_JOIN(code, _u, MODEL_BITS)
+#define IS_CODED MODEL_JOIN(coded, _u, MODEL_BITS)
+#define KEPT MODEL_JOIN(kept, _u, MODEL_BITS)
+#define DOUBLED MODEL_JOIN(model_doubled, _u, MODEL_BITS)
+#define NEXT MODEL_JOIN(model_next, _u, MODEL_BITS)
+#define READABLE MODEL_JOIN(model_readable, _u, MODEL_BITS)
+#define FIRST MODEL_JOIN(model_first, _u, MODEL_BITS)
+#define MADE MODEL_JOIN(model_made, _u, MODEL_BITS)
+#define HELD MODEL_JOIN(model_held, _u, MODEL_BITS)
+#define PARTED MODEL_JOIN(model_parted, _u, MODEL_BITS)
+#define ONLY MODEL_JOIN(model_only, _u, MODEL_BITS)
 #define CODE MODEL_JOIN(model_code, _u, MODEL_BITS)
 #define PUT_CODE MODEL_JOIN(model_put_code, _u, MODEL_BITS)
 #define SPANS MODEL_JOIN(model_spans, _u, MODEL_BITS)
@@ -991,83 +1051,372 @@ uint8_t MODEL(write_unary)(uint8_t order, WORD *memory, size_t words, size_t *pl
     return status;
 }
 
-/* Of an Exp-Golomb code how many zeros it begins with, and the digits behind the first one, of which it has as many. */
-static uint8_t CODE(uint8_t order, const WORD *memory, size_t words, size_t place, size_t end, size_t *zeros,
-                    uint64_t *low) {
+/* The bits of a stream, of which the first is the greatest digit: with one more behind them they are digits of twice the
+ * number. */
+/*@ ghost
+  /@ requires start + count < 18446744073709551615;
+   @ assigns \nothing;
+   @ ensures NUMBER{Pre}(1, 1, order, memory, start, count + 1, count)
+   @   == 2 * NUMBER{Pre}(1, 1, order, memory, start, count, count);
+   @/
+  void DOUBLED(uint8_t order, const WORD *memory, size_t start, size_t count) {
+      size_t n = 0;
+      /@ loop invariant 0 <= n <= count;
+       @ loop invariant NUMBER{Pre}(1, 1, order, memory, start, count + 1, n)
+       @   == 2 * NUMBER{Pre}(1, 1, order, memory, start, count, n);
+       @ loop assigns n;
+       @ loop variant count - n;
+       @/
+      while (n < count)
+          n++;
+  }
+*/
+
+/* So what was a digit is the next one, and the bit behind them is the lowest. */
+/*@ ghost
+  /@ requires start + count < 18446744073709551615;
+   @ assigns \nothing;
+   @ ensures \forall integer k; 0 < k ==> (digit_of(NUMBER{Pre}(1, 1, order, memory, start, count + 1, count + 1), k) <==>
+   @   digit_of(NUMBER{Pre}(1, 1, order, memory, start, count, count), k - 1));
+   @ ensures digit_of(NUMBER{Pre}(1, 1, order, memory, start, count + 1, count + 1), 0) <==>
+   @   BIT{Pre}(order, memory, start + count);
+   @ ensures 2 * NUMBER{Pre}(1, 1, order, memory, start, count, count)
+   @   <= NUMBER{Pre}(1, 1, order, memory, start, count + 1, count + 1);
+   @/
+  void NEXT(uint8_t order, const WORD *memory, size_t start, size_t count) {
+      DOUBLED(order, memory, start, count);
+      model_halved();
+      /@ assert least: 0 <= NUMBER{Pre}(1, 1, order, memory, start, count, count); @/
+      /@ assert one: BIT{Pre}(order, memory, start + count) ==> NUMBER{Pre}(1, 1, order, memory, start, count + 1, count + 1)
+       @   == 2 * NUMBER{Pre}(1, 1, order, memory, start, count, count) + 1; @/
+      /@ assert zero: !BIT{Pre}(order, memory, start + count) ==> NUMBER{Pre}(1, 1, order, memory, start, count + 1, count + 1)
+       @   == 2 * NUMBER{Pre}(1, 1, order, memory, start, count, count); @/
+      /@ assert half: NUMBER{Pre}(1, 1, order, memory, start, count + 1, count + 1) / 2
+       @   == NUMBER{Pre}(1, 1, order, memory, start, count, count); @/
+  }
+*/
+
+/* They are the digits of the number that they make up, which has as many where the first is a one. */
+/*@ ghost
+  /@ requires start + count < 18446744073709551615;
+   @ assigns \nothing;
+   @ ensures \forall integer p; start <= p < start + count ==> (BIT{Pre}(order, memory, p) <==>
+   @   digit_of(NUMBER{Pre}(1, 1, order, memory, start, count, count), start + count - 1 - p));
+   @ ensures 0 < count && BIT{Pre}(order, memory, start) ==>
+   @   power_of_two(count - 1) <= NUMBER{Pre}(1, 1, order, memory, start, count, count);
+   @/
+  void HELD(uint8_t order, const WORD *memory, size_t start, size_t count) {
+      size_t n = 0;
+      /@ loop invariant 0 <= n <= count;
+       @ loop invariant \forall integer p; start <= p < start + n ==> (BIT{Pre}(order, memory, p) <==>
+       @   digit_of(NUMBER{Pre}(1, 1, order, memory, start, n, n), start + n - 1 - p));
+       @ loop invariant 0 < n && BIT{Pre}(order, memory, start) ==>
+       @   power_of_two(n - 1) <= NUMBER{Pre}(1, 1, order, memory, start, n, n);
+       @ loop assigns n;
+       @ loop variant count - n;
+       @/
+      while (n < count) {
+          NEXT(order, memory, start, n);
+          /@ assert rest: \forall integer p; start <= p < start + n ==> (BIT{Pre}(order, memory, p) <==>
+           @   digit_of(NUMBER{Pre}(1, 1, order, memory, start, n + 1, n + 1), start + n - p)); @/
+          /@ assert all: \forall integer p; start <= p <= start + n ==> (BIT{Pre}(order, memory, p) <==>
+           @   digit_of(NUMBER{Pre}(1, 1, order, memory, start, n + 1, n + 1), start + n - p)); @/
+          /@ assert first: n == 0 && BIT{Pre}(order, memory, start) ==>
+           @   1 <= NUMBER{Pre}(1, 1, order, memory, start, n + 1, n + 1); @/
+          n++;
+      }
+  }
+*/
+
+/* Where the first is a one, they make up a power of two, and what those behind it make up. */
+/*@ ghost
+  /@ requires start + count < 18446744073709551615;
+   @ requires BIT{Pre}(order, memory, start);
+   @ assigns \nothing;
+   @ ensures NUMBER{Pre}(1, 1, order, memory, start, count + 1, count + 1)
+   @   == power_of_two(count) + NUMBER{Pre}(1, 1, order, memory, start + 1, count, count);
+   @/
+  void PARTED(uint8_t order, const WORD *memory, size_t start, size_t count) {
+      size_t n = 0;
+      /@ assert NUMBER{Pre}(1, 1, order, memory, start, count + 1, 0) == 0; @/
+      /@ loop invariant 0 <= n <= count;
+       @ loop invariant NUMBER{Pre}(1, 1, order, memory, start, count + 1, n + 1)
+       @   == power_of_two(count) + NUMBER{Pre}(1, 1, order, memory, start + 1, count, n);
+       @ loop assigns n;
+       @ loop variant count - n;
+       @/
+      while (n < count)
+          n++;
+  }
+*/
+
+/* Where a code begins with so many zeros, the number has as many digits, and one more; */
+/*@ ghost
+  /@ requires \forall integer p; place <= p < place + zeros ==> !BIT{Pre}(order, memory, p);
+   @ requires BIT{Pre}(order, memory, place + zeros);
+   @ assigns \nothing;
+   @ ensures \forall integer n, left; 0 <= n && IS_CODE{Pre}(order, memory, place, left, n) ==>
+   @   digit_count(n + 1) == zeros + 1 && code_length(n) == 2 * zeros + 1 && n + 1 < power_of_two(zeros + 1);
+   @/
+  void FIRST(uint8_t order, const WORD *memory, size_t place, size_t zeros) {
+      model_top();
+      /@ assert least: \forall integer n; 0 <= n ==> 1 <= digit_count(n + 1); @/
+      /@ assert most: \forall integer n; 0 <= n ==> n + 1 < power_of_two(digit_count(n + 1)); @/
+      /@ assert top: \forall integer n; 0 <= n ==> digit_of(n + 1, digit_count(n + 1) - 1); @/
+      /@ assert first: \forall integer n, left; 0 <= n && IS_CODE{Pre}(order, memory, place, left, n) ==>
+       @   BIT{Pre}(order, memory, place + digit_count(n + 1) - 1); @/
+      /@ assert zeros: \forall integer n, left; 0 <= n && IS_CODE{Pre}(order, memory, place, left, n) ==>
+       @   digit_count(n + 1) == zeros + 1; @/
+  }
+*/
+
+/* its bits hold a number where they are its digits from the greatest on; */
+/*@ ghost
+  /@ requires start + count <= 18446744073709551615;
+   @ assigns \nothing;
+   @ ensures \forall integer n; digit_count(n) == count && (\forall integer p; start <= p < start + count ==>
+   @   (BIT{Pre}(order, memory, p) <==> digit_of(n, start + count - 1 - p))) ==>
+   @   HOLDS{Pre}(1, 1, order, memory, start, count, n);
+   @/
+  void READABLE(uint8_t order, const WORD *memory, size_t start, size_t count) {
+      /@ assert places: \forall integer j; place_of(1, 1, MODEL_BITS, order, start, count, j) == count - 1 - j; @/
+  }
+*/
+
+/* and it is the code of one number alone. */
+/*@ ghost
+  /@ requires place + 2 * zeros + 1 <= 18446744073709551615;
+   @ requires \forall integer p; place <= p < place + zeros ==> !BIT{Pre}(order, memory, p);
+   @ requires BIT{Pre}(order, memory, place + zeros);
+   @ assigns \nothing;
+   @ ensures \forall integer n; 0 <= n && IS_CODE{Pre}(order, memory, place, left, n) ==>
+   @   n + 1 == NUMBER{Pre}(1, 1, order, memory, place + zeros, zeros + 1, zeros + 1);
+   @/
+  void ONLY(uint8_t order, const WORD *memory, size_t place, size_t left, size_t zeros) {
+      FIRST(order, memory, place, zeros);
+      READABLE(order, memory, place + zeros, zeros + 1);
+      /@ assert digits: \forall integer m; 1 <= m && IS_CODE{Pre}(order, memory, place, left, m - 1) ==>
+       @   digit_count(m) == zeros + 1 && m < power_of_two(zeros + 1); @/
+      /@ assert own: \forall integer m, p; 1 <= m && IS_CODE{Pre}(order, memory, place, left, m - 1) &&
+       @   place + zeros <= p < place + zeros + (zeros + 1) ==>
+       @   (BIT{Pre}(order, memory, p) <==> digit_of(m, place + zeros + (zeros + 1) - 1 - p)); @/
+      /@ assert held: \forall integer m; 1 <= m && IS_CODE{Pre}(order, memory, place, left, m - 1) ==>
+       @   HOLDS{Pre}(1, 1, order, memory, place + zeros, zeros + 1, m); @/
+      /@ assert held_too: \forall integer n; 0 <= n && IS_CODE{Pre}(order, memory, place, left, n) ==>
+       @   HOLDS{Pre}(1, 1, order, memory, place + zeros, zeros + 1, n + 1); @/
+  }
+*/
+
+/* What makes a code. */
+/*@ ghost
+  /@ requires digit_count(power_of_two(zeros) + low) == zeros + 1 && 2 * zeros + 1 <= left;
+   @ requires \forall integer p; place <= p < place + zeros ==> !BIT{Pre}(order, memory, p);
+   @ requires \forall integer p; place + zeros <= p <= place + 2 * zeros ==>
+   @   (BIT{Pre}(order, memory, p) <==> digit_of(power_of_two(zeros) + low, place + 2 * zeros - p));
+   @ assigns \nothing;
+   @ ensures IS_CODE{Pre}(order, memory, place, left, power_of_two(zeros) + low - 1);
+   @/
+  void MADE(uint8_t order, const WORD *memory, size_t place, size_t left, size_t zeros, uint64_t low) {
+      /@ assert length: code_length(power_of_two(zeros) + low - 1) == 2 * zeros + 1; @/
+  }
+*/
+
+/* Of an Exp-Golomb code how many zeros it begins with, which are as many as the digits behind the first one. */
+/*@ requires \valid_read(memory + (0 .. words - 1)) && \valid(zeros) && \separated(memory + (0 .. words - 1), zeros);
+  @ assigns *zeros;
+  @ ensures status: left_status(MODEL_BITS, order, words, place, end) != BITVEC_OK ==>
+  @   \result == left_status(MODEL_BITS, order, words, place, end);
+  @ ensures statuses: left_status(MODEL_BITS, order, words, place, end) == BITVEC_OK ==>
+  @   \result == BITVEC_OK || \result == BITVEC_TOO_FEW;
+  @ ensures none: left_status(MODEL_BITS, order, words, place, end) == BITVEC_OK && \result == BITVEC_TOO_FEW ==>
+  @   !IS_CODED{Pre}(order, memory, place, left_of(place, end));
+  @ ensures inside: \result == BITVEC_OK ==>
+  @   order <= 1 && place + 2 * *zeros + 1 <= end <= words * MODEL_BITS <= 18446744073709551615;
+  @ ensures first: \result == BITVEC_OK ==> BIT{Pre}(order, memory, place + *zeros);
+  @ ensures bounds: \result == BITVEC_OK ==>
+  @   power_of_two(*zeros) <= NUMBER{Pre}(1, 1, order, memory, place + *zeros, *zeros + 1, *zeros + 1) < power_of_two(*zeros + 1);
+  @ ensures one: \result == BITVEC_OK ==>
+  @   IS_CODE{Pre}(order, memory, place, left_of(place, end),
+  @   NUMBER{Pre}(1, 1, order, memory, place + *zeros, *zeros + 1, *zeros + 1) - 1);
+  @ ensures coded: \result == BITVEC_OK ==> IS_CODED{Pre}(order, memory, place, left_of(place, end));
+  @ ensures length: \result == BITVEC_OK ==>
+  @   code_length(NUMBER{Pre}(1, 1, order, memory, place + *zeros, *zeros + 1, *zeros + 1) - 1) == 2 * *zeros + 1;
+  @ ensures only: \result == BITVEC_OK ==>
+  @   (\forall integer n; 0 <= n && IS_CODE{Pre}(order, memory, place, left_of(place, end), n) ==>
+  @   n + 1 == NUMBER{Pre}(1, 1, order, memory, place + *zeros, *zeros + 1, *zeros + 1));
+  @*/
+static uint8_t CODE(uint8_t order, const WORD *memory, size_t words, size_t place, size_t end, size_t *zeros) {
     uint8_t status = LEFT(order, words, place, end);
     if (status != BITVEC_OK)
         return status;
     size_t one = place;
+    /*@ loop invariant place <= one <= end;
+      @ loop invariant \forall integer p; place <= p < one ==> !BIT{Pre}(order, memory, p);
+      @ loop assigns one;
+      @ loop variant end - one;
+      @*/
     while (one < end && !READ(order, memory, one))
         one++;
-    *zeros = one - place;
-    if (one == end || *zeros > end - one - 1)
+    size_t count = one - place;
+    if (one == end) {
+        //@ ghost model_top();
+        //@ assert least: \forall integer n; 0 <= n ==> 1 <= digit_count(n + 1);
+        //@ assert top: \forall integer n; 0 <= n ==> digit_of(n + 1, digit_count(n + 1) - 1);
+        /*@ assert first: \forall integer n; 0 <= n && IS_CODE{Pre}(order, memory, place, left_of(place, end), n) ==>
+          @   BIT{Pre}(order, memory, place + digit_count(n + 1) - 1); */
         return BITVEC_TOO_FEW;
-    *low = 0;
-    for (size_t i = 1; i <= *zeros; i++)
-        *low = *low << 1 | READ(order, memory, one + i);
-    return *zeros > 64 ? BITVEC_TOO_LARGE : status;
+    }
+    //@ ghost FIRST(order, memory, place, count);
+    if (count > end - one - 1)
+        return BITVEC_TOO_FEW;
+    //@ ghost ONLY(order, memory, place, end - place, count);
+    //@ ghost HELD(order, memory, one, count + 1);
+    //@ ghost model_length(count);
+    /*@ assert bounds: power_of_two(count) <= NUMBER{Pre}(1, 1, order, memory, one, count + 1, count + 1)
+      @   < power_of_two(count + 1); */
+    //@ assert digits: digit_count(NUMBER{Pre}(1, 1, order, memory, one, count + 1, count + 1)) == count + 1;
+    /*@ assert is_code: IS_CODE{Pre}(order, memory, place, left_of(place, end),
+      @   NUMBER{Pre}(1, 1, order, memory, one, count + 1, count + 1) - 1); */
+    *zeros = count;
+    return status;
 }
 
 uint8_t MODEL(read_exp_golomb)(uint8_t order, const WORD *memory, size_t words, size_t *place, size_t end,
                                uint64_t *number) {
-    size_t zeros = 0;
-    uint64_t low = 0;
-    uint8_t status = CODE(order, memory, words, *place, end, &zeros, &low);
-    if (status == BITVEC_OK && zeros == 64 && low != 0)
-        status = BITVEC_TOO_LARGE;
+    //@ ghost model_powers();
+    size_t zeros = 0, from = *place;
+    uint8_t status = CODE(order, memory, words, from, end, &zeros);
     if (status != BITVEC_OK)
         return status;
-    *number = (zeros < 64 ? model_power(zeros) : 0) + low - 1;
-    *place += 2 * zeros + 1;
+    //@ ghost model_length(zeros);
+    if (zeros > 64)
+        return BITVEC_TOO_LARGE;
+    uint64_t found = UINT64_MAX;
+    //@ assert least: 1 <= NUMBER{Pre}(1, 1, order, memory, from + zeros, zeros + 1, zeros + 1);
+    if (zeros < 64) {
+        size_t one = from + zeros, count = zeros + 1;
+        //@ assert no_overflow: one == from + zeros && count == zeros + 1;
+        uint64_t more = TAKEN(true, true, order, memory, words, one, count);
+        //@ assert short_found: more == NUMBER{Pre}(1, 1, order, memory, from + zeros, zeros + 1, zeros + 1);
+        found = more - 1;
+    } else {
+        //@ ghost PARTED(order, memory, from + zeros, zeros);
+        uint64_t low = TAKEN(true, true, order, memory, words, from + zeros + 1, zeros);
+        /*@ assert long_found: NUMBER{Pre}(1, 1, order, memory, from + zeros, zeros + 1, zeros + 1)
+          @   == 18446744073709551616 + low; */
+        if (low != 0)
+            return BITVEC_TOO_LARGE;
+    }
+    //@ assert found: found + 1 == NUMBER{Pre}(1, 1, order, memory, from + zeros, zeros + 1, zeros + 1);
+    //@ assert is_code: IS_CODE{Pre}(order, memory, from, left_of(from, end), found);
+    //@ assert length: code_length(found) == 2 * zeros + 1;
+    *number = found;
+    *place = from + 2 * zeros + 1;
     return status;
 }
 
 uint8_t MODEL(read_signed_exp_golomb)(uint8_t order, const WORD *memory, size_t words, size_t *place, size_t end,
                                       int64_t *number) {
-    size_t zeros = 0;
-    uint64_t low = 0;
-    uint8_t status = CODE(order, memory, words, *place, end, &zeros, &low);
-    if (status == BITVEC_OK && zeros == 64 && low != 1)
-        status = BITVEC_TOO_LARGE;
+    //@ ghost model_powers();
+    size_t zeros = 0, from = *place;
+    uint8_t status = CODE(order, memory, words, from, end, &zeros);
     if (status != BITVEC_OK)
         return status;
-    uint64_t code = (zeros < 64 ? model_power(zeros) : 0) + low - 1;
-    if (zeros == 64)
-        *number = -INT64_MAX - 1;
-    else
-        *number = code % 2 == 1 ? (int64_t)(code / 2) + 1 : -(int64_t)(code / 2);
-    *place += 2 * zeros + 1;
+    //@ ghost model_length(zeros);
+    /*@ assert fitting: \forall integer z; fits_signed(64, z) ==>
+      @   0 <= signed_place(z) <= 18446744073709551616 && signed_place(z) != 18446744073709551615; */
+    if (zeros > 64)
+        return BITVEC_TOO_LARGE;
+    int64_t found = -INT64_MAX - 1;
+    if (zeros < 64) {
+        size_t one = from + zeros, count = zeros + 1;
+        //@ assert no_overflow: one == from + zeros && count == zeros + 1;
+        uint64_t code = TAKEN(true, true, order, memory, words, one, count) - 1;
+        //@ assert code: code + 1 == NUMBER{Pre}(1, 1, order, memory, from + zeros, zeros + 1, zeros + 1) <= 18446744073709551615;
+        uint64_t half = code / 2;
+        found = code - 2 * half == 1 ? (int64_t)half + 1 : -(int64_t)half;
+    } else {
+        //@ ghost PARTED(order, memory, from + zeros, zeros);
+        uint64_t low = TAKEN(true, true, order, memory, words, from + zeros + 1, zeros);
+        /*@ assert long_found: NUMBER{Pre}(1, 1, order, memory, from + zeros, zeros + 1, zeros + 1)
+          @   == 18446744073709551616 + low; */
+        if (low != 1)
+            return BITVEC_TOO_LARGE;
+    }
+    //@ assert found: signed_place(found) + 1 == NUMBER{Pre}(1, 1, order, memory, from + zeros, zeros + 1, zeros + 1);
+    //@ assert is_code: IS_CODE{Pre}(order, memory, from, left_of(from, end), signed_place(found));
+    //@ assert length: code_length(signed_place(found)) == 2 * zeros + 1;
+    *number = found;
+    *place = from + 2 * zeros + 1;
     return status;
 }
 
 /* Writes a code: as many zeros as are said, a one, and as many digits. */
+/*@ requires \valid(memory + (0 .. words - 1)) && \valid(place) && \separated(memory + (0 .. words - 1), place);
+  @ requires zeros <= 64 && low < power_of_two(zeros);
+  @ assigns memory[0 .. words - 1], *place;
+  @ ensures status: \result == then_status(left_status(MODEL_BITS, order, words, \old(*place), end),
+  @   2 * zeros + 1 <= left_of(\old(*place), end) ? BITVEC_OK : BITVEC_TOO_FEW);
+  @ ensures length: code_length(power_of_two(zeros) + low - 1) == 2 * zeros + 1;
+  @ ensures range: \result == BITVEC_OK ==>
+  @   IS_CODE{Post}(order, memory, \old(*place), left_of(\old(*place), end), power_of_two(zeros) + low - 1);
+  @ ensures others: \result == BITVEC_OK ==> OTHERS{Pre, Post}(order, memory, words, \old(*place), 2 * zeros + 1);
+  @ ensures moved: \result == BITVEC_OK ==> *place == \old(*place) + 2 * zeros + 1;
+  @ ensures refused: \result != BITVEC_OK ==> KEPT{Pre, Post}(memory, words) && *place == \old(*place);
+  @*/
 static uint8_t PUT_CODE(uint8_t order, WORD *memory, size_t words, size_t *place, size_t end, size_t zeros,
                         uint64_t low) {
+    //@ ghost model_length(zeros);
     uint8_t status = LEFT(order, words, *place, end);
+    //@ assert digits: digit_count(power_of_two(zeros) + low) == zeros + 1;
     if (status == BITVEC_OK && 2 * zeros + 1 > end - *place)
         status = BITVEC_TOO_FEW;
     if (status != BITVEC_OK)
         return status;
-    for (size_t i = 0; i <= zeros; i++)
-        PUT(order, memory, *place + i, i == zeros);
+    size_t from = *place, one = from + zeros;
+    /*@ loop invariant 0 <= i <= zeros;
+      @ loop invariant \forall integer p; from <= p < from + i ==> !BIT{Here}(order, memory, p);
+      @ loop invariant OTHERS{Pre, Here}(order, memory, words, from, i);
+      @ loop assigns i, memory[0 .. words - 1];
+      @ loop variant zeros - i;
+      @*/
     for (size_t i = 0; i < zeros; i++)
-        PUT(order, memory, *place + 2 * zeros - i, low / model_power(i) % 2 == 1);
-    *place += 2 * zeros + 1;
+        PUT(order, memory, from + i, false);
+    PUT(order, memory, one, true);
+    GIVEN(true, true, order, memory, words, one + 1, zeros, low);
+    //@ assert first: BIT{Here}(order, memory, one);
+    //@ assert zeros: \forall integer p; from <= p < one ==> !BIT{Here}(order, memory, p);
+    //@ assert given: HOLDS{Here}(1, 1, order, memory, one + 1, zeros, low);
+    //@ assert low: NUMBER{Here}(1, 1, order, memory, one + 1, zeros, zeros) == low;
+    //@ ghost PARTED(order, memory, one, zeros);
+    //@ ghost HELD(order, memory, one, zeros + 1);
+    //@ assert value: NUMBER{Here}(1, 1, order, memory, one, zeros + 1, zeros + 1) == power_of_two(zeros) + low;
+    /*@ assert held: \forall integer p; one <= p <= one + zeros ==>
+      @   (BIT{Here}(order, memory, p) <==> digit_of(power_of_two(zeros) + low, one + zeros - p)); */
+    //@ ghost MADE(order, memory, from, end - from, zeros, low);
+    *place = from + 2 * zeros + 1;
     return status;
 }
 
-/* (one more than a number has 65 digits where the number is the greatest) */
 uint8_t MODEL(write_exp_golomb)(uint8_t order, WORD *memory, size_t words, size_t *place, size_t end,
                                 uint64_t number) {
-    size_t zeros = number == UINT64_MAX ? 64 : 0;
-    while (zeros < 64 && (number + 1) / model_power(zeros) > 1)
+    //@ ghost model_powers();
+    if (number == UINT64_MAX)
+        return PUT_CODE(order, memory, words, place, end, 64, 0);
+    size_t zeros = 0;
+    /*@ loop invariant 0 <= zeros <= 63 && power_of_two(zeros) <= number + 1;
+      @ loop assigns zeros;
+      @ loop variant 63 - zeros;
+      @*/
+    while (zeros < 63 && number + 1 >= model_power(zeros + 1))
         zeros++;
-    return PUT_CODE(order, memory, words, place, end, zeros, number + 1);
+    //@ assert most: number + 1 < power_of_two(zeros + 1);
+    return PUT_CODE(order, memory, words, place, end, zeros, number + 1 - model_power(zeros));
 }
 
 uint8_t MODEL(write_signed_exp_golomb)(uint8_t order, WORD *memory, size_t words, size_t *place, size_t end,
                                        int64_t number) {
+    //@ ghost model_powers();
     if (number == -INT64_MAX - 1)
         return PUT_CODE(order, memory, words, place, end, 64, 1);
     return MODEL(write_exp_golomb)(order, memory, words, place, end,

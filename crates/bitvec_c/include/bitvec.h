@@ -1412,9 +1412,9 @@ BITVEC_CHECKED uint8_t bitvec_c_write_signed_exp_golomb_u64(
 
 /* A run gives commands to disjoint spans of one memory. */
 
-/* Tests the spans of a run for a memory of so many words: each lies in it, and no two have a bit in
- * common. Refuses with BITVEC_NO_ORDER, BITVEC_TOO_MANY_SPANS, BITVEC_TOO_LONG, BITVEC_OUTSIDE or
- * BITVEC_OVERLAP. Costs at most 2016 such tests, of each span with each. */
+/* Tests the spans of a run for a memory of this many words: each lies in it, and no two have a bit
+ * in common. Refuses with BITVEC_NO_ORDER, BITVEC_TOO_MANY_SPANS, BITVEC_TOO_LONG, BITVEC_OUTSIDE
+ * or BITVEC_OVERLAP. Costs at most 2016 such tests, of each span with each. */
 BITVEC_CHECKED uint8_t bitvec_c_can_run_u8(
     uint8_t order, size_t words, const struct bitvec_span *spans, size_t span_count);
 BITVEC_CHECKED uint8_t bitvec_c_can_run_u16(

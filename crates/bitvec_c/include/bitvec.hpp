@@ -2148,9 +2148,9 @@ concept word = std::same_as<W, std::uint8_t> || std::same_as<W, std::uint16_t> |
 
 /* A run gives commands to disjoint spans of one memory. */
 
-/* Tests the spans of a run for a memory of so many words: each lies in it, and no two have a bit in
- * common. Refuses with status::no_order, status::too_many_spans, status::too_long, status::outside
- * or status::overlap. Costs at most 2016 such tests, of each span with each. */
+/* Tests the spans of a run for a memory of this many words: each lies in it, and no two have a bit
+ * in common. Refuses with status::no_order, status::too_many_spans, status::too_long,
+ * status::outside or status::overlap. Costs at most 2016 such tests, of each span with each. */
 template <word W>
 [[nodiscard]] inline bitvec::status can_run(
     bitvec::order order, std::size_t words, std::span<const bitvec_span> spans) noexcept {

@@ -14,12 +14,12 @@
   @   (is_set{Post}(map, n) <==> is_set{Pre}(map, n));
   @*/
 void bitmap_set(unsigned long *map, unsigned long start, unsigned long len) {
-#ifdef WRONG_1 /* the words are rounded down */
+#ifdef WRONG_1 /* the words are rounded down: bitmap_set_assert_done */
     size_t words = (start + len) / 64;
 #else
     size_t words = (start + len) / 64 + ((start + len) % 64 != 0);
 #endif
-#ifdef WRONG_2 /* the kernel's order of a big-endian word */
+#ifdef WRONG_2 /* the kernel's order of a big-endian word: bitmap_set_ensures_ones */
     uint8_t status = bitvec_c_fill_u64(BITVEC_MSB0, map, words, start, len, true);
 #else
     uint8_t status = bitvec_c_fill_u64(BITVEC_LSB0, map, words, start, len, true);

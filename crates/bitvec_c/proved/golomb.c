@@ -26,12 +26,12 @@ size_t read_codes(const uint8_t *bytes, size_t size, uint64_t *numbers, size_t r
       @ loop variant room - read;
       @*/
     while (read < room) {
-#ifdef WRONG_2 /* the buffer is taken to have one byte more */
+#ifdef WRONG_2 /* the buffer is taken to have one byte more: read_codes_call_bitvec_c_read_exp_golomb_u8_requires */
         uint8_t status = bitvec_c_read_exp_golomb_u8(BITVEC_MSB0, bytes, size + 1, end, size * 8 + 8, &numbers[read]);
 #else
         uint8_t status = bitvec_c_read_exp_golomb_u8(BITVEC_MSB0, bytes, size, end, size * 8, &numbers[read]);
 #endif
-#ifdef WRONG_1 /* a code of more than 64 digits is taken for a number */
+#ifdef WRONG_1 /* a code of more than 64 digits is taken for a number: read_codes_loop_invariant_4_preserved */
         if (status == BITVEC_TOO_FEW)
             break;
 #else

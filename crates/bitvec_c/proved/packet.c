@@ -25,7 +25,7 @@ void write_header(uint8_t *bytes, uint64_t version, uint64_t flags, uint64_t kin
     //@ assert second: status == BITVEC_OK;
     status = bitvec_c_store_u8(BITVEC_MSB0, true, bytes, SIZE, 8, 6, kind);
     //@ assert third: status == BITVEC_OK;
-#ifdef WRONG_1 /* the last field begins one bit too early */
+#ifdef WRONG_1 /* the last field begins one bit too early: write_header_assert_holds_kind */
     status = bitvec_c_store_u8(BITVEC_MSB0, true, bytes, SIZE, 13, 10, port);
 #else
     status = bitvec_c_store_u8(BITVEC_MSB0, true, bytes, SIZE, 14, 10, port);
@@ -43,7 +43,7 @@ void write_header(uint8_t *bytes, uint64_t version, uint64_t flags, uint64_t kin
   @*/
 uint64_t read_port(const uint8_t *bytes) {
     uint64_t port = 0;
-#ifdef WRONG_2 /* the digits are read from the other end */
+#ifdef WRONG_2 /* the digits are read from the other end: read_port_ensures_port */
     uint8_t status = bitvec_c_load_u8(BITVEC_MSB0, false, bytes, SIZE, 14, 10, &port);
 #else
     uint8_t status = bitvec_c_load_u8(BITVEC_MSB0, true, bytes, SIZE, 14, 10, &port);

@@ -24,7 +24,7 @@
 size_t take_pages(uint64_t *pages, size_t count) {
     size_t first = PAGES;
     uint8_t status;
-#ifdef WRONG_1 /* a run is looked for that is one page shorter */
+#ifdef WRONG_1 /* a run is looked for that is one page shorter: take_pages_ensures_was_free */
     status = bitvec_c_find_zeros_u64(BITVEC_LSB0, pages, TAKEN, 0, PAGES, count == 0 ? 0 : count - 1, &first);
 #else
     status = bitvec_c_find_zeros_u64(BITVEC_LSB0, pages, TAKEN, 0, PAGES, count, &first);
@@ -43,7 +43,7 @@ size_t take_pages(uint64_t *pages, size_t count) {
   @ ensures others: same_but{Pre, Post}(pages, first, first + count);
   @*/
 void free_pages(uint64_t *pages, size_t first, size_t count) {
-#ifdef WRONG_2 /* the page behind is freed too, where there is one */
+#ifdef WRONG_2 /* the page behind is freed too, where there is one: free_pages_ensures_others */
     count += first + count < PAGES;
 #endif
     uint8_t status = bitvec_c_fill_u64(BITVEC_LSB0, pages, TAKEN, first, count, false);

@@ -28,7 +28,7 @@ struct ring {
 bool put(struct ring *ring, bool bit) {
     if (ring->count == ROOM)
         return false;
-#ifdef WRONG_1 /* the place does not go round */
+#ifdef WRONG_1 /* the place does not go round: put_assert_done */
     size_t place = ring->head + ring->count;
 #else
     size_t place = ring->head + ring->count < ROOM ? ring->head + ring->count : ring->head + ring->count - ROOM;
@@ -50,7 +50,7 @@ bool take(struct ring *ring) {
     bool bit = false;
     uint8_t status = bitvec_c_get_u32(BITVEC_LSB0, ring->words, WORDS, ring->head, &bit);
     //@ assert done: status == BITVEC_OK;
-#ifdef WRONG_2 /* the head goes round one too late */
+#ifdef WRONG_2 /* the head goes round one too late: take_ensures */
     ring->head = ring->head == ROOM ? 0 : ring->head + 1;
 #else
     ring->head = ring->head == ROOM - 1 ? 0 : ring->head + 1;

@@ -26,7 +26,7 @@ void symmetric_difference(uint64_t *target, const uint64_t *a, const uint64_t *b
     //@ assert other_copied: status == BITVEC_OK;
     //@ assert a_still: \forall integer n; 0 <= n < MOST ==> (has{Here}(a, n) <==> has{Pre}(a, n));
     //@ assert in_other: \forall integer n; 0 <= n < MOST ==> (has{Here}((uint64_t *)other, n) <==> has{Pre}(b, n));
-#ifdef WRONG_1 /* the same operand twice */
+#ifdef WRONG_1 /* the same operand twice: symmetric_difference_assert_in_b */
     status = bitvec_c_and_not_u64(BITVEC_LSB0, other, WORDS, 0, BITVEC_LSB0, b, WORDS, 0, MOST);
 #else
     status = bitvec_c_and_not_u64(BITVEC_LSB0, other, WORDS, 0, BITVEC_LSB0, a, WORDS, 0, MOST);
@@ -44,7 +44,7 @@ void symmetric_difference(uint64_t *target, const uint64_t *a, const uint64_t *b
   @*/
 bool is_within(const uint64_t *a, const uint64_t *b) {
     bool subset = false;
-#ifdef WRONG_2 /* the last number is not looked at */
+#ifdef WRONG_2 /* the last number is not looked at: is_within_ensures */
     uint8_t status = bitvec_c_is_subset_u64(BITVEC_LSB0, a, WORDS, 0, BITVEC_LSB0, b, WORDS, 0, MOST - 1, &subset);
 #else
     uint8_t status = bitvec_c_is_subset_u64(BITVEC_LSB0, a, WORDS, 0, BITVEC_LSB0, b, WORDS, 0, MOST, &subset);

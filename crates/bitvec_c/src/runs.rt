@@ -10,7 +10,7 @@ use bitvec_call::run::{run_plain, test_spans};
 use bitvec_call::run_in::run_plain_in;
 use bitvec_call::sorted::test_spans_in;
 
-/// Tests the spans of a run for a memory of so many words: each lies in it, and no two have a bit
+/// Tests the spans of a run for a memory of this many words: each lies in it, and no two have a bit
 /// in common.
 ///
 /// In words of 8 bits. It refuses with `NO_ORDER`, `TOO_MANY_SPANS`, `TOO_LONG`, `OUTSIDE` or
