@@ -4,14 +4,14 @@
 //! of bytes or of words of 64 bits under any order, the second of bytes under `lsb0`, of words of
 //! 16 bits under `msb0`, or of words of 64 bits under either.
 
-use crate::answer::{Answer, Text};
-use crate::spans::span_at;
-use crate::values::{Value, named, place_value};
 use bits_text::names::{Call, under};
 use bitvec::mem::BitRegister;
 use bitvec::order::{BitOrder, Lsb0, Msb0};
 use bitvec::ptr::span::BitSpan;
 use bitvec_slice::slice::{BitSlice, BitSliceMut};
+use replay_lib::answer::{Answer, Text};
+use replay_lib::spans::span_at;
+use replay_lib::values::{Value, named, place_value};
 use std::alloc::Global;
 use std::cmp::Ordering;
 use std::marker::PhantomData;

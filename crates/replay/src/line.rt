@@ -3,7 +3,7 @@
 //! A line asks one public call: its kind, the words of the question, and the answer behind ` -> `.
 //! The answers of the Rust crate's own code came in older forms, and keep these.
 
-use crate::values::named;
+use replay_lib::values::named;
 use std::alloc::{AllocError, Global};
 
 /// What a line asks of.

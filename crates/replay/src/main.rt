@@ -7,28 +7,13 @@
 //! that lie in `data/`.
 #![tactic(auto)]
 
-mod answer;
 mod beside;
-mod candidates;
-mod combinations;
-mod copies;
-mod domains;
-mod index;
 mod line;
-mod memories;
 mod numbers;
-mod numerals;
-mod orders;
-mod pairs;
-mod pointers;
 mod program;
 mod question;
-mod registers;
 mod report;
 mod slices;
-mod spans;
-mod types;
-mod values;
 
 use report::Report;
 use std::env::{self, Env};

@@ -2,14 +2,14 @@
 //!
 //! A slice that does not lie in its memory is `none`.
 
-use crate::answer::Answer;
-use crate::spans::span_at;
-use crate::values::{Value, named};
 use bits_text::number::number;
 use bitvec::mem::BitRegister;
 use bitvec::order::{Lsb0, Msb0};
 use bitvec_slice::field::Sequential;
 use bitvec_slice::slice::{BitSlice, BitSliceMut};
+use replay_lib::answer::Answer;
+use replay_lib::spans::span_at;
+use replay_lib::values::{Value, named};
 
 mod signed;
 

@@ -1,7 +1,7 @@
 //! What the program `bits` prints, and the status that it ends with.
 
-use crate::answer::Answer;
 use bits_lib::answer;
+use replay_lib::answer::Answer;
 use std::alloc::{AllocError, Global};
 
 /// Writes the answer of the program `bits` to its arguments, and its status.

@@ -1,14 +1,15 @@
 //! A question to the library, for the register and the order that it names.
 
-use crate::answer::{Answer, Text};
 use crate::line::Topic;
-use crate::{
-    beside, candidates, combinations, copies, domains, index, memories, numbers, numerals, orders,
-    pairs, pointers, program, registers, slices, spans, types,
-};
+use crate::{beside, numbers, program, slices};
 use bits_text::names::{self, Call};
 use bitvec::mem::BitRegister;
 use bitvec::order::BitOrder;
+use replay_lib::answer::{Answer, Text};
+use replay_lib::{
+    candidates, combinations, copies, domains, index, memories, numerals, orders, pairs, pointers,
+    registers, spans, types,
+};
 use std::alloc::Global;
 
 /// The library's answer to a question of a kind, as text, or `None` where it has none.

@@ -2,13 +2,13 @@
 //!
 //! A slice that does not lie in its memory is `none`.
 
-use crate::answer::Answer;
-use crate::spans::span_at;
-use crate::values::{named, numbers};
 use bitvec::mem::BitRegister;
 use bitvec::order::BitOrder;
 use bitvec::ptr::span::BitSpan;
 use bitvec_slice::slice::{BitSlice, BitSliceMut};
+use replay_lib::answer::Answer;
+use replay_lib::spans::span_at;
+use replay_lib::values::{named, numbers};
 
 mod edits;
 mod pieces;

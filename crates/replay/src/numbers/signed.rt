@@ -1,10 +1,10 @@
 //! Questions of signed numbers in slices, and their answers in decimal.
 
 use crate::numbers::End;
-use crate::values::{Value, named};
 use bitvec::mem::BitRegister;
 use bitvec_slice::field::{Sequential, SignedNumber};
 use bitvec_slice::slice::{BitSlice, BitSliceMut};
+use replay_lib::values::{Value, named};
 
 const LOADS: [(&str, End); 2] = [
     ("load_signed_le", End::Little),

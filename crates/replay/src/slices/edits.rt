@@ -1,10 +1,10 @@
 //! What slices write.
 
-use crate::answer::Answer;
-use crate::values::{digit_value, named};
 use bitvec::mem::BitRegister;
 use bitvec::order::BitOrder;
 use bitvec_slice::slice::BitSliceMut;
+use replay_lib::answer::Answer;
+use replay_lib::values::{digit_value, named};
 
 // A move of all bits of a slice by a number.
 #[derive(Clone, Copy)]

@@ -1,11 +1,11 @@
 //! The pieces of slices.
 
-use crate::answer::Answer;
 use crate::slices::reads::{is_front, write_list};
-use crate::values::count_of;
 use bitvec::mem::BitRegister;
 use bitvec::order::BitOrder;
 use bitvec_slice::slice::{BitSlice, Chunks, ChunksExact, RChunks, Windows};
+use replay_lib::answer::Answer;
+use replay_lib::values::count_of;
 
 // A way to cut a slice into pieces of a length.
 #[derive(Clone, Copy)]

@@ -1,11 +1,11 @@
 //! What slices read.
 
-use crate::answer::Answer;
 use crate::slices::texts;
-use crate::values::{Value, bit_value, count_of, place_value};
 use bitvec::mem::BitRegister;
 use bitvec::order::BitOrder;
 use bitvec_slice::slice::{BitSlice, Iter, IterOnes, IterZeros};
+use replay_lib::answer::Answer;
+use replay_lib::values::{Value, bit_value, count_of, place_value};
 
 // What is asked of a slice, to which a value is the answer.
 #[derive(Clone, Copy)]

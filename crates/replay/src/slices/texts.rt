@@ -1,9 +1,9 @@
 //! Slices as texts.
 
-use crate::answer::Answer;
 use bitvec::mem::BitRegister;
 use bitvec::order::BitOrder;
 use bitvec_slice::slice::{BitSlice, BitSliceMut, TextError};
+use replay_lib::answer::Answer;
 use std::fmt::{self, Display, Write as _};
 
 // A slice as its `Binary` shows it, since a format takes that of numbers alone.

@@ -3,7 +3,7 @@ use Rattle.std.specs.Prelude.{FitsSigned}
 use Rattle.std.specs.Int.{w64}
 use Rattle.std.proofs.lemmas.Int.{ints}
 use Rattle.bitvec_ptr.proofs.StepLemmas.{wide_word_fits, wide_product_fits, wide_sum_fits}
-use Rattle.replay.proofs.pointers.place_of.Goals as goal
+use Rattle.replay_lib.proofs.pointers.place_of.Goals as goal
 
 pub overflow_cast-result : goal.overflow_cast-result
 overflow_cast-result g c =
