@@ -10,6 +10,7 @@ use crate::register::Register;
 use crate::slice::{granted, load_bits, to_boundary};
 use crate::slice_mut::BitSliceMut;
 use crate::words::whole;
+use core::any::type_name;
 use core::ops::RangeBounds;
 
 /// Copies so many bits from one place to another, of two memories: words that are whole in both as
@@ -31,6 +32,22 @@ fn copy<T: Register, O: Order>(
         }
     }
     Ok(())
+}
+
+/// Panics: which number was to stand in how many bits, why it does not, and what to call instead.
+#[cold]
+#[track_caller]
+fn not_stored<N: Number>(call: &str, end: &str, number: N, len: usize, why: Refusal) -> ! {
+    let kind = type_name::<N>();
+    let sign = if N::HAS_SIGN {
+        ", the sign's among them"
+    } else {
+        ""
+    };
+    panic!(
+        "{call} {number:?}_{kind} in {len} bits{sign}: {why} (`try_store_{end}` answers that, and \
+         `{call}_wrapping` puts the lowest digits)"
+    )
 }
 
 crate::refusal::or_panics! {
@@ -285,13 +302,13 @@ impl<T: Register, O: Order> BitSliceMut<'_, T, O> {
         }
     }
 
-    /// Makes the bits the lowest digits of a number, as many as there are bits, so that
-    /// [`load_le`](Self::load_le) gives these back. Constant time.
+    /// Makes the bits the digits of a number, those of the first word lowest, so that
+    /// [`load_le`](Self::load_le) gives it back. Constant time.
     ///
     /// # Panics
     ///
-    /// Panics where there are more than 64 bits; [`try_store_le`](Self::try_store_le) does not. No
-    /// bit is changed then.
+    /// Panics, with the number and the length, where [`try_store_le`](Self::try_store_le) is
+    /// refused: where the number does not fit. No bit is changed then.
     ///
     /// # Examples
     ///
@@ -302,21 +319,25 @@ impl<T: Register, O: Order> BitSliceMut<'_, T, O> {
     /// words.view_bits_mut::<Lsb0>().get_mut(4..12).unwrap().store_le(0x23);
     /// assert_eq!(words, [0x30, 0x02]);
     /// ```
+    ///
+    /// ```should_panic
+    /// worghulen::bitvec![0; 8].store_le(0x123);
+    /// ```
     #[inline]
     #[track_caller]
     pub fn store_le<N: Number>(&mut self, number: N) {
         if let Err(why) = self.try_store_le(number) {
-            refused("store_le", &(), self.len(), why);
+            not_stored("store_le", "le", number, self.len(), why);
         }
     }
 
-    /// Makes the bits the lowest digits of a number, as many as there are bits, so that
-    /// [`load_be`](Self::load_be) gives these back. Constant time.
+    /// Makes the bits the digits of a number, those of the first word highest, so that
+    /// [`load_be`](Self::load_be) gives it back. Constant time.
     ///
     /// # Panics
     ///
-    /// Panics where there are more than 64 bits; [`try_store_be`](Self::try_store_be) does not. No
-    /// bit is changed then.
+    /// Panics, with the number and the length, where [`try_store_be`](Self::try_store_be) is
+    /// refused: where the number does not fit. No bit is changed then.
     ///
     /// # Examples
     ///
@@ -331,7 +352,7 @@ impl<T: Register, O: Order> BitSliceMut<'_, T, O> {
     #[track_caller]
     pub fn store_be<N: Number>(&mut self, number: N) {
         if let Err(why) = self.try_store_be(number) {
-            refused("store_be", &(), self.len(), why);
+            not_stored("store_be", "be", number, self.len(), why);
         }
     }
 
@@ -353,12 +374,12 @@ impl<T: Register, O: Order> BitSliceMut<'_, T, O> {
     #[inline]
     #[track_caller]
     pub fn store<N: Number>(&mut self, number: N) {
-        self.store_le(number);
+        if let Err(why) = self.try_store_le(number) {
+            not_stored("store", "le", number, self.len(), why);
+        }
     }
 
-    /// As [`store`](Self::store), by a name that says what becomes of a number of more digits than
-    /// there are bits: those above are dropped, by each call that stores. A
-    /// [`BitWriter`](crate::BitWriter) refuses such a number. Constant time.
+    /// As [`store_le_wrapping`](Self::store_le_wrapping), on every machine. Constant time.
     ///
     /// # Panics
     ///
@@ -376,57 +397,134 @@ impl<T: Register, O: Order> BitSliceMut<'_, T, O> {
     #[inline]
     #[track_caller]
     pub fn store_wrapping<N: Number>(&mut self, number: N) {
-        self.store_le(number);
+        self.put_lowest("store_wrapping", false, number);
     }
 
-    /// Makes the bits the lowest digits of a number, as many as there are bits, so that
-    /// [`load_le`](Self::load_le) gives these back. Constant time.
+    /// As [`store_le`](Self::store_le) of the number's lowest digits, as many as there are bits: the
+    /// digits above these are dropped. Where the type has fewer digits than there are bits, those
+    /// above are 0, or of a negative number 1. Constant time.
     ///
-    /// # Errors
+    /// # Panics
     ///
-    /// [`Refusal::TooWide`] where there are more than 64 bits.
+    /// Panics where there are more than 64 bits. No bit is changed then.
     ///
     /// # Examples
     ///
     /// ```
-    /// use worghulen::{BitSliceMut, Lsb0};
+    /// use worghulen::{BitView, Lsb0};
     ///
     /// let mut words = [0_u8; 2];
-    /// BitSliceMut::<_, Lsb0>::new(&mut words, 4..12)?.try_store_le(0x123)?;
+    /// words.view_bits_mut::<Lsb0>().get_mut(4..12).unwrap().store_le_wrapping(0x123);
     /// assert_eq!(words, [0x30, 0x02]);
+    /// ```
+    #[inline]
+    #[track_caller]
+    pub fn store_le_wrapping<N: Number>(&mut self, number: N) {
+        self.put_lowest("store_le_wrapping", false, number);
+    }
+
+    /// As [`store_be`](Self::store_be) of the number's lowest digits, as many as there are bits: the
+    /// digits above these are dropped. Where the type has fewer digits than there are bits, those
+    /// above are 0, or of a negative number 1. Constant time.
+    ///
+    /// # Panics
+    ///
+    /// Panics where there are more than 64 bits. No bit is changed then.
+    ///
+    /// # Examples
+    ///
+    /// ```
+    /// use worghulen::{BitView, Msb0};
+    ///
+    /// let mut words = [0_u8; 2];
+    /// words.view_bits_mut::<Msb0>().get_mut(4..12).unwrap().store_be_wrapping(0x123);
+    /// assert_eq!(words, [0x02, 0x30]);
+    /// words.view_bits_mut::<Msb0>().store_be_wrapping(-2_i8);
+    /// assert_eq!(words, [0xff, 0xfe]);
+    /// ```
+    #[inline]
+    #[track_caller]
+    pub fn store_be_wrapping<N: Number>(&mut self, number: N) {
+        self.put_lowest("store_be_wrapping", true, number);
+    }
+
+    /// Makes the bits the digits of a number, those of the first word lowest, so that
+    /// [`load_le`](Self::load_le) gives it back. Constant time.
+    ///
+    /// It is refused where [`write_le`](crate::BitWriter::write_le) of as many bits is. A signed
+    /// number is in two's complement of as many digits as there are bits: 255 fits into 8 bits as a
+    /// `u8` and not as an `i32`, which a number with no type is.
+    ///
+    /// # Errors
+    ///
+    /// [`Refusal::TooWide`] where there are more bits than the number's type has, and otherwise
+    /// [`Refusal::TooLarge`] where the number has more digits than there are bits: of no bits, where
+    /// it is not 0.
+    ///
+    /// # Examples
+    ///
+    /// ```
+    /// use worghulen::{BitSliceMut, Lsb0, Refusal};
+    ///
+    /// let mut words = [0_u8; 2];
+    /// let mut bits = BitSliceMut::<_, Lsb0>::new(&mut words, 4..12)?;
+    /// bits.try_store_le(0x23)?;
+    /// assert_eq!(bits.try_store_le(0x123), Err(Refusal::TooLarge));
     /// BitSliceMut::<_, Lsb0>::new(&mut words, 0..4)?.try_store_le(-2_i8)?;
     /// assert_eq!(words, [0x3e, 0x02]);
-    /// # Ok::<(), worghulen::Refusal>(())
+    /// let refused = BitSliceMut::<_, Lsb0>::new(&mut words, ..)?.try_store_le(1_u8);
+    /// assert_eq!(refused, Err(Refusal::TooWide));
+    /// # Ok::<(), Refusal>(())
     /// ```
     #[inline]
     pub fn try_store_le<N: Number>(&mut self, number: N) -> Result<(), Refusal> {
-        let len = self.len();
-        let (words, start) = self.place_mut();
-        number.store(O::CODE, false, words, start, len)
+        self.put(false, number)
     }
 
-    /// Makes the bits the lowest digits of a number, as many as there are bits, so that
-    /// [`load_be`](Self::load_be) gives these back. Constant time.
+    /// Makes the bits the digits of a number, those of the first word highest, so that
+    /// [`load_be`](Self::load_be) gives it back. Constant time.
+    ///
+    /// It is refused where [`write_be`](crate::BitWriter::write_be) of as many bits is.
     ///
     /// # Errors
     ///
-    /// [`Refusal::TooWide`] where there are more than 64 bits.
+    /// As [`try_store_le`](Self::try_store_le).
     ///
     /// # Examples
     ///
     /// ```
-    /// use worghulen::{BitSliceMut, Msb0};
+    /// use worghulen::{BitSliceMut, Msb0, Refusal};
     ///
     /// let mut words = [0_u8; 2];
-    /// BitSliceMut::<_, Msb0>::new(&mut words, 4..12)?.try_store_be(0x123_u16)?;
+    /// let mut bits = BitSliceMut::<_, Msb0>::new(&mut words, 4..12)?;
+    /// bits.try_store_be(0x23_u16)?;
+    /// assert_eq!(bits.try_store_be(0x123_u16), Err(Refusal::TooLarge));
     /// assert_eq!(words, [0x02, 0x30]);
-    /// # Ok::<(), worghulen::Refusal>(())
+    /// # Ok::<(), Refusal>(())
     /// ```
     #[inline]
     pub fn try_store_be<N: Number>(&mut self, number: N) -> Result<(), Refusal> {
+        self.put(true, number)
+    }
+
+    #[inline]
+    fn put<N: Number>(&mut self, big: bool, number: N) -> Result<(), Refusal> {
+        let len = self.len();
+        let digits = number.fitting(len)?;
+        let (words, start) = self.place_mut();
+        T::store(O::CODE, big, words, start, len, digits)
+    }
+
+    #[inline]
+    #[track_caller]
+    fn put_lowest<N: Number>(&mut self, call: &str, big: bool, number: N) {
         let len = self.len();
         let (words, start) = self.place_mut();
-        number.store(O::CODE, true, words, start, len)
+        let stored = number.store(O::CODE, big, words, start, len);
+        assert!(
+            stored.is_ok(),
+            "{call} {number:?} in {len} bits: these are more than 64 (`part_mut` lends fewer)"
+        );
     }
 
     /// Makes the bits the same as those of another slice, of any words and order. Costs by words

@@ -2,6 +2,7 @@
 
 use crate::refusal::Refusal;
 use crate::sys::Exports;
+use core::fmt::Debug;
 
 /// A number of at most 64 bits: `u8` to `u64`, `usize`, `i8` to `i64`, `isize`, and no other.
 ///
@@ -26,7 +27,7 @@ use crate::sys::Exports;
     label = "a number is a `u8` to `u64`, a `usize`, an `i8` to `i64` or an `isize`",
     note = "a wider one is two: `split_at(64)`, and `load_be::<u64>()` of both"
 )]
-pub trait Number: digits::Digits + Copy {}
+pub trait Number: digits::Digits + Copy + Debug {}
 
 pub(crate) mod digits {
     use crate::refusal::Refusal;
@@ -44,8 +45,18 @@ pub(crate) mod digits {
         /// The number of so many digits, at most 64, where those above them are zero.
         fn of_digits(digits: u64, count: usize) -> Self;
 
-        /// Its lowest digits, so many, at most its width, where it is the number of these.
+        /// Its lowest digits, `count` of them and at most its width, where it is the number of these.
         fn digits(self, count: usize) -> Option<u64>;
+
+        /// Its lowest digits, `count` of them, where a number of its type has as many and it has no
+        /// more.
+        #[inline]
+        fn fitting(self, count: usize) -> Result<u64, Refusal> {
+            if count > Self::WIDTH {
+                return Err(Refusal::TooWide);
+            }
+            self.digits(count).ok_or(Refusal::TooLarge)
+        }
 
         /// The number, of more digits.
         #[cfg(feature = "std")]

@@ -367,6 +367,12 @@ macro_rules! edits {
             store_wrapping(number: impl Number) -> () =>
                 "bits.store_wrapping(0x12b);"
                 "assert_eq!(bits.load::<u8>(), 0x2b);";
+            store_le_wrapping(number: impl Number) -> () =>
+                "bits.store_le_wrapping(0x12b);"
+                "assert_eq!(bits.load_le::<u8>(), 0x2b);";
+            store_be_wrapping(number: impl Number) -> () =>
+                "bits.store_be_wrapping(0x12b);"
+                "assert_eq!(bits.load_be::<u8>(), 0x2b);";
             copy_from_bitslice(source: impl AsBitSlice) -> () =>
                 "bits.copy_from_bitslice(bits![1; 8]);"
                 "assert!(bits.all());";

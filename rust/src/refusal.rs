@@ -46,7 +46,7 @@ pub enum Refusal {
     /// code does.
     TooFew,
     /// The number of a code has more digits than its type, or a number more than the bits that it is
-    /// to be written in.
+    /// to be stored or written in.
     TooLarge,
     /// A range starts past its end.
     Reversed,

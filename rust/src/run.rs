@@ -18,8 +18,7 @@ const AT_ONCE: usize = 64;
 /// A command to one span.
 ///
 /// A `k` counts the words that the span meets, from 0 on; a bit is named by its place in the span,
-/// from 0 on. The digits of a number that are past a word's width are dropped. Which commands are
-/// refused, [`Reply::PastEnd`] says.
+/// from 0 on. Which commands are refused, [`Reply::PastEnd`] says.
 ///
 /// # Examples
 ///
@@ -40,7 +39,8 @@ pub enum Command {
     /// zero.
     Load(usize),
     /// Puts the digits of the number in the places of the span's bits in its word `k`, and returns
-    /// as `Load` did before.
+    /// as `Load` did before. The number is a word, and no value that has to fit: a digit where the
+    /// span has no bit, or past the word's width, goes nowhere.
     Store(usize, u64),
     /// Makes the span's bits in its word `k` one, and returns as `Load` did before.
     Set(usize),

@@ -145,8 +145,8 @@ impl<'a, T: Register, O: Order> BitSliceMut<'a, T, O> {
     ///
     /// let mut word = 0_u16;
     /// let mut bits = word.view_bits_mut::<Msb0>();
-    /// bits.part_mut(..4)?.store_be(0x7);
-    /// bits.part_mut(12..)?.store_be(0x9);
+    /// bits.part_mut(..4)?.store_be(0x7_u8);
+    /// bits.part_mut(12..)?.store_be(0x9_u8);
     /// assert_eq!(word, 0x7009);
     /// # Ok::<(), worghulen::Refusal>(())
     /// ```

@@ -30,7 +30,7 @@ mod cases {
     use std::cmp::Ordering;
     use std::hash::{DefaultHasher, Hash, Hasher};
     use std::ops::Range;
-    use worghulen::{BitRef, BitSlice, BitSliceMut, Lsb0, Msb0, Number, Refusal};
+    use worghulen::{BitRef, BitSlice, BitSliceMut, BitWriter, Lsb0, Msb0, Number, Refusal};
 
     /// A range that lies among `len` bits.
     fn inner(random: &mut Random, len: usize) -> Range<usize> {
@@ -626,6 +626,32 @@ mod cases {
         assert_eq!(bits_of::<T, O>(&words), model);
     }
 
+    /// A number is loaded as it was stored, or refused as a writer of as many bits refuses it, and then
+    /// no bit is changed.
+    fn is_refused_as_written<T: Word, O: Layout, N: Number + Eq>(
+        mut bits: BitSliceMut<T, O>,
+        big: bool,
+        number: N,
+    ) {
+        let (count, before) = (bits.len(), list(bits.as_bitslice()));
+        let (stored, loaded) = if big {
+            (bits.try_store_be(number), bits.try_load_be())
+        } else {
+            (bits.try_store_le(number), bits.try_load_le())
+        };
+        match stored {
+            Ok(()) => assert_eq!(loaded, Ok(number)),
+            Err(_) => assert_eq!(list(bits.as_bitslice()), before),
+        }
+        let mut writer = BitWriter::new(bits);
+        let written = if big {
+            writer.write_be(count, number)
+        } else {
+            writer.write_le(count, number)
+        };
+        assert_eq!(stored, written);
+    }
+
     /// Asks of one type of numbers what `u64` says.
     fn number<T: Word, O: Layout, N: Number + Eq + std::fmt::Debug + TryFrom<i128>>(
         random: &mut Random,
@@ -665,13 +691,33 @@ mod cases {
         };
         assert_eq!((stored, list(bits.as_bitslice())), (Ok(()), before));
         let (wide, above) = (random.number(), 64 - count);
-        bits.store_wrapping(wide);
+        if big {
+            bits.store_be_wrapping(wide);
+        } else if random.bit() {
+            bits.store_le_wrapping(wide);
+        } else {
+            bits.store_wrapping(wide);
+        }
         let kept = if count == 0 {
             0
         } else {
             wide << above >> above
         };
-        assert_eq!(bits.load::<u64>(), kept);
+        let loaded = if big {
+            bits.load_be::<u64>()
+        } else {
+            bits.load_le()
+        };
+        assert_eq!(loaded, kept);
+        let few = random.below(64);
+        let some = if signed {
+            i128::from(wide.cast_signed() >> few)
+        } else {
+            i128::from(wide >> few)
+        };
+        if let Ok(some) = N::try_from(some) {
+            is_refused_as_written(bits, big, some);
+        }
     }
 
     pub fn numbers_have_types<T: Word, O: Layout>(random: &mut Random) {

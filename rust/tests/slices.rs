@@ -129,7 +129,8 @@ mod cases {
     fn stores<T: Word, O: Layout>(random: &mut Random, big: bool) {
         let mut words = random.words::<T>();
         let mut model = bits_of::<T, O>(&words);
-        let (range, number) = (random.short_range(model.len()), random.number());
+        let range = random.short_range(model.len());
+        let number = random.number() >> random.below(64);
         let answer = BitSliceMut::<T, O>::new(&mut words, range.clone()).and_then(|mut bits| {
             if big {
                 bits.try_store_be(number)
@@ -137,9 +138,13 @@ mod cases {
                 bits.try_store_le(number)
             }
         });
-        let expected = checked_number(&range, model.len()).map(|range| {
+        let expected = checked_number(&range, model.len()).and_then(|range| {
+            if u128::from(number) >> range.len() != 0 {
+                return Err(Refusal::TooLarge);
+            }
             let places = by_digit::<T, O>(range, big).into_iter().enumerate();
             places.for_each(|(digit, place)| model[place] = number >> digit & 1 == 1);
+            Ok(())
         });
         assert_eq!(answer, expected);
         assert_eq!(bits_of::<T, O>(&words), model);

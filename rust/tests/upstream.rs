@@ -933,8 +933,56 @@ mod fields {
     #[test]
     fn store_drops_high_digits() {
         let mut bits = bitvec![0; 4];
-        bits.store_le(0xf5_u8);
+        bits.store_le_wrapping(0xf5_u8);
         assert_eq!(bits.load_le::<u8>(), 5);
+        bits.store_be_wrapping(-3_i64);
+        assert_eq!(bits.load_be::<i8>(), -3);
+        bits.store_wrapping(0x17_u16);
+        assert_eq!(bits.load::<u8>(), 7);
+        // (there `store_le`, `store_be` and `store` drop them too; here no call does without that word)
+        assert_eq!(bits.try_store_le(0xf5_u8), Err(Refusal::TooLarge));
+        assert_eq!(bits.try_store_be(8), Err(Refusal::TooLarge));
+        assert_eq!(bits.load::<u8>(), 7);
+    }
+
+    #[test]
+    #[should_panic(expected = "store_le 245_u8 in 4 bits: a number has too many digits \
+        (`try_store_le` answers that, and `store_le_wrapping` puts the lowest digits)")]
+    fn store_le_of_too_many_digits() {
+        bitvec![0; 4].store_le(0xf5_u8);
+    }
+
+    #[test]
+    #[should_panic(
+        expected = "store_be 8_i32 in 4 bits, the sign's among them: a number has too many digits (`try_store_be`"
+    )]
+    fn store_be_of_too_many_digits() {
+        bitvec![0; 4].store_be(8);
+    }
+
+    #[test]
+    #[should_panic(
+        expected = "store -1_i8 in 0 bits, the sign's among them: a number has too many digits (`try_store_le`"
+    )]
+    fn store_in_no_bits() {
+        // (there a panic, of 0 too)
+        let mut bits = bitvec![0; 0];
+        bits.store(0);
+        bits.store(-1_i8);
+    }
+
+    #[test]
+    #[should_panic(
+        expected = "store_be 1_u8 in 9 bits: a number is to have more bits than its type"
+    )]
+    fn store_in_more_bits_than_the_type_has() {
+        bitvec![0; 9].store_be(1_u8);
+    }
+
+    #[test]
+    #[should_panic(expected = "store_wrapping 1 in 65 bits: these are more than 64")]
+    fn store_wrapping_in_more_than_64_bits() {
+        bitvec![0; 65].store_wrapping(1_u64);
     }
 
     #[test]
