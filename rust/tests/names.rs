@@ -1,6 +1,6 @@
-//! The page "From `bitvec` to `worghulen`" (`rust/FROM_BITVEC.md`) names what is there: each name in
-//! its second column is one that `rust/src` declares, and where there is none, it has a reason. Each
-//! call that is public has an example.
+//! The page for programs in Rust (`docs/RUST.md`) names what is there: each method of the crate
+//! `bitvec` that it says is here, by the same name or another, is one that `rust/src` declares, and
+//! each of which it says that there is none is not. Each call that is public has an example.
 
 use std::collections::BTreeSet;
 use std::fs;
@@ -127,64 +127,82 @@ fn each_public_call_has_an_example() {
     assert_eq!(entries.matches("=>\n                \"").count(), 55 + 31);
 }
 
-/// The parts of a line of a table.
-fn cells(line: &str) -> Vec<String> {
-    let line = line.replace("\\|", "\u{1}");
-    let inside = line.trim_matches('|').split('|');
-    inside
-        .map(|cell| cell.trim().replace('\u{1}', "|"))
-        .collect()
+/// What stands in backticks.
+fn quoted(text: &str) -> impl Iterator<Item = &str> {
+    text.split('`').skip(1).step_by(2)
 }
 
-/// What stands in backticks.
-fn quoted(cell: &str) -> impl Iterator<Item = &str> {
-    cell.split('`').skip(1).step_by(2)
+/// The lines of a page under a heading of the third rank.
+fn under<'a>(page: &'a str, heading: &str) -> impl Iterator<Item = &'a str> {
+    let behind = page.split_once(&format!("\n### {heading}\n"));
+    let lines = behind.expect("a heading").1.lines();
+    lines.take_while(|line| !line.starts_with('#'))
+}
+
+/// What the items of a list name, each behind the last colon of its own, with what stands before it.
+fn listed<'a>(page: &'a str, heading: &str) -> Vec<(&'a str, &'a str)> {
+    let items = under(page, heading).filter_map(|line| line.strip_prefix("- ")?.rsplit_once(": "));
+    let names = items.flat_map(|(item, names)| quoted(names).map(move |name| (item, name)));
+    let names: Vec<_> = names.collect();
+    let apart = names.iter().collect::<BTreeSet<_>>();
+    assert_eq!(apart.len(), names.len(), "a name is there twice: {names:?}");
+    names
 }
 
 #[test]
 fn each_name_of_the_page_is_there() {
-    let (page, declared) = (read("rust/FROM_BITVEC.md"), declared());
-    assert!(
-        declared.contains("set")
-            && declared.contains("bitvec")
-            && !declared.contains("set_unchecked")
+    let (page, declared) = (read("docs/RUST.md"), declared());
+    assert!(declared.contains("set") && !declared.contains("set_unchecked"));
+    // (what is declared of these traits of std has another name)
+    let has = |name: &str| declared.contains(name) || ["Hash", "collect"].contains(&name);
+    let (same, twins) = (
+        listed(&page, "Of the same name"),
+        listed(&page, "Of the same name, with a twin"),
     );
-    let reasons: BTreeSet<&str> = page
-        .lines()
-        .filter_map(|line| line.strip_prefix("- **")?.split("**").next())
+    let none = listed(&page, "Of none");
+    for name in same.iter().chain(&twins).flat_map(|it| words(it.1)) {
+        assert!(has(name), "there is no {name}");
+    }
+    for (_, name) in &twins {
+        assert!(has(&format!("try_{name}")), "{name} has no twin");
+    }
+    for (_, name) in &none {
+        assert!(!has(name), "there is a {name}");
+    }
+    let table = under(&page, "Of another name or meaning");
+    let rows: Vec<&str> = table
+        .skip_while(|line| !line.starts_with("---"))
+        .skip(1)
         .collect();
-    let (mut seen, mut given, mut rows) = (BTreeSet::new(), BTreeSet::new(), 0);
-    let mut part = String::new();
-    for line in page.lines() {
-        if let Some(title) = line.strip_prefix("## ") {
-            title.clone_into(&mut part);
-        }
-        if part.is_empty() || !line.starts_with("| `") {
-            continue;
-        }
-        let cells = cells(line);
-        assert_eq!(cells.len(), 3, "three columns: {line}");
-        assert!(
-            seen.insert((part.clone(), cells[0].clone())),
-            "a second time: {line}"
-        );
-        rows += 1;
-        let names: Vec<&str> = quoted(&cells[1]).flat_map(words).collect();
-        if names.is_empty() {
-            let reason = reasons.get(cells[1].as_str());
-            given.insert(*reason.unwrap_or_else(|| panic!("a name or a reason: {line}")));
-        }
-        for name in names {
-            assert!(declared.contains(name), "there is no {name}: {line}");
+    let rows: Vec<&str> = rows
+        .into_iter()
+        .take_while(|line| !line.is_empty())
+        .collect();
+    for row in &rows {
+        let cells: Vec<&str> = row.split(" |").collect();
+        assert_eq!(cells.len(), 3, "three columns: {row}");
+        for name in quoted(cells[1]).flat_map(words) {
+            assert!(has(name), "there is no {name}: {row}");
         }
     }
-    assert_eq!(given, reasons, "each reason is given for something");
-    assert!(rows >= 150, "{rows} rows");
+    let apart: BTreeSet<_> = rows
+        .iter()
+        .filter_map(|row| row.split(" |").next())
+        .collect();
+    assert_eq!(apart.len(), rows.len(), "a row is there twice");
+    let counts = [same.len(), twins.len(), rows.len(), none.len()];
+    assert!(
+        counts
+            .iter()
+            .zip([95, 25, 30, 60])
+            .all(|(count, least)| *count > least),
+        "{counts:?}"
+    );
 }
 
 #[test]
 fn each_name_of_the_prelude_is_told() {
-    let page = read("rust/FROM_BITVEC.md");
+    let page = read("docs/RUST.md");
     let told: BTreeSet<&str> = words(&page).collect();
     let prelude = read("rust/src/prelude.rs");
     let names = prelude
