@@ -38,7 +38,7 @@ fn codes(counts: &BTreeMap<char, usize>) -> BTreeMap<char, Code> {
     codes
 }
 
-/// For each number of so many bits the letter whose code they begin with, and how long that is.
+/// For each number of `width` bits the letter whose code they begin with, and how long that is.
 fn table(codes: &BTreeMap<char, Code>, width: usize) -> Vec<(char, usize)> {
     let mut table = vec![('?', 0); 1 << width];
     for (letter, code) in codes {

@@ -14,7 +14,7 @@ use crate::words::whole;
 use core::cmp::Ordering;
 use core::hash::{Hash, Hasher};
 
-/// Whether so many bits from two places on are the same: words that are whole in both as std's
+/// Whether `len` bits from two places on are the same: words that are whole in both as std's
 /// slices compare them, and what stands before and behind these by calls of the library.
 fn equal<T: Register, O: Order>(one: (&[T], usize), other: (&[T], usize), len: usize) -> bool {
     let ((words, start), (others, from)) = (one, other);

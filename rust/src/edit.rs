@@ -13,7 +13,7 @@ use crate::words::whole;
 use core::any::type_name;
 use core::ops::RangeBounds;
 
-/// Copies so many bits from one place to another, of two memories: words that are whole in both as
+/// Copies `len` bits from one place to another, of two memories: words that are whole in both as
 /// std's slices copy them, and what stands before and behind these by calls of the library.
 fn copy<T: Register, O: Order>(
     (source, from): (&[T], usize),

@@ -35,7 +35,7 @@ pub struct FreeMap<'a, O: Order = Lsb0>(Proved<'a, O>);
 type Proved<'a, O> = freemap::FreeMap<'a, <O as Code>::In<u64>>;
 
 impl<'a, O: Order> FreeMap<'a, O> {
-    /// How many words a map of so many blocks takes: one for each 64. Constant time.
+    /// How many words a map of `blocks` blocks takes, with a bit for each block. Constant time.
     ///
     /// # Examples
     ///
@@ -49,7 +49,7 @@ impl<'a, O: Order> FreeMap<'a, O> {
         freemap::map::words_for(blocks)
     }
 
-    /// A map of that many blocks, which are all free. Costs by words.
+    /// A map of `blocks` blocks that are all free. Costs by words.
     ///
     /// # Errors
     ///
@@ -73,7 +73,7 @@ impl<'a, O: Order> FreeMap<'a, O> {
             .map_err(|_| Refusal::Outside { index: blocks, len })
     }
 
-    /// The map of so many blocks that words have, as they were stored. Constant time.
+    /// The map of `blocks` blocks that words have, as they were stored. Constant time.
     ///
     /// # Errors
     ///
@@ -109,7 +109,7 @@ impl<'a, O: Order> FreeMap<'a, O> {
         self.0.blocks()
     }
 
-    /// Whether there are that many blocks from one on, and each is in use. Costs by words.
+    /// Whether there are `count` blocks from block `at` on, and each is in use. Costs by words.
     ///
     /// # Examples
     ///
@@ -126,7 +126,7 @@ impl<'a, O: Order> FreeMap<'a, O> {
         self.0.is_in_use(at, count)
     }
 
-    /// Whether there are that many blocks from one on, and each is free. Costs by words.
+    /// Whether there are `count` blocks from block `at` on, and each is free. Costs by words.
     ///
     /// # Examples
     ///
@@ -189,8 +189,8 @@ impl<'a, O: Order> FreeMap<'a, O> {
         self.0.alloc_at_or_after(block)
     }
 
-    /// Hands out so many blocks in a row, the first that are all free, and returns the first of
-    /// them; `None` where there are none. No blocks are found at 0. Costs by words for at most 64,
+    /// Hands out `count` blocks in a row, the first such that are all free, and returns the first of
+    /// them. `None` where there are none; no blocks are found at 0. Costs by words for at most 64,
     /// else by bits.
     ///
     /// # Examples
@@ -222,8 +222,8 @@ impl<'a, O: Order> FreeMap<'a, O> {
         self.0.alloc_run_aligned(count, alignment.max(1))
     }
 
-    /// Takes so many blocks from one on where each is free, and returns whether it did. Costs by
-    /// words.
+    /// Puts `count` blocks from block `at` on in use, and returns whether it did: where each is free.
+    /// Costs by words.
     ///
     /// # Examples
     ///
@@ -239,7 +239,8 @@ impl<'a, O: Order> FreeMap<'a, O> {
         self.0.reserve(at, count)
     }
 
-    /// Takes so many blocks back, from one on. Costs by words.
+    /// Takes `count` blocks back, from block `at` on, and leaves every other block as it is. Costs by
+    /// words.
     ///
     /// # Panics
     ///

@@ -126,7 +126,7 @@ impl<R: Read, O: Order> IoReader<R, O> {
         self.input
     }
 
-    /// Takes bytes until so many bits are held, at most 64.
+    /// Takes bytes until `count` bits are held, at most 64.
     #[inline]
     fn hold(&mut self, count: usize) -> Result<()> {
         while self.held < count {
@@ -135,7 +135,7 @@ impl<R: Read, O: Order> IoReader<R, O> {
         Ok(())
     }
 
-    /// Takes so many bytes at most, of 8 at most, and one at least.
+    /// Takes `bytes` bytes or fewer, at most 8 and at least one.
     fn take(&mut self, bytes: usize) -> Result<()> {
         let mut taken = [0; 8];
         let len = loop {
@@ -156,7 +156,7 @@ impl<R: Read, O: Order> IoReader<R, O> {
         Ok(())
     }
 
-    /// The digits of the next so many bits, at most 64, as a number has them.
+    /// The digits of the next `count` bits, at most 64, as a number has them.
     #[inline]
     fn digits(&mut self, big: bool, count: usize) -> Result<u64> {
         self.hold(count)?;
@@ -176,7 +176,7 @@ impl<R: Read, O: Order> IoReader<R, O> {
         })
     }
 
-    /// Drops so many bits that are held.
+    /// Drops `count` bits that are held.
     #[inline]
     fn pass(&mut self, count: usize) {
         self.position += count as u64;
@@ -308,7 +308,7 @@ impl<R: Read, O: Order> IoReader<R, O> {
         Ok(bit)
     }
 
-    /// Passes over so many bits. Costs by words of 64.
+    /// Passes over `count` bits. Costs by words of 64.
     ///
     /// # Errors
     ///
@@ -601,7 +601,7 @@ impl<W: Write, O: Order> IoWriter<W, O> {
         }
     }
 
-    /// Writes so many digits, at most 64, where those above them are zero, by the order.
+    /// Writes `count` digits, at most 64, where those above them are zero, by the order.
     #[inline]
     fn put(&mut self, big: bool, digits: u64, count: usize) -> Result<()> {
         if count == 0 {
@@ -763,7 +763,7 @@ impl<W: Write, O: Order> IoWriter<W, O> {
         self.write_bit(!bit)
     }
 
-    /// Writes so many bits that are the same.
+    /// Writes `count` bits that are `bit`.
     fn fill(&mut self, bit: bool, count: u64) -> Result<()> {
         let mut left = count;
         while left > 0 {

@@ -208,7 +208,7 @@ fn before<T: Register, O: Order>(bits: &BitSlice<'_, T, O>) -> usize {
 /// As many words as are read in one call where every bit is to be seen.
 const BLOCK: usize = 16;
 
-/// So many words in a row that have a bit which is looked for are read one by one before more are
+/// How many words in a row that have a bit which is looked for are read one by one, before more are
 /// read in one call.
 const FEW: usize = 4;
 

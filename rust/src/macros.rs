@@ -129,7 +129,7 @@ macro_rules! bitarr {
     };
 }
 
-/// The type of a [`BitArray`](crate::BitArray) that has so many bits at least.
+/// The type of a [`BitArray`](crate::BitArray) of as many words as a number of bits takes.
 ///
 /// # Examples
 ///

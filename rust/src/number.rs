@@ -42,7 +42,7 @@ pub(crate) mod digits {
         /// Whether some are less than 0.
         const HAS_SIGN: bool;
 
-        /// The number of so many digits, at most 64, where those above them are zero.
+        /// The number of `count` digits, at most 64, where those above them are zero.
         fn of_digits(digits: u64, count: usize) -> Self;
 
         /// Its lowest digits, `count` of them and at most its width, where it is the number of these.
@@ -66,7 +66,7 @@ pub(crate) mod digits {
         #[cfg(feature = "std")]
         fn of_wide(number: i128) -> Result<Self, Refusal>;
 
-        /// The number of so many bits, at most its width.
+        /// The number of `count` bits, at most its width.
         fn load<T: Exports>(
             order: u8,
             big: bool,
@@ -75,7 +75,7 @@ pub(crate) mod digits {
             count: usize,
         ) -> Result<Self, Refusal>;
 
-        /// Makes so many bits its lowest digits.
+        /// Makes `count` bits its lowest digits.
         fn store<T: Exports>(
             self,
             order: u8,

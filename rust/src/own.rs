@@ -45,7 +45,8 @@ pub trait Owned: Exports + Eq {
     fn take(words: Vec<Self::Word>) -> Vec<Self>;
 }
 
-/// The number of 64 bits that so many words are: the first has the highest digits, or the lowest.
+/// The number that words are which have 64 bits together: the first has the highest digits, or the
+/// lowest.
 macro_rules! number {
     (u8 of $words:ident, $big:ident) => {
         if $big {
@@ -69,7 +70,7 @@ macro_rules! number {
     }};
 }
 
-/// Puts such a number in place of so many words.
+/// Puts such a number in place of such words.
 macro_rules! put_number {
     (u8 in $words:ident, $big:ident, $digits:ident) => {
         *$words = if $big {

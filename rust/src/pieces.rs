@@ -79,7 +79,7 @@ macro_rules! pieces {
 }
 
 pieces! {
-    /// Every part of so many bits in a row: what [`BitSlice::windows`] returns.
+    /// Every part of `size` bits in a row: what [`BitSlice::windows`] returns.
     ///
     /// # Examples
     ///
@@ -91,7 +91,7 @@ pieces! {
     /// ```
     Windows: bits, size, i => (bits.len() + 1).saturating_sub(size), i..i + size;
 
-    /// Parts of so many bits each, without what is left behind: what [`BitSlice::chunks_exact`]
+    /// Parts of `size` bits each, without what is left behind: what [`BitSlice::chunks_exact`]
     /// returns.
     ///
     /// # Examples
@@ -103,7 +103,7 @@ pieces! {
     /// ```
     ChunksExact: bits, size, i => bits.len() / size, i * size..i * size + size;
 
-    /// Parts of so many bits each from the end on, the last of what is left: what
+    /// Parts of `size` bits each from the end on, the last of what is left: what
     /// [`BitSlice::rchunks`] returns.
     ///
     /// # Examples

@@ -53,7 +53,7 @@ pub(crate) fn length(start: usize, end: usize) -> Result<usize, Refusal> {
     Ok(len)
 }
 
-/// The range of a number of places from one on, of so many bits.
+/// The range of `count` places from `start` on, of `len` bits.
 #[inline]
 pub(crate) fn run_of(start: usize, count: usize, len: usize) -> Result<Range<usize>, Refusal> {
     let index = usize::MAX;

@@ -60,7 +60,7 @@ pub(crate) fn load_bits<T: Register, O: Order>(words: &[T], start: usize, count:
     )
 }
 
-/// How many bits so many words have, where these are not too many.
+/// How many bits there are in `words` words, where these are not too many.
 #[inline]
 #[track_caller]
 const fn bits_in<T: Register>(words: usize) -> usize {

@@ -39,7 +39,7 @@ pub struct BitReader<'a, T: Register, O: Order> {
     held: usize,
 }
 
-/// So many bits from a place on, at most 64, as the window of a reader has them.
+/// `count` bits from a place on, at most 64, as the window of a reader has them.
 #[inline]
 fn bits_at<T: Register, O: Order>(words: &[T], place: usize, count: usize) -> u64 {
     let digits = granted(T::load(O::CODE, O::BIG, words, place, count));
@@ -59,7 +59,7 @@ fn whole_at<T: Register, O: Order>(words: &[T], place: usize, left: usize) -> Op
     T::joined(words, place / T::BITS, O::BIG)
 }
 
-/// So many bits from a place on at least, and how many they are; `None` where fewer are left.
+/// `count` bits from a place on at least, and how many they are; `None` where fewer are left.
 #[inline(never)]
 fn some_at<T: Register, O: Order>(
     words: &[T],
@@ -97,7 +97,7 @@ fn next_bits<T: Register, O: Order>(
     some_at::<T, O>(words, place, left, lacking)
 }
 
-/// A window of so many bits at least, which begins with those that are held, and how many of those
+/// A window of `count` bits at least, which begins with those that are held, and how many of those
 /// behind them a reader keeps: fewer than 64 with these, up to where a word ends where that is
 /// enough, so that whole words come next. `None` where they end.
 #[inline(never)]
@@ -275,7 +275,7 @@ impl<'a, T: Register, O: Order> BitReader<'a, T, O> {
         Ok(answer)
     }
 
-    /// Moves the place behind so many of the bits that are left.
+    /// Moves the place behind `count` of the bits that are left.
     #[inline]
     fn pass(&mut self, count: usize) {
         if count <= self.held {
@@ -287,7 +287,7 @@ impl<'a, T: Register, O: Order> BitReader<'a, T, O> {
         }
     }
 
-    /// The number of the next so many bits, which are passed over. (Always inlined: of a number of
+    /// The number of the next `count` bits, which are passed over. (Always inlined: of a number of
     /// bits that is known few tests are left.)
     #[inline(always)]
     #[allow(clippy::inline_always)]
@@ -321,7 +321,7 @@ impl<'a, T: Register, O: Order> BitReader<'a, T, O> {
         Ok(N::of_digits(few_digits_of::<O>(window, big, count), count))
     }
 
-    /// Passes over so many bits. Constant time.
+    /// Passes over `count` bits. Constant time.
     ///
     /// # Errors
     ///

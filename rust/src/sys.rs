@@ -267,7 +267,7 @@ pub trait Exports: Copy {
         asked(|answer| seek::last(order, Self::words(memory), start, count, bit, answer))
     }
 
-    /// Finds the first run of so many zeros, and answers `count` where there is none.
+    /// Finds the first run of `zeros` zeros, and answers `count` where there is none.
     #[inline]
     fn find_zeros(
         order: u8,
@@ -487,7 +487,7 @@ pub trait Exports: Copy {
         })
     }
 
-    /// Finds the first run of so many zeros from an index on that starts at a multiple.
+    /// Finds the first run of `zeros` zeros from an index on that starts at a multiple.
     #[inline]
     fn find_zeros_from(
         order: u8,

@@ -89,7 +89,7 @@ impl<T: Register, O: Order> Debug for BitSlice<'_, T, O> {
     }
 }
 
-/// What is written of a number of so many digits.
+/// What writes a number, given how many digits it has.
 type Writes = fn(&mut Formatter<'_>, u64, usize) -> fmt::Result;
 
 /// The number of the bits that a word has of a slice, as an item of a list.

@@ -120,7 +120,7 @@ impl<T: Register, O: Order> BitVec<T, O> {
             .map_err(no_memory)
     }
 
-    /// So many bits that are the same. Costs by words.
+    /// The same bit `len` times. Costs by words.
     ///
     /// # Panics
     ///

@@ -2,8 +2,8 @@
 
 use crate::register::Register;
 
-/// Whether so many bits are handed to the library as they are: to take the whole words of fewer than
-/// 64 out would cost more.
+/// Whether `len` bits are handed to the library as they are: to take the whole words of fewer than
+/// 64 words out would cost more.
 #[inline]
 pub(crate) fn are_few<T: Register>(len: usize) -> bool {
     len < 64 * T::BITS

@@ -362,7 +362,7 @@ impl<'a, T: Register, O: Order> BitWriter<'a, T, O> {
         (self.until, self.free) = (self.bits.place_mut().1 + index, 0);
     }
 
-    /// Passes over so many bits, which stay as they are. Constant time.
+    /// Passes over `count` bits, which stay as they are. Constant time.
     ///
     /// # Errors
     ///

@@ -342,7 +342,7 @@ mod cases {
         assert_eq!(format!("{bits:#o}"), expected);
     }
 
-    /// The bits of each word, the first the highest digit, as digits of so many bits each.
+    /// The bits of each word, the first the highest digit, as digits of `size` bits each.
     fn by_words<T: Word>(bits: &[bool], start: usize, size: usize) -> Vec<String> {
         let head = (T::BITS - start % T::BITS).min(bits.len());
         let (head, rest) = bits.split_at(head);

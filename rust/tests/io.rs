@@ -29,7 +29,7 @@ impl Read for Drops<'_> {
     }
 }
 
-/// What is written and read: a number of so many bits, by an order, or another thing.
+/// What is written and read: a number, of how many bits and by which order, or another thing.
 #[derive(Clone, Debug, PartialEq)]
 enum Item {
     Number(usize, u64, bool),

@@ -518,7 +518,7 @@ fn what_is_refused_is_said_and_changes_nothing() {
     assert_eq!("1 1".parse::<BitVec>(), Err(Refusal::NotADigit(1)));
 }
 
-/// Extends a vector of so many bits by words and by truth values, so many words of each.
+/// Extends a vector of `len` bits by the bits of `count` words, and then by truth values.
 fn extended<T: Word, O: Layout>(random: &mut Random, len: usize, count: usize) {
     let words: Vec<T> = (0..count).map(|_| T::of(random.number())).collect();
     let listed = bits_of::<T, O>(&words);

@@ -281,8 +281,8 @@ mod cases {
     }
 }
 
-/// Copies and compares so many bits, of words of which many lie whole in the ranges, from two places
-/// on: what std's slices copy and compare.
+/// Copies and compares `len` bits, of words of which many lie whole in the ranges, from two places on:
+/// what std's slices copy and compare.
 fn many_words_move<T: Word, O: Layout>(random: &mut Random, from: usize, to: usize, len: usize) {
     let words = |random: &mut Random, bits: usize| -> Vec<T> {
         let count = bits.div_ceil(T::BITS) + random.below(3);

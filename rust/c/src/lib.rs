@@ -25,7 +25,7 @@ mod proved;
 
 use core::panic::PanicInfo;
 
-/// The slice of so many items, of which none is met where there are none.
+/// The slice of `count` items from `first` on, which is not met where there are none.
 ///
 /// # Safety
 ///

@@ -342,7 +342,7 @@ fn compare_vectors() {
     );
 }
 
-/// Reads of so many bits each, from words and from bytes.
+/// Reads of `BITS` bits each, from words and from bytes.
 fn compare_reads<const BITS: usize>(source: &[u64]) {
     let numbers = WORDS * 64 / BITS;
     compare(
@@ -376,7 +376,7 @@ fn compare_reads<const BITS: usize>(source: &[u64]) {
     );
 }
 
-/// Writes of so many bits each, to words and to bytes.
+/// Writes of `BITS` bits each, to words and to bytes.
 fn compare_writes<const BITS: usize>() {
     let numbers = WORDS * 64 / BITS;
     let number = |i: usize| i as u64 & ((1 << BITS) - 1);

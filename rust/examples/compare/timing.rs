@@ -9,7 +9,7 @@ const ROUNDS: usize = 40;
 /// No round is shorter.
 const ROUND: Duration = Duration::from_micros(300);
 
-/// How long so many runs of a job take.
+/// How long a job takes that is run `repeats` times.
 fn round(repeats: u32, job: &mut dyn FnMut()) -> Duration {
     let start = Instant::now();
     (0..repeats).for_each(|_| job());

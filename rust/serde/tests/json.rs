@@ -3,7 +3,7 @@
 use serde_json::{from_str, to_string};
 use worghulen::prelude::*;
 
-/// Bits of so many places, of which those are one that a multiplication picks.
+/// `len` bits, of which those are one that a multiplication picks.
 fn bits<T: BitStore, O: BitOrder>(len: usize) -> BitVec<T, O> {
     (0..len)
         .map(|i| ((i * 2_654_435_761) >> 7) % 2 == 1)

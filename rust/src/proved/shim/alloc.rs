@@ -17,7 +17,7 @@ impl error::Error for AllocError {}
 /// What is asked for leave to take memory. The memory itself is Rust's global allocator's, so that
 /// a caller has to keep to nothing.
 pub trait Allocator {
-    /// Gives leave to take so many bytes. What it answers is not used, but an error refuses.
+    /// Gives leave to take `size` bytes. What it answers is not used, but an error refuses.
     fn allocate(&self, size: usize, align: usize) -> Result<*mut u8, AllocError>;
 
     /// Nothing is given back.
