@@ -44,7 +44,7 @@ impl<T: Register, O: Order, const N: usize> BitArray<[T; N], O> {
     /// ```
     pub const ZERO: Self = Self::new([T::ZERO; N]);
 
-    /// The bits of words, in order, by a copy of the words. Constant time.
+    /// The bits of some words, in order, by a copy of the words. Constant time.
     ///
     /// # Examples
     ///
@@ -77,7 +77,8 @@ impl<T: Register, O: Order, const N: usize> BitArray<[T; N], O> {
         self.words
     }
 
-    /// All bits, to be read. Constant time.
+    /// Its bits, for reading: a slice that begins with the first bit of its first word. Constant
+    /// time.
     ///
     /// # Panics
     ///
@@ -97,7 +98,7 @@ impl<T: Register, O: Order, const N: usize> BitArray<[T; N], O> {
         BitSlice::from_slice(&self.words)
     }
 
-    /// All bits, to be written. Constant time.
+    /// Its bits, borrowed for writing. Constant time.
     ///
     /// # Panics
     ///

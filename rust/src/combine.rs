@@ -33,7 +33,7 @@ impl<T: Register, O: Order> BitSliceMut<'_, T, O> {
         }
     }
 
-    /// Clears those bits whose bit in another slice is one: the difference of two sets. Costs by
+    /// Clears those bits whose bit in another slice is set: the difference of two sets. Costs by
     /// words, or by bits where both have words of one type and their orders differ.
     ///
     /// # Errors
@@ -152,9 +152,9 @@ impl<T: Register, O: Order> Not for BitSliceMut<'_, T, O> {
 type Question<T> = fn(u8, (&[T], usize), u8, (&[T], usize), usize) -> Result<usize, Refusal>;
 
 impl<T: Register, O: Order> BitSlice<'_, T, O> {
-    /// Whether each index with a one here has a one in another slice: whether one set lies in
-    /// another. Behind its last bit a slice has no ones. Costs by words, or by bits where both have
-    /// words of one type and their orders differ, up to the first index that decides.
+    /// Whether each bit that is set in the slice is set in another: whether the one set is a subset
+    /// of the other. Behind its last bit a slice has no ones. Costs by words, or by bits where both
+    /// have words of one type and their orders differ, up to the first index that decides.
     ///
     /// # Examples
     ///
@@ -179,9 +179,9 @@ impl<T: Register, O: Order> BitSlice<'_, T, O> {
         }
     }
 
-    /// Whether there is an index with a one here and in another slice: whether two sets have an
-    /// element in common. Costs by words, or by bits where both have words of one type and their
-    /// orders differ, up to the first such index.
+    /// Whether some bit is set in both slices: whether two sets have an element in common. Costs by
+    /// words, or by bits where both have words of one type and their orders differ, up to the first
+    /// such index.
     ///
     /// # Examples
     ///
@@ -202,9 +202,8 @@ impl<T: Register, O: Order> BitSlice<'_, T, O> {
         }
     }
 
-    /// At how many indices there is a one here and in another slice: how many elements two sets
-    /// have in common. Costs by words, or by bits where both have words of one type and their
-    /// orders differ.
+    /// How many bits are set in both slices: how many elements two sets have in common. Costs by
+    /// words, or by bits where both have words of one type and their orders differ.
     ///
     /// # Examples
     ///

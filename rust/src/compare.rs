@@ -62,8 +62,9 @@ impl<T: Register, O: Order> BitSlice<'_, T, O> {
         }
     }
 
-    /// The first index at which the slices have different bits, as far as both go, and `None` where
-    /// there is none. Costs by words where the orders are the same, else by bits, up to that bit.
+    /// The index of the first bit that is not the same in both slices, counted from 0, and `None`
+    /// where there is none as far as both slices go. Costs by words where the orders are the same,
+    /// else by bits, up to that bit.
     ///
     /// # Examples
     ///
@@ -90,9 +91,9 @@ impl<T: Register, O: Order> BitSlice<'_, T, O> {
         (found < len).then_some(found)
     }
 
-    /// How the bits compare with those of another slice, as two lists of `bool` do: at the first
-    /// difference the one with the zero is less, and where there is none, the shorter. Costs by
-    /// words where the orders are the same, else by bits, up to the first difference.
+    /// How the slice compares with another, bit by bit from the first on, as two `&[bool]` do. At
+    /// the first difference the slice with the zero is less, and where there is none the shorter.
+    /// Costs by words where the orders are the same, else by bits, up to the first difference.
     ///
     /// # Examples
     ///

@@ -79,7 +79,7 @@ crate::refusal::or_panics! {
     /// ```
     replace by try_replace(index: usize, bit: bool) -> bool;
 
-    /// Exchanges two bits. Constant time.
+    /// Exchanges bits `i` and `j`. Constant time.
     ///
     /// # Examples
     ///
@@ -92,7 +92,7 @@ crate::refusal::or_panics! {
     /// ```
     swap by try_swap(i: usize, j: usize);
 
-    /// Moves each bit `by` indices towards the first: the first `by` bits are lost, and the last
+    /// Moves each bit `by` places towards the first: the first `by` bits are lost, and the last
     /// `by` become zero. Costs by words.
     ///
     /// # Examples
@@ -106,8 +106,8 @@ crate::refusal::or_panics! {
     /// ```
     shift_left by try_shift_left(by: usize);
 
-    /// Moves each bit `by` indices towards the last: the last `by` bits are lost, and the first
-    /// `by` become zero. Costs by words.
+    /// Moves each bit `by` places towards the last: the last `by` bits are lost, and the first `by`
+    /// become zero. Costs by words.
     ///
     /// # Examples
     ///
@@ -218,7 +218,7 @@ impl<T: Register, O: Order> BitSliceMut<'_, T, O> {
         T::replace(O::CODE, words, start + index, bit)
     }
 
-    /// Exchanges two bits. Constant time.
+    /// Exchanges bits `i` and `j`. Constant time.
     ///
     /// # Errors
     ///
@@ -617,7 +617,7 @@ impl<T: Register, O: Order> BitSliceMut<'_, T, O> {
         granted(T::reverse(O::CODE, words, start, len));
     }
 
-    /// Moves each bit `by` indices towards the first: the first `by` bits are lost, and the last
+    /// Moves each bit `by` places towards the first: the first `by` bits are lost, and the last
     /// `by` become zero. Costs by words.
     ///
     /// # Errors
@@ -641,8 +641,8 @@ impl<T: Register, O: Order> BitSliceMut<'_, T, O> {
         T::shift_left(O::CODE, words, start, len, by)
     }
 
-    /// Moves each bit `by` indices towards the last: the last `by` bits are lost, and the first
-    /// `by` become zero. Costs by words.
+    /// Moves each bit `by` places towards the last: the last `by` bits are lost, and the first `by`
+    /// become zero. Costs by words.
     ///
     /// # Errors
     ///

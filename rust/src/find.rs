@@ -5,7 +5,7 @@ use crate::register::Register;
 use crate::slice::{BitSlice, granted};
 
 impl<T: Register, O: Order> BitSlice<'_, T, O> {
-    /// How many of the bits are one. Costs by words.
+    /// How many bits are one. Costs by words.
     ///
     /// # Examples
     ///
@@ -21,7 +21,7 @@ impl<T: Register, O: Order> BitSlice<'_, T, O> {
         granted(T::count_ones(O::CODE, words, start, self.len()))
     }
 
-    /// How many of the bits are zero. Costs by words.
+    /// How many bits are zero. Costs by words.
     ///
     /// # Examples
     ///
@@ -35,8 +35,8 @@ impl<T: Register, O: Order> BitSlice<'_, T, O> {
         self.len() - self.count_ones()
     }
 
-    /// The index of the first bit that is one, and `None` where there is none. Costs by words, up
-    /// to that bit.
+    /// The index of the first bit that is one, counted from 0, and `None` where none is. Costs by
+    /// words, up to that bit.
     ///
     /// # Examples
     ///
@@ -54,8 +54,8 @@ impl<T: Register, O: Order> BitSlice<'_, T, O> {
         self.found(granted(T::first_one(O::CODE, words, start, self.len())))
     }
 
-    /// The index of the first bit that is zero, and `None` where there is none. Costs by words, up
-    /// to that bit.
+    /// The index of the first bit that is zero, counted from 0, and `None` where none is. Costs by
+    /// words, up to that bit.
     ///
     /// # Examples
     ///
@@ -70,8 +70,8 @@ impl<T: Register, O: Order> BitSlice<'_, T, O> {
         self.first_of(false)
     }
 
-    /// The index of the last bit that is one, and `None` where there is none. Costs by words, down
-    /// to that bit.
+    /// The index of the last bit that is one, counted from 0, and `None` where none is. Costs by
+    /// words, down to that bit.
     ///
     /// # Examples
     ///
@@ -86,8 +86,8 @@ impl<T: Register, O: Order> BitSlice<'_, T, O> {
         self.last_of(true)
     }
 
-    /// The index of the last bit that is zero, and `None` where there is none. Costs by words, down
-    /// to that bit.
+    /// The index of the last bit that is zero, counted from 0, and `None` where none is. Costs by
+    /// words, down to that bit.
     ///
     /// # Examples
     ///
@@ -150,8 +150,8 @@ impl<T: Register, O: Order> BitSlice<'_, T, O> {
         )))
     }
 
-    /// The index of the first bit that is one from an index on, and `None` where there is none.
-    /// Costs by words, up to that bit.
+    /// The index of the first bit that is one, from index `from` on, and `None` where none is: also
+    /// where there are no bits from `from` on. Costs by words, up to that bit.
     ///
     /// # Examples
     ///
@@ -168,8 +168,8 @@ impl<T: Register, O: Order> BitSlice<'_, T, O> {
         self.next_of(from, true)
     }
 
-    /// The index of the first bit that is zero from an index on, and `None` where there is none.
-    /// Costs by words, up to that bit.
+    /// The index of the first bit that is zero, from index `from` on, and `None` where none is:
+    /// also where there are no bits from `from` on. Costs by words, up to that bit.
     ///
     /// # Examples
     ///
@@ -183,8 +183,8 @@ impl<T: Register, O: Order> BitSlice<'_, T, O> {
         self.next_of(from, false)
     }
 
-    /// The index of the last bit that is one before an index, and `None` where there is none. An
-    /// index past the length is taken as the length. Costs by words, down to that bit.
+    /// The index of the last bit that is one, of those before index `before`, and `None` where none
+    /// is. A `before` past the length is taken as the length. Costs by words, down to that bit.
     ///
     /// # Examples
     ///
@@ -198,8 +198,8 @@ impl<T: Register, O: Order> BitSlice<'_, T, O> {
         self.previous_of(before, true)
     }
 
-    /// The index of the last bit that is zero before an index, and `None` where there is none. An
-    /// index past the length is taken as the length. Costs by words, down to that bit.
+    /// The index of the last bit that is zero, of those before index `before`, and `None` where
+    /// none is. A `before` past the length is taken as the length. Costs by words, down to that bit.
     ///
     /// # Examples
     ///
@@ -213,8 +213,8 @@ impl<T: Register, O: Order> BitSlice<'_, T, O> {
         self.previous_of(before, false)
     }
 
-    /// The first index from which on `count` bits are zero, and `None` where there is none: a free
-    /// run. Costs by words where the run is no longer than a word.
+    /// The first index from which on `count` bits are there and zero, and `None` where there is no
+    /// such index. Costs by words where the run is no longer than a word.
     ///
     /// # Examples
     ///
@@ -262,7 +262,8 @@ impl<T: Register, O: Order> BitSlice<'_, T, O> {
         (found < len || ends).then_some(found)
     }
 
-    /// How many zeros stand before the first one. Costs by words, up to that bit.
+    /// How many bits are zero before the first that is one; all, where none is. Costs by words, up
+    /// to that bit.
     ///
     /// # Examples
     ///
@@ -276,7 +277,8 @@ impl<T: Register, O: Order> BitSlice<'_, T, O> {
         self.first_one().unwrap_or(self.len())
     }
 
-    /// How many ones stand before the first zero. Costs by words, up to that bit.
+    /// How many bits are one before the first that is zero; all, where none is. Costs by words, up
+    /// to that bit.
     ///
     /// # Examples
     ///
@@ -290,7 +292,8 @@ impl<T: Register, O: Order> BitSlice<'_, T, O> {
         self.first_zero().unwrap_or(self.len())
     }
 
-    /// How many zeros stand behind the last one. Costs by words, down to that bit.
+    /// How many bits are zero behind the last that is one; all, where none is. Costs by words, down
+    /// to that bit.
     ///
     /// # Examples
     ///
@@ -305,7 +308,8 @@ impl<T: Register, O: Order> BitSlice<'_, T, O> {
             .map_or(self.len(), |last| self.len() - 1 - last)
     }
 
-    /// How many ones stand behind the last zero. Costs by words, down to that bit.
+    /// How many bits are one behind the last that is zero; all, where none is. Costs by words, down
+    /// to that bit.
     ///
     /// # Examples
     ///

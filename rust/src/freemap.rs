@@ -157,7 +157,8 @@ impl<'a, O: Order> FreeMap<'a, O> {
         self.0.count_free()
     }
 
-    /// Hands out the lowest block that is free; `None` where none is. Costs by words up to it.
+    /// Hands out the lowest block that is free, and returns it; `None` exactly where none is, and
+    /// then the map stays as it is. Costs by words up to it.
     ///
     /// # Examples
     ///
@@ -173,8 +174,8 @@ impl<'a, O: Order> FreeMap<'a, O> {
         self.0.alloc()
     }
 
-    /// Hands out the lowest free block that is not before one; `None` where none is. Costs by words
-    /// from that on.
+    /// Hands out the lowest free block that is not before `block`, and returns it; `None` exactly
+    /// where none is, and then the map stays as it is. Costs by words from that on.
     ///
     /// # Examples
     ///
@@ -206,8 +207,9 @@ impl<'a, O: Order> FreeMap<'a, O> {
         self.0.alloc_run(count)
     }
 
-    /// As [`alloc_run`](Self::alloc_run), of those that begin at a multiple of a number. One of 0 is
-    /// taken as 1.
+    /// Hands out `count` blocks in a row, the first such that are all free and begin at a multiple
+    /// of `alignment`, and returns the first of them. An `alignment` of 0 is taken as 1; otherwise
+    /// as [`alloc_run`](Self::alloc_run).
     ///
     /// # Examples
     ///
@@ -222,8 +224,9 @@ impl<'a, O: Order> FreeMap<'a, O> {
         self.0.alloc_run_aligned(count, alignment.max(1))
     }
 
-    /// Puts `count` blocks from block `at` on in use, and returns whether it did: where each is free.
-    /// Costs by words.
+    /// Puts `count` blocks from block `at` on in use, and returns whether it did. It refuses
+    /// exactly where one of them is in use or is not there, or `at` itself is past the map's end.
+    /// Then the map stays as it is. Costs by words.
     ///
     /// # Examples
     ///
@@ -296,8 +299,8 @@ impl<'a, O: Order> FreeMap<'a, O> {
         Ok(())
     }
 
-    /// The first run of free blocks from one on: its first block, and how many they are; `None`
-    /// where none is free. Costs by words.
+    /// The first run of free blocks from block `from` on: its first block, and how many they are up
+    /// to the next that is in use or the end. `None` where none is free. Costs by words.
     ///
     /// # Examples
     ///

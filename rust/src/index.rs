@@ -225,7 +225,7 @@ impl<'a, T: Register, O: Order> BitSlice<'a, T, O> {
         Ok(Self::of(words, start + from, len))
     }
 
-    /// The bits before an index, and those from it on. Constant time.
+    /// The first `mid` bits, and those behind them. Constant time.
     ///
     /// # Panics
     ///
@@ -271,7 +271,7 @@ impl<'a, T: Register, O: Order> BitSlice<'a, T, O> {
         Some((self.get(..mid)?, self.get(mid..)?))
     }
 
-    /// The first bit and those behind it, and `None` where there is none. Constant time.
+    /// The first bit and the bits behind it, and `None` where there are no bits. Constant time.
     ///
     /// # Examples
     ///
@@ -287,7 +287,7 @@ impl<'a, T: Register, O: Order> BitSlice<'a, T, O> {
         Some((self.first()?, self.get(1..)?))
     }
 
-    /// The last bit and those before it, and `None` where there is none. Constant time.
+    /// The last bit and the bits before it, and `None` where there are no bits. Constant time.
     ///
     /// # Examples
     ///

@@ -705,7 +705,8 @@ impl<'a, T: Register, O: Order> BitSlice<'a, T, O> {
         Iter(BitValIter::new(*self))
     }
 
-    /// The indices of the bits that are one, in order. Costs by words, and by what it finds.
+    /// The indices of the bits that are one, counted from 0, in rising order. Costs by words, and
+    /// by what it finds.
     ///
     /// # Examples
     ///
@@ -721,7 +722,8 @@ impl<'a, T: Register, O: Order> BitSlice<'a, T, O> {
         Ones(Indices::new(*self))
     }
 
-    /// The indices of the bits that are zero, in order. Costs by words, and by what it finds.
+    /// The indices of the bits that are zero, counted from 0, in rising order. Costs by words, and
+    /// by what it finds.
     ///
     /// # Examples
     ///

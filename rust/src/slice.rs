@@ -289,7 +289,7 @@ impl<'a, T: Register, O: Order> BitSlice<'a, T, O> {
         T::get(O::CODE, self.words, self.start + index).ok()
     }
 
-    /// The first bit, and `None` where there is none. Constant time.
+    /// The first bit, and `None` where there are no bits. Constant time.
     ///
     /// # Examples
     ///
@@ -307,7 +307,7 @@ impl<'a, T: Register, O: Order> BitSlice<'a, T, O> {
         self.bit(0).map(BitRef::from)
     }
 
-    /// The last bit, and `None` where there is none. Constant time.
+    /// The last bit, and `None` where there are no bits. Constant time.
     ///
     /// # Examples
     ///
@@ -323,11 +323,11 @@ impl<'a, T: Register, O: Order> BitSlice<'a, T, O> {
         self.bit(self.len.checked_sub(1)?).map(BitRef::from)
     }
 
-    /// The number whose digits the bits are, those of the first word lowest.
+    /// The number whose digits the bits are: those of one word in the word's own order, and those
+    /// of the first word lowest.
     ///
-    /// The bits that one word has of the slice are digits of the number as they are digits of the
-    /// word, in the same order. An unsigned number's other digits are 0, a signed number is in
-    /// two's complement of as many digits as there are bits. Of no bits it is 0. Constant time.
+    /// An unsigned number's other digits are 0, a signed number is in two's complement of as many
+    /// digits as there are bits. Of no bits it is 0. Constant time.
     ///
     /// # Errors
     ///
@@ -351,11 +351,11 @@ impl<'a, T: Register, O: Order> BitSlice<'a, T, O> {
         self.number(false)
     }
 
-    /// The number whose digits the bits are, those of the first word highest.
+    /// The number whose digits the bits are: those of one word in the word's own order, and those
+    /// of the first word highest.
     ///
-    /// The bits that one word has of the slice are digits of the number as they are digits of the
-    /// word, in the same order. An unsigned number's other digits are 0, a signed number is in
-    /// two's complement of as many digits as there are bits. Of no bits it is 0. Constant time.
+    /// An unsigned number's other digits are 0, a signed number is in two's complement of as many
+    /// digits as there are bits. Of no bits it is 0. Constant time.
     ///
     /// # Errors
     ///

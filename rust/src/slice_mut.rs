@@ -74,7 +74,7 @@ impl<'a, T: Register, O: Order> BitSliceMut<'a, T, O> {
         (self.words, self.start)
     }
 
-    /// The same bits, to be read. Constant time.
+    /// Its bits, for reading. Constant time.
     ///
     /// # Examples
     ///

@@ -395,7 +395,7 @@ impl<'a, T: Register, O: Order> BitReader<'a, T, O> {
         Ok(self.number::<u64>(O::BIG, 1)? == 1)
     }
 
-    /// The next `count` bits, as a slice of the same words. Constant time.
+    /// The next `count` bits as a slice of the same memory. Constant time.
     ///
     /// # Errors
     ///

@@ -81,7 +81,7 @@ impl<T: Register, O: Order> BitVec<T, O> {
         Self(Proved::<T, O>::new(Global))
     }
 
-    /// No bits, with room for that many bits at least. Constant time.
+    /// No bits, and memory for `capacity` bits. Constant time.
     ///
     /// # Panics
     ///
@@ -96,8 +96,8 @@ impl<T: Register, O: Order> BitVec<T, O> {
     /// ```
     #[must_use]
     #[track_caller]
-    pub fn with_capacity(bits: usize) -> Self {
-        had("with_capacity", bits, Self::try_with_capacity(bits))
+    pub fn with_capacity(capacity: usize) -> Self {
+        had("with_capacity", capacity, Self::try_with_capacity(capacity))
     }
 
     /// As [`with_capacity`](Self::with_capacity), or why that would panic.
@@ -114,8 +114,8 @@ impl<T: Register, O: Order> BitVec<T, O> {
     /// let refused = BitVec::<u8, Lsb0>::try_with_capacity(usize::MAX);
     /// assert_eq!(refused.err(), Some(Refusal::NoMemory));
     /// ```
-    pub fn try_with_capacity(bits: usize) -> Result<Self, Refusal> {
-        Proved::<T, O>::with_capacity(Global, bits)
+    pub fn try_with_capacity(capacity: usize) -> Result<Self, Refusal> {
+        Proved::<T, O>::with_capacity(Global, capacity)
             .map(Self)
             .map_err(no_memory)
     }
@@ -315,7 +315,7 @@ impl<T: Register, O: Order> BitVec<T, O> {
         self.into()
     }
 
-    /// How many bits have room before more memory is taken. Constant time.
+    /// For how many bits there is room before memory is asked for. Constant time.
     ///
     /// # Examples
     ///
@@ -329,7 +329,8 @@ impl<T: Register, O: Order> BitVec<T, O> {
         self.0.capacity()
     }
 
-    /// The bits, to be read. Constant time.
+    /// Its bits, for reading: a slice that begins with the first bit of its first word. Constant
+    /// time.
     ///
     /// # Examples
     ///
@@ -344,7 +345,7 @@ impl<T: Register, O: Order> BitVec<T, O> {
         BitSlice::of(self.as_raw_slice(), 0, self.0.len())
     }
 
-    /// The bits, to be written. Constant time.
+    /// Its bits, borrowed for writing. Constant time.
     ///
     /// # Examples
     ///
@@ -377,8 +378,8 @@ impl<T: Register, O: Order> BitVec<T, O> {
         T::own(self.0.words.as_slice())
     }
 
-    /// Takes room for that many more bits at least. Costs by the words that are there, where the memory
-    /// is another.
+    /// Makes room for `additional` more bits: these can be put behind the others, and no memory is
+    /// asked for. Costs by the words that are there, where the memory is another.
     ///
     /// # Panics
     ///
@@ -394,8 +395,8 @@ impl<T: Register, O: Order> BitVec<T, O> {
     /// assert!(bits.capacity() >= 100);
     /// ```
     #[track_caller]
-    pub fn reserve(&mut self, more: usize) {
-        had("reserve", more, self.try_reserve(more));
+    pub fn reserve(&mut self, additional: usize) {
+        had("reserve", additional, self.try_reserve(additional));
     }
 
     /// As [`reserve`](Self::reserve), or why that would panic.
@@ -411,11 +412,11 @@ impl<T: Register, O: Order> BitVec<T, O> {
     ///
     /// assert_eq!(bitvec![0, 1].try_reserve(usize::MAX), Err(Refusal::NoMemory));
     /// ```
-    pub fn try_reserve(&mut self, more: usize) -> Result<(), Refusal> {
-        self.0.reserve(more).map_err(no_memory)
+    pub fn try_reserve(&mut self, additional: usize) -> Result<(), Refusal> {
+        self.0.reserve(additional).map_err(no_memory)
     }
 
-    /// Puts a bit behind the last. Constant time, but where memory is taken.
+    /// Puts a bit behind the others. Constant time, but where memory is taken.
     ///
     /// # Panics
     ///
@@ -459,7 +460,7 @@ impl<T: Register, O: Order> BitVec<T, O> {
         self.0.push(bit).map_err(no_memory)
     }
 
-    /// Takes the last bit out, and returns it; `None` where there is none. Constant time.
+    /// Takes the last bit away and returns it, and `None` where there are no bits. Constant time.
     ///
     /// # Examples
     ///
@@ -474,7 +475,7 @@ impl<T: Register, O: Order> BitVec<T, O> {
         self.0.pop()
     }
 
-    /// Drops the bits from an index on. Where there are no more than that, they stay. Costs by
+    /// Takes away the bits from number `len` on, and does nothing where there are none. Costs by
     /// dropped words.
     ///
     /// # Examples
@@ -491,7 +492,7 @@ impl<T: Register, O: Order> BitVec<T, O> {
         self.0.truncate(len);
     }
 
-    /// Drops every bit. The memory stays. Constant time.
+    /// Takes all bits away. The memory stays. Constant time.
     ///
     /// # Examples
     ///
@@ -524,9 +525,9 @@ impl<T: Register, O: Order> BitVec<T, O> {
     /// assert_eq!(bits.to_string(), "010");
     /// # Ok::<(), Refusal>(())
     /// ```
-    pub fn try_insert(&mut self, index: usize, bit: bool) -> Result<(), Refusal> {
-        self.has_place(index)?;
-        self.0.insert(index, bit).map_err(no_memory)
+    pub fn try_insert(&mut self, i: usize, bit: bool) -> Result<(), Refusal> {
+        self.has_place(i)?;
+        self.0.insert(i, bit).map_err(no_memory)
     }
 
     /// As [`remove`](Self::remove), or why that would panic.
@@ -544,9 +545,9 @@ impl<T: Register, O: Order> BitVec<T, O> {
     /// assert_eq!(bits.try_remove(1), Ok(true));
     /// assert_eq!(bits.try_remove(1), Err(Refusal::Outside { index: 1, len: 1 }));
     /// ```
-    pub fn try_remove(&mut self, index: usize) -> Result<bool, Refusal> {
-        self.has(index)?;
-        Ok(self.0.remove(index))
+    pub fn try_remove(&mut self, i: usize) -> Result<bool, Refusal> {
+        self.has(i)?;
+        Ok(self.0.remove(i))
     }
 
     /// As [`swap_remove`](Self::swap_remove), or why that would panic.
@@ -564,9 +565,9 @@ impl<T: Register, O: Order> BitVec<T, O> {
     /// assert_eq!(bits.try_swap_remove(0), Ok(false));
     /// assert_eq!(bits.to_string(), "10");
     /// ```
-    pub fn try_swap_remove(&mut self, index: usize) -> Result<bool, Refusal> {
-        self.has(index)?;
-        Ok(self.0.swap_remove(index))
+    pub fn try_swap_remove(&mut self, i: usize) -> Result<bool, Refusal> {
+        self.has(i)?;
+        Ok(self.0.swap_remove(i))
     }
 
     /// Whether there is a bit of this index.
@@ -901,8 +902,8 @@ fn gathered(bits: &mut impl Iterator<Item = bool>) -> (u64, usize) {
 crate::refusal::or_panics! {
     [T: Register, O: Order] BitVec<T, O>:
 
-    /// Puts a bit before that of an index, or behind the last where the index is the length. Costs
-    /// by words behind it.
+    /// Puts a bit before bit `i`, or behind all bits where `i` is the length. Costs by words behind
+    /// it.
     ///
     /// # Examples
     ///
@@ -913,9 +914,9 @@ crate::refusal::or_panics! {
     /// bits.insert(1, true);
     /// assert_eq!(bits.to_string(), "010");
     /// ```
-    insert by try_insert(index: usize, bit: bool);
+    insert by try_insert(i: usize, bit: bool);
 
-    /// Takes the bit of an index out, and returns it. Costs by words behind it.
+    /// Takes bit `i` away and returns it; those behind it move up by one. Costs by words behind it.
     ///
     /// # Examples
     ///
@@ -926,9 +927,9 @@ crate::refusal::or_panics! {
     /// assert!(bits.remove(1));
     /// assert_eq!(bits.to_string(), "00");
     /// ```
-    remove by try_remove(index: usize) -> bool;
+    remove by try_remove(i: usize) -> bool;
 
-    /// Takes the bit of an index out, puts the last in its place, and returns it. Constant time.
+    /// Takes bit `i` away and returns it, and puts the last bit in its place. Constant time.
     ///
     /// # Examples
     ///
@@ -939,9 +940,10 @@ crate::refusal::or_panics! {
     /// assert!(!bits.swap_remove(0));
     /// assert_eq!(bits.to_string(), "10");
     /// ```
-    swap_remove by try_swap_remove(index: usize) -> bool;
+    swap_remove by try_swap_remove(i: usize) -> bool;
 
-    /// Takes the bits from an index on out, and returns them. Costs by their words.
+    /// Takes the bits from number `at` on away, and returns them as a vector of their own. Costs by
+    /// their words.
     ///
     /// # Examples
     ///
@@ -955,8 +957,8 @@ crate::refusal::or_panics! {
     #[must_use]
     split_off by try_split_off(at: usize) -> Self;
 
-    /// Drops the last bits, or puts bits that are `bit` behind them, until there are that many. Costs
-    /// by words.
+    /// Makes the length `len`: takes away the bits behind it, or puts copies of `bit` behind the
+    /// others. Costs by words.
     ///
     /// # Examples
     ///

@@ -259,7 +259,7 @@ impl<'a, T: Register, O: Order> BitWriter<'a, T, O> {
         self.until - self.free - self.bits.as_bitslice().place().1
     }
 
-    /// How many bits are left. Constant time.
+    /// For how many bits there is room. Constant time.
     ///
     /// # Examples
     ///
@@ -275,7 +275,7 @@ impl<'a, T: Register, O: Order> BitWriter<'a, T, O> {
         self.bits.len() - self.position()
     }
 
-    /// The bits that were written or passed over, to be read. Constant time.
+    /// What was written or passed over, for reading. Constant time.
     ///
     /// # Examples
     ///
@@ -295,8 +295,8 @@ impl<'a, T: Register, O: Order> BitWriter<'a, T, O> {
         self.bits.as_bitslice().start(self.position())
     }
 
-    /// The whole slice: what was written, and behind it the other bits, as they were. Constant
-    /// time.
+    /// The whole slice, with what was written in its first [`position`](BitWriter::position) bits
+    /// and the rest as it was. Constant time.
     ///
     /// # Examples
     ///

@@ -1,8 +1,9 @@
 //! The page for programs in Rust (`docs/RUST.md`) names what is there: each method of the crate
 //! `bitvec` that it says is here, by the same name or another, is one that `rust/src` declares, and
-//! each of which it says that there is none is not. Each call that is public has an example.
+//! each of which it says that there is none is not. Each call that is public has an example, and many
+//! have the sentence of the proved source's call.
 
-use std::collections::BTreeSet;
+use std::collections::{BTreeMap, BTreeSet};
 use std::fs;
 use std::path::Path;
 
@@ -216,3 +217,80 @@ fn each_name_of_the_prelude_is_told() {
         assert!(told.contains(name) || others.contains(&name), "{name}");
     }
 }
+
+/// The first sentence of the docs of each call of a type in the sources under a folder, by the call's
+/// name. Where a link leads is left out.
+fn sentences(folder: &Path, of: &str, found: &mut BTreeMap<String, String>) {
+    for entry in fs::read_dir(folder).into_iter().flatten().flatten() {
+        let path = entry.path();
+        if path.is_dir() {
+            sentences(&path, of, found);
+            continue;
+        }
+        let (mut is_of, mut docs) = (false, String::new());
+        for line in fs::read_to_string(path).expect("a text").lines() {
+            let text = line.trim_start();
+            if line.starts_with("impl") || line.starts_with("    [") {
+                is_of = line.contains(&format!(" {of}<"));
+            }
+            if let Some(said) = text.strip_prefix("///") {
+                docs = docs + said.trim() + " ";
+            } else if !text.starts_with("#[") && !text.starts_with(")]") {
+                let is_call = text.starts_with("pub ") || text.contains(" by try_");
+                let call = text.split_once("fn ").map_or(text, |it| it.1);
+                if let Some(name) = words(call).next().filter(|_| is_call && is_of) {
+                    let first = docs.split(". ").next().unwrap_or_default();
+                    let parts = first.split("](").enumerate().map(|(i, it)| match i {
+                        0 => it,
+                        _ => it.split_once(')').map_or(it, |it| it.1),
+                    });
+                    let name = name.to_owned();
+                    found.entry(name).or_insert_with(|| parts.collect());
+                }
+                docs.clear();
+            }
+        }
+    }
+}
+
+/// Each of these calls of a type has the sentence of the source's call of its name, in a crate.
+#[test]
+fn sentences_of_the_sources_are_kept() {
+    let top = Path::new(env!("CARGO_MANIFEST_DIR"));
+    for names in SAME {
+        let mut names = names.split_whitespace();
+        let (of, folder) = (
+            names.next().expect("a type"),
+            names.next().expect("a crate"),
+        );
+        let (mut here, mut there) = (BTreeMap::new(), BTreeMap::new());
+        sentences(&top.join("rust/src"), of, &mut here);
+        sentences(&top.join("crates").join(folder), of, &mut there);
+        // (a package has not each crate)
+        for call in names.filter(|_| !there.is_empty()) {
+            let source = there.get(call.trim_start_matches("try_"));
+            assert!(source.is_some(), "there is no {call} in {folder}");
+            assert_eq!(here.get(call), source, "{of}::{call}");
+        }
+    }
+}
+
+const SAME: [&str; 7] = [
+    "BitSlice bitvec_slice
+    is_subset intersects count_and first_difference compare count_ones count_zeros first_one
+    first_zero last_one last_zero next_one next_zero previous_one previous_zero find_zeros
+    leading_zeros leading_ones trailing_zeros trailing_ones any not_any not_all split_at split_first
+    split_last iter_ones iter_zeros len is_empty first last try_load_le try_load_be",
+    "BitSliceMut bitvec_slice
+    and_not_from swap shift_left shift_right rotate_right try_swap try_shift_left try_shift_right
+    try_rotate_right as_bitslice",
+    "BitVec bitvec_vec
+    new with_capacity repeat capacity as_bitslice as_mut_bitslice reserve push pop truncate clear
+    insert remove swap_remove split_off resize",
+    "BitArray bitvec_array new as_bitslice as_mut_bitslice",
+    "BitReader bitvec_stream new position remaining skip read_bit read_slice read_unary",
+    "BitWriter bitvec_stream new position remaining written finish skip write_bit",
+    "FreeMap freemap
+    new from_words blocks is_in_use is_free count_free alloc alloc_at_or_after alloc_run
+    alloc_run_aligned reserve free next_free_run iter_free_runs largest_run",
+];
