@@ -45,10 +45,9 @@ fn pointers_compare_as_places<R: BitRegister, O>(
     here: BitPtr<R, O>,
     there: BitPtr<R, O>,
 ) -> Ordering
-    ensures { MatchOrdering result
-        (place_of R.BITS (ptr_of here) <ℤ place_of R.BITS (ptr_of there))
-        (place_of R.BITS (ptr_of here) ≡ place_of R.BITS (ptr_of there))
-        (place_of R.BITS (ptr_of there) <ℤ place_of R.BITS (ptr_of here)) }
+    ensures { let place = place_of R.BITS (ptr_of here) in
+        let other = place_of R.BITS (ptr_of there) in
+        MatchOrdering result (place <ℤ other) (place ≡ other) (other <ℤ place) }
 {
     here.cmp(&there)
 }

@@ -1,3 +1,4 @@
 pub mod Blocks
 pub mod Cursor
 pub mod Orders
+pub mod SpanRuns

@@ -1,19 +1,16 @@
 //! Callers.
 
 ghost use Rattle.std.specs.Prelude.{◌≡◌, ◌<◌, ◌≤◌, ◌↔◌, IfSome, IsTrue, IsFalse, true, false};
-ghost use Rattle.std.specs.Prelude.{[], ◌∷◌, ◌*◌, length, map, slice_set};
+ghost use Rattle.std.specs.Prelude.{◌*◌, length, map, slice_set};
 ghost use Rattle.bitvec.specs.BitSpan.{span_of, list_by};
 ghost use Rattle.bitvec.specs.Memory.{memory_bits};
 ghost use Rattle.bitvec.specs.Place.{region_max_bits};
 ghost use Rattle.bitvec.specs.Span.{Fits, KeepsOthers, element, span_from};
-ghost use Rattle.bitvec.specs.Commands.{reply_number};
-ghost use Rattle.bitvec.specs.Run.{IsRun};
 ghost use Rattle.bitvec.specs.Truths.{ones_in};
-ghost use Rattle.bitvec.specs.declared.run.command.Command.TheVariants.{Replace};
-ghost use Rattle.bitvec.specs.declared.run.command.Reply.TheVariants.{Bit};
 ghost use Rattle.bitvec_slice.specs.BitSlice.{slice_memory, slice_span, slice_bits};
 ghost use Rattle.bitvec_slice.specs.BitSliceMut.{lent_memory, lent_span, lent_bits};
 ghost use Rattle.bitvec_slice.specs.Orders.{lsb0_at, msb0_at};
+ghost use Rattle.tests_slice.specs.SpanRuns.{IsRunFromReplace};
 
 use bitvec::mem::BitRegister;
 use bitvec::order::{BitOrder, Lsb0, Msb0};
@@ -105,10 +102,8 @@ fn set_and_run<R: BitRegister, O: BitOrder<R>>(
     requires fits { Fits R.BITS (span_of span) (length memory.old) }
     requires inside { i < (span_of span).len }
     requires room { length replies.old ≡ length requests.now }
-    ensures { IsRun R.number R.BITS O.at_of span_of (span ∷ []) (map R.number memory.old)
-        (record { span = 0; command = Replace i bit } ∷ requests.now)
-        (Bit (element (list_by span O.at_of memory.old) i)
-        ∷ map (reply_number R.number) replies.new) (map R.number memory.new) }
+    ensures { IsRunFromReplace R.number R.BITS O.at_of span_of span i bit memory.old requests.now
+        replies.new memory.new }
 {
     let mut slice = BitSliceMut::new_unchecked(span, memory);
     slice.set(i, bit);

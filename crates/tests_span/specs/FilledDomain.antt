@@ -2,7 +2,7 @@
 use Rattle.std.specs.Prelude.{ℕ, ◌^◌, ◌-◌, Bool, if◌then◌else◌, List, ◌++◌, length, map, take, drop, replicate, slice_set, Option, Some, None, option_map}
 use Rattle.bitvec_span.specs.Span.{Span}
 use Rattle.bitvec_span.specs.Slot.{Slot, slot_part, edited_word}
-use Rattle.bitvec_span.specs.Loans.{Loan, Loans, words_before, body_words, head_slot, tail_slot}
+use Rattle.bitvec_span.specs.Loans.{Loan, Loans, loan_words, words_before, body_words, head_slot, tail_slot}
 
 -- the word whose bits are all the same
 abbrev pub word_of_bit : ℕ → Bool → ℕ
@@ -16,6 +16,10 @@ filled_slot bits at bit slot words = slice_set words slot.word (edited_word bits
 abbrev pub filled_slot_if : ℕ → (ℕ → ℕ) → Bool → Option Slot → List ℕ → List ℕ
 filled_slot_if bits at bit (Some slot) words = filled_slot bits at bit slot words
 filled_slot_if bits at bit None words = words
+
+-- the numbers of the words behind a loan, where there is one
+abbrev pub loan_numbers : {R : Type 0} → (R → ℕ) → Option (Loan R Slot) → Option (List ℕ)
+loan_numbers number loan = option_map (map number) (option_map loan_words loan)
 
 -- the words behind a loan with each bit of its part made the same
 abbrev pub filled_loan : {R : Type 0} → (R → ℕ) → ℕ → (ℕ → ℕ) → Bool → Loan R Slot → List ℕ

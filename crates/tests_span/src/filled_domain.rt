@@ -5,9 +5,9 @@ ghost use Rattle.std.specs.Prelude.{◌≡◌, length, map, replicate, option_ma
 ghost use Rattle.bitvec_span.specs.Span.{Fits};
 ghost use Rattle.bitvec_span.specs.BitSpan.{span_of, Becomes};
 ghost use Rattle.bitvec_span.specs.PartialElementMut.{memory_of};
-ghost use Rattle.bitvec_span.specs.Loans.{loan_words, words_of_loans};
+ghost use Rattle.bitvec_span.specs.Loans.{words_of_loans};
 ghost use Rattle.bitvec_span.specs.DomainMut.{part_name, part_loan, loan_names, loans_of};
-ghost use Rattle.tests_span.specs.FilledDomain.{word_of_bit, filled_loan, filled_loans};
+ghost use Rattle.tests_span.specs.FilledDomain.{word_of_bit, loan_numbers, filled_loan, filled_loans};
 ghost use Rattle.tests_span.specs.FilledDomain.{filled_memory, numbers_of_words};
 
 use bitvec_mem::mem::BitRegister;
@@ -52,7 +52,7 @@ fn filled_part_if<'a, R: BitRegister, O: BitOrder<R>>(
     bit: bool,
 ) -> Option<PartialElementMut<'a, R, O>>
     ensures reference { part_name result ≡ part_name part.entry }
-    ensures words { option_map (map R.number) (option_map loan_words (option_map part_loan result))
+    ensures words { loan_numbers R.number (option_map part_loan result)
         ≡ option_map (filled_loan R.number R.BITS O.at_of bit) (option_map part_loan part.entry) }
 {
     match part {

@@ -1,11 +1,10 @@
 //! Edits through disjoint spans of one memory, in turn: what a caller knows of each span's list
 //! and of the whole memory. The spans may share words.
 
-ghost use Rattle.std.specs.Prelude.{◌≡◌, ◌≢◌, ℕ, pos, true, false, length, map, replicate};
-ghost use Rattle.std.specs.Prelude.{slice_set};
+ghost use Rattle.std.specs.Prelude.{◌≡◌, ◌≢◌, true, false, length, map, replicate, slice_set};
 ghost use Rattle.bitvec_span.specs.BitSpan.{span_of, list_by};
-ghost use Rattle.bitvec_ptr.specs.Memory.{bit_of};
-ghost use Rattle.bitvec_span.specs.Span.{Fits, Covers, AreDisjoint};
+ghost use Rattle.bitvec_span.specs.Span.{Fits, AreDisjoint};
+ghost use Rattle.tests_span.specs.Outside.{KeepsOutside};
 
 use bitvec_mem::mem::BitRegister;
 use bitvec_order::order::{BitOrder, Lsb0};
@@ -57,10 +56,8 @@ fn edit_three_alone<R: BitRegister, O: BitOrder<R>>(
     requires b { Fits R.BITS (span_of b) (length memory.old) }
     requires c { Fits R.BITS (span_of c) (length memory.old) }
     requires some { (span_of c).len ≢ 0 }
-    ensures { (place : ℕ) → ¬ Covers R.BITS (span_of a) (pos place)
-        → ¬ Covers R.BITS (span_of b) (pos place) → ¬ Covers R.BITS (span_of c) (pos place)
-        → bit_of R.BITS O.at_of (map R.number memory.new) place
-        ≡ bit_of R.BITS O.at_of (map R.number memory.old) place }
+    ensures { KeepsOutside R.BITS O.at_of (span_of a) (span_of b) (span_of c)
+        (map R.number memory.old) (map R.number memory.new) }
 {
     a.fill(memory, true);
     b.fill(memory, false);
