@@ -1,6 +1,6 @@
 -- Commands on one list of bits that starts at the bit `head` of a word. `bits` is the width of a word, `at` takes an index
 -- in a word to its position in the number, and `number` gives the number of a word.
-use Rattle.std.specs.Prelude.{ℕ, ◌+◌, ◌%◌, Bool, true, false, not, ◌&&◌, List, [], ◌∷◌, length, swap, slice_set, if◌then◌else◌, ◌==◌, nat_lt, nat_le, Option, Some, None}
+use Rattle.std.specs.Prelude.{ℕ, ◌+◌, ◌%◌, Bool, true, false, not, ◌&&◌, List, [], ◌∷◌, length, map, swap, slice_set, if◌then◌else◌, ◌==◌, nat_lt, nat_le, Option, Some, None}
 use Rattle.bitvec_mem.specs.Digit.{digit}
 use Rattle.bitvec_ptr.specs.Memory.{list_with_copy}
 use Rattle.bitvec_ptr.specs.Place.{words_met}
@@ -63,3 +63,7 @@ reply_number number (Bit b) = Bit b
 reply_number number Done = Done
 reply_number number PastEnd = PastEnd
 reply_number number NoSpan = NoSpan
+
+-- replies, each with its word as a number
+abbrev pub reply_numbers : {W : Type 0} → (W → ℕ) → List (Reply W) → List (Reply ℕ)
+reply_numbers number replies = map (reply_number number) replies

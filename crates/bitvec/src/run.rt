@@ -9,7 +9,7 @@ ghost use Rattle.std.specs.Prelude.{AllPairs, List, [], ◌∷◌, length, map};
 ghost use Rattle.std.specs.Int.{w64, cast_unsigned};
 ghost use Rattle.bitvec_span.specs.Span.{AreDisjoint, Fits};
 ghost use Rattle.bitvec_span.specs.BitSpan.{span_of};
-ghost use Rattle.bitvec.specs.Commands.{reply_number};
+ghost use Rattle.bitvec.specs.Commands.{reply_number, reply_numbers};
 ghost use Rattle.bitvec.specs.Run.{CanRun, IsRun, IsRising, span_in};
 
 use crate::mem::BitRegister;
@@ -165,8 +165,8 @@ fn key_of<R: BitRegister, O>(spans: &[BitSpan<R, O>], i: usize) -> u128
 // `usize`, as a word before word 0 does, is its greatest.
 #[inline(always)]
 fn near_key_of<R: BitRegister, O>(spans: &[BitSpan<R, O>], i: usize) -> usize
-    ensures { result ≡ min (min (cast_unsigned w64 (span_in span_of spans.now i).word * R.BITS)
-        18446744073709551615 + (span_in span_of spans.now i).head) 18446744073709551615 }
+    ensures { let span = span_in span_of spans.now i in result
+        ≡ min (min (cast_unsigned w64 span.word * R.BITS) usize.MAX + span.head) usize.MAX }
 {
     if i < spans.len() {
         let word = spans[i].address().cast_unsigned();
@@ -317,8 +317,7 @@ pub fn run<R: BitRegister, O: BitOrder<R>>(
     requires can_run { CanRun R.BITS span_of spans.now (length memory.old) }
     requires room { length replies.old ≡ length requests.now }
     ensures { IsRun R.number R.BITS O.at_of span_of spans.now (map R.number memory.old)
-        requests.now (map (reply_number R.number) replies.new)
-        (map R.number memory.new) }
+        requests.now (reply_numbers R.number replies.new) (map R.number memory.new) }
 {
     for n in 0..requests.len() {
         let request = requests[n];

@@ -16,6 +16,19 @@ pub record Candidate : Type 0 where
 abbrev pub candidate : ℕ → (ℕ → ℕ) → (ℕ → ℕ) → (Option ℕ → Option ℕ → ℕ) → Candidate
 candidate width at select mask = record { width = width; at = at; select = select; mask = mask }
 
+-- what an impl of `OrderCandidate` at a register says of itself: its positions, its selectors and its masks
+abbrev pub Members : Type 0
+Members = record { at_of : ℕ → ℕ; select_of : ℕ → ℕ; mask_of : Option ℕ → Option ℕ → ℕ }
+
+-- the candidate of a width, by what its impl says
+abbrev pub candidate_of : ℕ → Members → Candidate
+candidate_of width it = candidate width it.at_of it.select_of it.mask_of
+
+-- the candidates of the six registers, in the order of the scan, by what the six impls say
+abbrev pub candidates : (u8 u16 u32 usize u64 u128 : Members) → List Candidate
+candidates u8 u16 u32 usize u64 u128 =
+    candidate_of 8 u8 ∷ candidate_of 16 u16 ∷ candidate_of 32 u32 ∷ candidate_of 64 usize ∷ candidate_of 64 u64 ∷ candidate_of 128 u128 ∷ []
+
 -- the candidate is an order of its register: its positions are one to one, and its selectors and its masks are those of
 -- its positions
 pub record IsLawful (c : Candidate) : Type 0 where

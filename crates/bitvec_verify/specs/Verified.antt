@@ -2,7 +2,7 @@
 use Rattle.std.specs.Prelude.{◌≡◌, ◌↔◌, ℕ, ◌+◌, Option, Some, None, Result, Ok, Err, IsOk, IfErr, List, [], ◌∷◌, take, All}
 use Rattle.std.specs.Option.{option_map, option_or}
 use Rattle.std.specs.Result.{result_err}
-use Rattle.bitvec_verify.specs.Scan.{Candidate, Fault, wrong_selector, repeated, wrong_mask, IsLawful, first_fault, tests}
+use Rattle.bitvec_verify.specs.Scan.{Candidate, Members, candidates, Fault, wrong_selector, repeated, wrong_mask, IsLawful, first_fault, tests}
 use Rattle.bitvec_verify.specs.declared.verify.OrderFault.{OrderFault}
 use Rattle.bitvec_verify.specs.declared.verify.OrderFault.TheVariants.{Select, Repeated, Mask}
 use Rattle.bitvec_verify.specs.declared.verify.VerifyFault.{VerifyFault}
@@ -39,3 +39,8 @@ pub record Verifies {T : Type 0} (cs : List Candidate) (answer : Result T Verify
   pub lawful : IsOk answer ↔ All IsLawful cs
   pub first : option_map fault_at (result_err answer) ≡ first_faulty cs
   pub before : IfErr answer (λ fault. All IsLawful (take (fault_at fault).0 cs))
+
+-- the same of a type's candidates at `u8`, `u16`, `u32`, `usize`, `u64` and `u128`, in that order, by what its impls say
+abbrev pub VerifiesEach : {T : Type 0} → (u8 u16 u32 usize u64 u128 : Members) → Result T VerifyFault → Type 0
+VerifiesEach u8 u16 u32 usize u64 u128 answer =
+    Verifies (candidates u8 u16 u32 usize u64 u128) answer

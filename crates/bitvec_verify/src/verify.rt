@@ -4,12 +4,12 @@
 //! and then its position; then the masks of each pair of present bounds; then those with an absent
 //! bound.
 
-ghost use Rattle.std.specs.Prelude.{◌≡◌, ⊤, ◌↔◌, ℕ, ◌<◌, ◌≤◌, OnOk, IsOk, [], ◌∷◌};
+ghost use Rattle.std.specs.Prelude.{◌≡◌, ⊤, ◌↔◌, ℕ, ◌<◌, ◌≤◌, OnOk, IsOk};
 ghost use Rattle.bitvec_order.specs.Order.{mask_start, mask_end};
 ghost use Rattle.bitvec_verify.specs.Scan.{candidate, IsLawful, is_repeated, masked, index_tests};
 ghost use Rattle.bitvec_verify.specs.Scan.{start_tests, pair_tests, absent_tests, tests, fault_of};
 ghost use Rattle.bitvec_verify.specs.Scan.{first_fault};
-ghost use Rattle.bitvec_verify.specs.Verified.{fault_in, Verifies};
+ghost use Rattle.bitvec_verify.specs.Verified.{fault_in, VerifiesEach};
 
 use bitvec_mem::mem::BitRegister;
 use bitvec_order::index::{BitEnd, BitIdx, BitMask, BitPos, BitSel};
@@ -260,21 +260,10 @@ where
         + OrderCandidate<usize>
         + OrderCandidate<u64>
         + OrderCandidate<u128>,
-    ensures { let cs =
-        candidate 8 ⟦<O as BitAt<u8>>⟧.at_of
-        ⟦<O as OrderCandidate<u8>>⟧.select_of ⟦<O as OrderCandidate<u8>>⟧.mask_of
-        ∷ candidate 16 ⟦<O as BitAt<u16>>⟧.at_of
-        ⟦<O as OrderCandidate<u16>>⟧.select_of ⟦<O as OrderCandidate<u16>>⟧.mask_of
-        ∷ candidate 32 ⟦<O as BitAt<u32>>⟧.at_of
-        ⟦<O as OrderCandidate<u32>>⟧.select_of ⟦<O as OrderCandidate<u32>>⟧.mask_of
-        ∷ candidate 64 ⟦<O as BitAt<usize>>⟧.at_of
-        ⟦<O as OrderCandidate<usize>>⟧.select_of ⟦<O as OrderCandidate<usize>>⟧.mask_of
-        ∷ candidate 64 ⟦<O as BitAt<u64>>⟧.at_of
-        ⟦<O as OrderCandidate<u64>>⟧.select_of ⟦<O as OrderCandidate<u64>>⟧.mask_of
-        ∷ candidate 128 ⟦<O as BitAt<u128>>⟧.at_of
-        ⟦<O as OrderCandidate<u128>>⟧.select_of ⟦<O as OrderCandidate<u128>>⟧.mask_of
-        ∷ [] in
-        Verifies cs result }
+    ensures { VerifiesEach
+        ⟦<O as OrderCandidate<u8>>⟧ ⟦<O as OrderCandidate<u16>>⟧ ⟦<O as OrderCandidate<u32>>⟧
+        ⟦<O as OrderCandidate<usize>>⟧ ⟦<O as OrderCandidate<u64>>⟧ ⟦<O as OrderCandidate<u128>>⟧
+        result }
 {
     verify_for_type::<u8, O>().map_err(VerifyFault::U8)?;
     verify_for_type::<u16, O>().map_err(VerifyFault::U16)?;
