@@ -9,13 +9,14 @@ use Rattle.std.proofs.lemmas.List.Edits.{split_between, swap_is, length-between,
 use Rattle.std.proofs.lemmas.List.Folds.{sum_by-replicate}
 use Rattle.std.proofs.lemmas.List.Sums.{sum_by-cons, sum_by-append, sum_by-set, sum_by-insert, sum_by-remove}
 use Rattle.bitvec.specs.Digit.{count_below, exclusive_or}
-use Rattle.bitvec.specs.Memory.{zip_with}
+use Rattle.bitvec.specs.Memory.{tabulate, zip_with}
 use Rattle.bitvec.specs.Span.{element, with_filled}
 use Rattle.bitvec.specs.Truths.{ones_in, AllAre}
 use Rattle.bitvec_slice.specs.Bits.{zeros_in, AllBetween, AreFree}
 use Rattle.bitvec_slice.specs.Ranges.{with_range}
 use Rattle.bitvec.proofs.CountLemmas.{count_split, count_both, count_none}
 use Rattle.bitvec.proofs.DigitLemmas.{count_below-same, none_place}
+use Rattle.bitvec.proofs.MemoryLemmas.{length-tabulate}
 
 -- the elements that pass a test, counted by index, are those that std counts
 counted_by : (p : Bool → Bool) (xs : List Bool) → count_below (λ i. p (element xs i)) (length xs) ≡ count_by p xs
@@ -359,8 +360,25 @@ zeros-freed xs from to h k used =
 pub zeros-free : (xs : List Bool) (i count : ℕ) → AreFree xs i count → count ≤ zeros_in xs
 zeros-free xs i count free = omega (arith, zeros-taken xs i (i + count) (omega arith) free.0 free.1)
 
+-- A slice's list is tabulated, so that a search knows its length: element i of it is written, or elements i and j are
+-- exchanged.
+pub ones-set_in : (n : ℕ) (f : ℕ → Bool) (i : ℕ) (b : Bool) → i < n → ones_in (slice_set (tabulate n f) i b) + (if element (tabulate n f) i then 1 else 0) ≡ ones_in (tabulate n f) + (if b then 1 else 0)
+ones-set_in n f i b h = let long = length-tabulate n f in ones-set (tabulate n f) i b (omega arith)
+
+pub zeros-set_in : (n : ℕ) (f : ℕ → Bool) (i : ℕ) (b : Bool) → i < n → zeros_in (slice_set (tabulate n f) i b) + (if element (tabulate n f) i then 0 else 1) ≡ zeros_in (tabulate n f) + (if b then 0 else 1)
+zeros-set_in n f i b h = let long = length-tabulate n f in zeros-set (tabulate n f) i b (omega arith)
+
+pub ones-swap_in : (n : ℕ) (f : ℕ → Bool) (i j : ℕ) → i < n → j < n → ones_in (swap (tabulate n f) i j) ≡ ones_in (tabulate n f)
+ones-swap_in n f i j h k = let long = length-tabulate n f in ones-swap (tabulate n f) i j (omega arith) (omega arith)
+
+pub zeros-swap_in : (n : ℕ) (f : ℕ → Bool) (i j : ℕ) → i < n → j < n → zeros_in (swap (tabulate n f) i j) ≡ zeros_in (tabulate n f)
+zeros-swap_in n f i j h k = let long = length-tabulate n f in zeros-swap (tabulate n f) i j (omega arith) (omega arith)
+
 -- What a search takes for counts: `#[tactic(auto, using(bitvec_slice::proofs::OneCountLemmas::counts))]` on a function.
 pub ruleset counts = (ones-zeros, ones-replicate, zeros-replicate, ones-append, zeros-append, ones-push, zeros-push, ones-insert, zeros-insert, ones-remove, zeros-remove, ones-take, zeros-take, ones-reverse, zeros-reverse, ones-set, zeros-set, ones-swap, zeros-swap, ones-filled, zeros-filled, ones-range, zeros-range, ones-or, ones-and, ones-and_not, ones-xor, ones-none, zeros-none, ones-all, zeros-all, ones-none_between, ones-all_between, ones-taken, ones-freed, zeros-taken, zeros-freed)
 
 -- What it takes beside them where a list is turned over: beside `ones-zeros` these two go on without end, so not by default.
 pub ruleset turned_counts = (ones-map_not, zeros-map_not)
+
+-- The same with the edits of a slice at an index, `set`, `replace` and `swap`: what a caller of slices takes.
+pub ruleset slice_counts = (counts, ones-set_in, zeros-set_in, ones-swap_in, zeros-swap_in)

@@ -1,9 +1,10 @@
 //! How many bits of a slice are one behind an edit: for every register and every lawful order. A
 //! search finds each proof by the lemmas that slices have of counts.
-#![tactic(auto, using(bitvec_slice::proofs::OneCountLemmas::counts))]
+#![tactic(auto, using(bitvec_slice::proofs::OneCountLemmas::slice_counts))]
 
 ghost use Rattle.std.specs.Prelude.{◌≡◌, ◌<◌, ◌+◌, ◌||◌, ◌&&◌, if◌then◌else◌};
 ghost use Rattle.bitvec.specs.Memory.{zip_with};
+ghost use Rattle.bitvec.specs.Span.{element};
 ghost use Rattle.bitvec.specs.Truths.{ones_in};
 ghost use Rattle.bitvec_slice.specs.Bits.{zeros_in};
 ghost use Rattle.bitvec_slice.specs.BitSlice.{slice_len, slice_bits};
@@ -42,7 +43,6 @@ fn ones_in_common<'a, R: BitRegister, O: BitOrder<R>, R2: BitRegister, O2: BitOr
 }
 
 /// Exchanges two bits: as many are one as before.
-#[tactic(auto, using(crate::proofs::CountLemmas::slice_counts))]
 fn exchange<'a, R: BitRegister, O: BitOrder<R>>(
     bits: &mut BitSliceMut<'a, R, O>,
     i: usize,
@@ -56,7 +56,6 @@ fn exchange<'a, R: BitRegister, O: BitOrder<R>>(
 }
 
 /// Writes a bit and returns the one that was there: what was there goes, and what is written comes.
-#[tactic(auto, using(crate::proofs::CountLemmas::slice_counts))]
 fn write_over<'a, R: BitRegister, O: BitOrder<R>>(
     bits: &mut BitSliceMut<'a, R, O>,
     i: usize,
@@ -67,6 +66,23 @@ fn write_over<'a, R: BitRegister, O: BitOrder<R>>(
         ≡ ones_in (lent_bits bits.old) + (if bit then 1 else 0) }
 {
     bits.replace(i, bit)
+}
+
+/// Makes a bit one and exchanges it with another, and returns how many are zero then: one fewer
+/// where it was zero.
+fn mark_and_exchange<'a, R: BitRegister, O: BitOrder<R>>(
+    bits: &mut BitSliceMut<'a, R, O>,
+    i: usize,
+    j: usize,
+) -> usize
+    requires first { i < lent_len bits.old }
+    requires second { j < lent_len bits.old }
+    ensures { result + (if element (lent_bits bits.old) i then 0 else 1)
+        ≡ zeros_in (lent_bits bits.old) }
+{
+    bits.set(i, true);
+    bits.swap(i, j);
+    bits.count_zeros()
 }
 
 /// Turns each bit over: as many are one as were zero.

@@ -1,6 +1,6 @@
 //! How many bits of a vector are one behind an edit: for every register, every lawful order and
 //! every allocator. A search finds each proof by the lemmas that slices have of counts.
-#![tactic(auto, using(bitvec_slice::proofs::OneCountLemmas::counts))]
+#![tactic(auto, using(bitvec_slice::proofs::OneCountLemmas::slice_counts))]
 
 ghost use Rattle.std.specs.Prelude.{◌≡◌, ◌≤◌, ◌<◌, ◌+◌, if◌then◌else◌, length};
 ghost use Rattle.std.specs.Prelude.{IfOk, OnErr, MatchOption};
