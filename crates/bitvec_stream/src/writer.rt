@@ -1,7 +1,7 @@
 //! A writer of numbers that stand one behind the other into a slice of bits.
 
 ghost use Rattle.std.specs.Prelude.{◌≡◌, ◌+◌, ◌*◌, ◌<◌, ◌≤◌, ◌%◌, ◌↔◌, ◌∷◌, ◌++◌, [], IsOk, IfOk};
-ghost use Rattle.std.specs.Prelude.{length, map};
+ghost use Rattle.std.specs.Prelude.{Bool, List, drop, length, map};
 ghost use Rattle.bitvec.specs.BitSpan.{span_of, list_by};
 ghost use Rattle.bitvec.specs.Memory.{memory_bits};
 ghost use Rattle.bitvec.specs.Place.{region_max_bits};
@@ -168,6 +168,33 @@ impl<'a, R: BitRegister, O: BitOrder<R>> BitWriter<'a, R, O> {
     {
         let (written, _) = self.slice().split_at(self.position());
         written
+    }
+
+    /// What was written or passed over behind the first `from` bits of it, for reading. Requires
+    /// that there are as many. Constant time. Not in the Rust crate.
+    ///
+    /// # Examples
+    ///
+    /// ```
+    /// let mut memory = [0x00u8; 2];
+    /// let mut writer = BitWriter::<u8, Lsb0>::all_unchecked(&mut memory);
+    /// writer.write_le(3, 6u8)?;
+    /// let before = writer.position();
+    /// writer.write_le(5, 11u8)?;
+    /// let mut reader = BitReader::new(writer.written_from(before));
+    /// assert_eq!(rt; reader.read_le::<u8>(5), Ok(11));
+    /// assert_eq!(rt; reader.remaining(), 0);
+    /// ```
+    pub fn written_from(&self, from: usize) -> BitSlice<'_, R, O>
+        requires { from ≤ length (written self.now) }
+        ensures bits { slice_bits result ≡ drop from (written self.now) }
+
+        // Behind whatever stood there when `from` bits were written: these are what came since.
+        ensures since { (before bits : List Bool) → length before ≡ from
+            → written self.now ≡ before ++ bits → slice_bits result ≡ bits }
+    {
+        let (_, behind) = self.written().split_at(from);
+        behind
     }
 
     /// The whole slice, with what was written in its first [`position`](BitWriter::position) bits

@@ -2,15 +2,14 @@
 
 ghost use Rattle.std.specs.Prelude.{◌≡◌, ◌↔◌, ◌≤◌, Err, IsOk, IfOk, MatchResult, length, take, drop};
 ghost use Rattle.std.specs.List.{All};
-ghost use Rattle.bitvec_slice.specs.BitSlice.{slice_bits};
-ghost use Rattle.bitvec_stream.specs.Writer.{written, room, Writes};
+ghost use Rattle.bitvec_stream.specs.Writer.{room, Writes};
 ghost use Rattle.example_huffman.specs.Codes.{HasCode};
 ghost use Rattle.example_huffman.specs.Huffman.{lengths_of};
 ghost use Rattle.example_huffman_text.specs.Text.{text_bits, OneText};
 
 use crate::error::EncodeError;
 use crate::text::{decode_into, encode};
-use bitvec_stream::prelude::{BitOrder, BitReader, BitRegister, BitSlice, BitWriter};
+use bitvec_stream::prelude::{BitOrder, BitReader, BitRegister, BitWriter};
 use example_huffman::code::Code;
 
 /// Bits begin with one text of a number of symbols and no other, and what stands behind it is left.
@@ -18,18 +17,6 @@ use example_huffman::code::Code;
 pub fn one_text()
     ensures { OneText }
 {}
-
-// What a writer wrote behind its first `before` bits.
-fn behind<'b, R: BitRegister, O: BitOrder<R>>(
-    writer: &'b BitWriter<'_, R, O>,
-    before: usize,
-) -> BitSlice<'b, R, O>
-    requires { before ≤ length (written writer.now) }
-    ensures { slice_bits result ≡ drop before (written writer.now) }
-{
-    let (_, last) = writer.written().split_at(before);
-    last
-}
 
 /// Writes symbols, and reads what was written into the front of `back`: they are those symbols,
 /// whatever the writer's memory is, and it returns how many. It refuses as [`encode`], and then the
@@ -57,6 +44,6 @@ pub fn there_and_back<R: BitRegister, O: BitOrder<R>>(
 {
     let before = writer.position();
     encode(code, symbols, writer)?;
-    let mut reader = BitReader::new(behind(writer, before));
+    let mut reader = BitReader::new(writer.written_from(before));
     Ok(decode_into(code, &mut reader, back))
 }

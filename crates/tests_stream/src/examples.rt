@@ -96,6 +96,19 @@ fn what_was_written(rt: HostRuntime) -> Result<(), Fail> {
 }
 
 #[test]
+fn what_was_written_since(rt: HostRuntime) -> Result<(), Fail> {
+    let mut memory = [0x00u8; 2];
+    let mut writer = BitWriter::<u8, Lsb0>::all_unchecked(&mut memory);
+    writer.write_le(3, 6u8)?;
+    let before = writer.position();
+    writer.write_le(5, 11u8)?;
+    let mut reader = BitReader::new(writer.written_from(before));
+    assert_eq!(rt; reader.read_le::<u8>(5), Ok(11));
+    assert_eq!(rt; reader.remaining(), 0);
+    Ok(())
+}
+
+#[test]
 fn a_slice_written(rt: HostRuntime) -> Result<(), Fail> {
     let source = [0xA0u8];
     let part = BitSlice::<u8, Msb0>::all_unchecked(&source);

@@ -1,5 +1,4 @@
-use Rattle.std.proofs.Common.{length, drop, refl, sym, ap, ◌∙◌, arith}
-use Rattle.std.proofs.lemmas.List.{drop_at}
+use Rattle.std.proofs.Common.{length, refl, sym, ◌∙◌, arith}
 use Rattle.bitvec_stream.specs.Reader.{unread}
 use Rattle.bitvec_stream.specs.Writer.{written}
 use Rattle.example_huffman.specs.Huffman.{lengths_of}
@@ -13,6 +12,6 @@ returns-clause-value g c =
     let symbols = c.args.symbols.now in
     let before = c.position-before.result in
     let read = c.decode_into.ensures in
-    let text = c.new-reader.ensures.rest ∙ c.behind.ensures ∙ ap (drop before) c.in_ok-encode.ensures.written.0 ∙ drop_at (written c.args.writer.now) (text_bits (lengths_of code) symbols) before (sym c.position-before.ensures.list) in
+    let text = c.new-reader.ensures.rest ∙ c.written_from.ensures.since (written c.args.writer.now) (text_bits (lengths_of code) symbols) (sym c.position-before.ensures.list) c.in_ok-encode.ensures.written.0 in
     read_back (lengths_of code) symbols c.decode_into.new.out (length c.args.back.now) c.decode_into.result (unread c.new-reader.result) (unread c.decode_into.new.reader) code.complete
     (c.in_ok-encode.ensures.accepted.0 refl).0 read.codes (omega arith) read.few c.requires read.ended text read.bits
