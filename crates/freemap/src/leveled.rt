@@ -2,7 +2,7 @@
 //! in a few words.
 
 ghost use Rattle.std.specs.Prelude.{◌≡◌, ◌↔◌, ℕ, ◌+◌, ◌/◌, ◌<◌, ◌≤◌, true, false, IsTrue};
-ghost use Rattle.std.specs.Prelude.{IsFalse, IfSome, MatchOption, List, length, ◌∷◌, ◌++◌};
+ghost use Rattle.std.specs.Prelude.{IsFalse, IfSome, IfNone, MatchOption, List, length, ◌∷◌, ◌++◌};
 ghost use Rattle.bitvec.specs.Span.{element, with_filled};
 ghost use Rattle.bitvec_slice.specs.Bits.{AllBetween, AreFree};
 ghost use Rattle.bitvec_slice.specs.Patterns.{AreFreeFrom};
@@ -319,6 +319,7 @@ impl<'a, O: BitOrder<u64>, S: Level> LeveledMap<'a, O, S> {
         ensures taken { Allocates (map_of self.old) (map_of self.new) 1 result }
         ensures handed { IfSome result (λ at. AreInUse (in_use (map_of self.new)) at 1) }
         ensures owned { OwnsMore (in_use (map_of self.old)) (in_use (map_of self.new)) 1 result }
+        ensures refused { IfNone result (self.new ≡ self.old) }
         ensures lent { level_loans self.new ≡ level_loans self.old }
     {
         let word = self.full.lowest_unmarked()?;
@@ -336,6 +337,7 @@ impl<'a, O: BitOrder<u64>, S: Level> LeveledMap<'a, O, S> {
         ensures taken { Allocates (map_of self.old) (map_of self.new) 1 result }
         ensures handed { IfSome result (λ at. AreInUse (in_use (map_of self.new)) at 1) }
         ensures owned { OwnsMore (in_use (map_of self.old)) (in_use (map_of self.new)) 1 result }
+        ensures refused { IfNone result (self.new ≡ self.old) }
         ensures lent { level_loans self.new ≡ level_loans self.old }
     {
         let at = self.free_from(block)?;
@@ -356,6 +358,7 @@ impl<'a, O: BitOrder<u64>, S: Level> LeveledMap<'a, O, S> {
         ensures handed { IfSome result (λ at. AreInUse (in_use (map_of self.new)) at count) }
         ensures owned { OwnsMore (in_use (map_of self.old)) (in_use (map_of self.new)) count
             result }
+        ensures refused { IfNone result (self.new ≡ self.old) }
         ensures lent { level_loans self.new ≡ level_loans self.old }
     {
         let at = self.first_run(count)?;
@@ -377,6 +380,7 @@ impl<'a, O: BitOrder<u64>, S: Level> LeveledMap<'a, O, S> {
         ensures handed { IfSome result (λ at. AreInUse (in_use (map_of self.new)) at count) }
         ensures owned { OwnsMore (in_use (map_of self.old)) (in_use (map_of self.new)) count
             result }
+        ensures refused { IfNone result (self.new ≡ self.old) }
         ensures lent { level_loans self.new ≡ level_loans self.old }
     {
         let at = self.lowest_run(count, alignment)?;
