@@ -1,2 +1,3 @@
+pub mod LongerRuns
 pub mod SameLists
 pub mod SameRuns

@@ -1,18 +1,16 @@
 //! Laws of runs: what each says of any two calls of `run`.
 
-ghost use Rattle.std.specs.Prelude.{◌≡◌, ◌^◌, ◌<◌, All, length, map, ◌++◌, ◌∷◌, true, Some};
-ghost use Rattle.std.specs.Prelude.{slice_get};
+ghost use Rattle.std.specs.Prelude.{◌≡◌, ◌^◌, ◌<◌, All, length, map};
 ghost use Rattle.std.specs.List.{AllZip};
 ghost use Rattle.bitvec.specs.Memory.{memory_bits};
 ghost use Rattle.bitvec.specs.BitSpan.{span_of};
-ghost use Rattle.bitvec.specs.Commands.{reply_number};
-ghost use Rattle.bitvec.specs.Run.{CanRun, IsRun};
-ghost use Rattle.bitvec.specs.declared.run.command.Command.TheVariants.{Fill};
-ghost use Rattle.bitvec.specs.declared.run.command.Reply.TheVariants.{Done};
-ghost use Rattle.tests_bitvec.specs.SameLists.{numbered, HaveSameLists, OwnRepliesAre};
+ghost use Rattle.bitvec.specs.Commands.{reply_numbers};
+ghost use Rattle.bitvec.specs.Run.{CanRun};
+ghost use Rattle.tests_bitvec.specs.LongerRuns.{IsRunOfBoth, IsRunFromFill};
+ghost use Rattle.tests_bitvec.specs.SameLists.{HaveSameLists, RepliesAgree};
 ghost use Rattle.tests_bitvec.specs.SameRuns.{OrderBetweenSpansDoesNotMatter, RunsJoin};
 ghost use Rattle.tests_bitvec.specs.SameRuns.{RunsAreCut};
-ghost use Rattle.bitvec.specs.Laws.{AreSameRequests, AreSameReplies, IsSameNumber, IsTurned};
+ghost use Rattle.bitvec.specs.Laws.{AreSameRequests, IsSameNumber, IsTurned};
 ghost use Rattle.bitvec.specs.Laws.{IsBitCommand, HaveSameOwnCommands};
 ghost use Rattle.bitvec.specs.Laws.{HaveSameOwnReplies};
 
@@ -44,9 +42,8 @@ fn run_bit_commands<R: BitRegister, O: BitOrder<R>, R2: BitRegister, O2: BitOrde
     requires bit_commands { All (λ request. IsBitCommand request.command) requests.now }
     requires same_requests { AllZip (AreSameRequests R.number R2.number IsSameNumber) requests.now
         other_requests.now }
-    ensures same_replies { OwnRepliesAre (AreSameReplies IsSameNumber) (length spans.now)
-        requests.now (numbered R.number replies.new) other_requests.now (numbered R2.number
-        other_replies.new) }
+    ensures same_replies { RepliesAgree IsSameNumber (length spans.now) R.number requests.now
+        replies.new R2.number other_requests.now other_replies.new }
     ensures same_lists { HaveSameLists R.BITS O.at_of span_of spans.now (map R.number here.new)
         R2.BITS O2.at_of span_of other_spans.now (map R2.number there.new) }
 {
@@ -78,9 +75,8 @@ fn run_turned<R: BitRegister, O: BitOrder<R>, O2: BitOrder<R>>(
     requires same_requests { AllZip
         (AreSameRequests R.number R.number (IsTurned R.BITS O.at_of O2.at_of)) requests.now
         other_requests.now }
-    ensures same_replies { OwnRepliesAre (AreSameReplies (IsTurned R.BITS O.at_of O2.at_of)) (length
-        spans.now) requests.now (numbered R.number replies.new) other_requests.now (numbered
-        R.number other_replies.new) }
+    ensures same_replies { RepliesAgree (IsTurned R.BITS O.at_of O2.at_of) (length spans.now)
+        R.number requests.now replies.new R.number other_requests.now other_replies.new }
     ensures same_lists { HaveSameLists R.BITS O.at_of span_of spans.now (map R.number here.new)
         R.BITS O2.at_of span_of other_spans.now (map R.number there.new) }
 {
@@ -122,8 +118,9 @@ fn run_in_two_orders<R: BitRegister, O: BitOrder<R>>(
     requires same_memory { here.old ≡ there.old }
     requires same_commands { HaveSameOwnCommands (length spans.now) requests.now
         other_requests.now }
-    ensures same_replies { HaveSameOwnReplies (length spans.now) requests.now (numbered R.number
-        replies.new) other_requests.now (numbered R.number other_replies.new) }
+    ensures same_replies { HaveSameOwnReplies (length spans.now)
+        requests.now (reply_numbers R.number replies.new)
+        other_requests.now (reply_numbers R.number other_replies.new) }
     ensures same_memory { here.new ≡ there.new }
 {
     order_between_spans_does_not_matter::<R, O>();
@@ -152,9 +149,8 @@ fn run_on<R: BitRegister, O: BitOrder<R>>(
     requires can_run { CanRun R.BITS span_of spans.now (length memory.old) }
     requires room { length replies.old ≡ length requests.now }
     requires other_room { length others.old ≡ length more.now }
-    ensures { IsRun R.number R.BITS O.at_of span_of spans.now (map R.number memory.old)
-        (requests.now ++ more.now) (numbered R.number replies.new ++ numbered R.number others.new)
-        (map R.number memory.new) }
+    ensures { IsRunOfBoth R.number R.BITS O.at_of span_of spans.now memory.old requests.now more.now
+        replies.new others.new memory.new }
 {
     run(spans, memory, requests, replies);
     run(spans, memory, more, others);
@@ -170,10 +166,8 @@ fn fill_and_run<R: BitRegister, O: BitOrder<R>>(
     requires can_run { CanRun R.BITS span_of spans.now (length memory.old) }
     requires some { 0 < length spans.now }
     requires room { length replies.old ≡ length requests.now }
-    ensures { (span : _) → slice_get spans.now 0 ≡ Some span
-        → IsRun R.number R.BITS O.at_of span_of spans.now (map R.number memory.old)
-        (record { span = 0; command = Fill 0 (span_of span).len true } ∷ requests.now)
-        (Done ∷ map (reply_number R.number) replies.new) (map R.number memory.new) }
+    ensures { IsRunFromFill R.number R.BITS O.at_of span_of spans.now memory.old requests.now
+        replies.new memory.new }
 {
     spans[0].fill(memory, true);
     run(spans, memory, requests, replies);
