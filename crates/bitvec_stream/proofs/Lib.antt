@@ -6,6 +6,7 @@ mod KeepLemmas
 mod KnownLemmas
 mod MultipleLemmas
 mod ReadLemmas
+pub mod ReadBackLemmas
 pub mod RowLemmas
 pub mod SignedGolombLemmas
 mod TurnedLemmas

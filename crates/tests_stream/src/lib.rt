@@ -2,6 +2,8 @@
 #![tactic(auto)]
 
 #[cfg(test)]
+mod back;
+#[cfg(test)]
 mod callers;
 #[cfg(test)]
 mod codes;
