@@ -171,11 +171,13 @@ static uint64_t model_complement(size_t count, int64_t number) {
 #define NEXT MODEL_JOIN(model_next, _u, MODEL_BITS)
 #define READABLE MODEL_JOIN(model_readable, _u, MODEL_BITS)
 #define FIRST MODEL_JOIN(model_first, _u, MODEL_BITS)
+#define SUMMED MODEL_JOIN(model_summed, _u, MODEL_BITS)
 #define MADE MODEL_JOIN(model_made, _u, MODEL_BITS)
 #define HELD MODEL_JOIN(model_held, _u, MODEL_BITS)
 #define PARTED MODEL_JOIN(model_parted, _u, MODEL_BITS)
 #define ONLY MODEL_JOIN(model_only, _u, MODEL_BITS)
 #define CODE MODEL_JOIN(model_code, _u, MODEL_BITS)
+#define PUT_BITS MODEL_JOIN(model_put_bits, _u, MODEL_BITS)
 #define PUT_CODE MODEL_JOIN(model_put_code, _u, MODEL_BITS)
 #define SPANS MODEL_JOIN(model_spans, _u, MODEL_BITS)
 #define PLACE MODEL_JOIN(model_place, _u, MODEL_BITS)
@@ -985,7 +987,10 @@ uint8_t MODEL(write)(uint8_t order, bool big_endian, WORD *memory, size_t words,
         return status;
     size_t from = *place;
     GIVEN(true, big_endian, order, memory, words, from, count, number);
+    //@ ghost Done: ;
     *place = from + count;
+    //@ assert kept: KEPT{Done, Here}(memory, words);
+    //@ assert same: OTHERS{Done, Here}(order, memory, words, 0, 0);
     return status;
 }
 
@@ -1006,7 +1011,10 @@ uint8_t MODEL(write_signed)(uint8_t order, bool big_endian, WORD *memory, size_t
         return status;
     size_t from = *place;
     GIVEN(true, big_endian, order, memory, words, from, count, model_complement(count, number));
+    //@ ghost Done: ;
     *place = from + count;
+    //@ assert kept: KEPT{Done, Here}(memory, words);
+    //@ assert same: OTHERS{Done, Here}(order, memory, words, 0, 0);
     return status;
 }
 
@@ -1047,7 +1055,10 @@ uint8_t MODEL(write_unary)(uint8_t order, WORD *memory, size_t words, size_t *pl
     for (size_t i = 0; i < count; i++)
         PUT(order, memory, from + i, bit);
     PUT(order, memory, from + count, !bit);
+    //@ ghost Done: ;
     *place = from + count + 1;
+    //@ assert kept: KEPT{Done, Here}(memory, words);
+    //@ assert same: OTHERS{Done, Here}(order, memory, words, 0, 0);
     return status;
 }
 
@@ -1207,6 +1218,21 @@ uint8_t MODEL(write_unary)(uint8_t order, WORD *memory, size_t words, size_t *pl
   }
 */
 
+/* So of a power of two and a number below it. */
+/*@ ghost
+  /@ requires start + zeros + 1 < 18446744073709551615;
+   @ requires NUMBER{Pre}(1, 1, order, memory, start, zeros + 1, zeros + 1) == power_of_two(zeros) + low;
+   @ assigns \nothing;
+   @ ensures \forall integer p; start <= p <= start + zeros ==>
+   @   (BIT{Pre}(order, memory, p) <==> digit_of(power_of_two(zeros) + low, start + zeros - p));
+   @/
+  void SUMMED(uint8_t order, const WORD *memory, size_t start, size_t zeros, uint64_t low) {
+      HELD(order, memory, start, zeros + 1);
+      /@ assert own: \forall integer p; start <= p <= start + zeros ==> (BIT{Pre}(order, memory, p) <==>
+       @   digit_of(NUMBER{Pre}(1, 1, order, memory, start, zeros + 1, zeros + 1), start + zeros - p)); @/
+  }
+*/
+
 /* What makes a code. */
 /*@ ghost
   /@ requires digit_count(power_of_two(zeros) + low) == zeros + 1 && 2 * zeros + 1 <= left;
@@ -1351,7 +1377,42 @@ uint8_t MODEL(read_signed_exp_golomb)(uint8_t order, const WORD *memory, size_t 
     return status;
 }
 
-/* Writes a code: as many zeros as are said, a one, and as many digits. */
+/* Makes the bits from a place on a code: as many zeros as are said, a one, and as many digits. */
+/*@ requires order <= 1 && \valid(memory + (0 .. words - 1));
+  @ requires from + 2 * zeros + 1 <= end <= words * MODEL_BITS <= 18446744073709551615;
+  @ requires zeros <= 64 && low < power_of_two(zeros);
+  @ assigns memory[0 .. words - 1];
+  @ ensures range: IS_CODE{Post}(order, memory, from, end - from, power_of_two(zeros) + low - 1);
+  @ ensures others: OTHERS{Pre, Post}(order, memory, words, from, 2 * zeros + 1);
+  @*/
+static void PUT_BITS(uint8_t order, WORD *memory, size_t words, size_t from, size_t end, size_t zeros, uint64_t low) {
+    //@ ghost model_length(zeros);
+    //@ assert digits: digit_count(power_of_two(zeros) + low) == zeros + 1;
+    (void)end;
+    size_t one = from + zeros;
+    /*@ loop invariant 0 <= i <= zeros;
+      @ loop invariant \forall integer p; from <= p < from + i ==> !BIT{Here}(order, memory, p);
+      @ loop invariant OTHERS{Pre, Here}(order, memory, words, from, i);
+      @ loop assigns i, memory[0 .. words - 1];
+      @ loop variant zeros - i;
+      @*/
+    for (size_t i = 0; i < zeros; i++)
+        PUT(order, memory, from + i, false);
+    PUT(order, memory, one, true);
+    GIVEN(true, true, order, memory, words, one + 1, zeros, low);
+    //@ assert first: BIT{Here}(order, memory, one);
+    //@ assert zeros: \forall integer p; from <= p < one ==> !BIT{Here}(order, memory, p);
+    //@ assert given: HOLDS{Here}(1, 1, order, memory, one + 1, zeros, low);
+    //@ assert low: NUMBER{Here}(1, 1, order, memory, one + 1, zeros, zeros) == low;
+    //@ ghost PARTED(order, memory, one, zeros);
+    //@ assert value: NUMBER{Here}(1, 1, order, memory, one, zeros + 1, zeros + 1) == power_of_two(zeros) + low;
+    //@ ghost SUMMED(order, memory, one, zeros, low);
+    /*@ assert held: \forall integer p; one <= p <= one + zeros ==>
+      @   (BIT{Here}(order, memory, p) <==> digit_of(power_of_two(zeros) + low, one + zeros - p)); */
+    //@ ghost MADE(order, memory, from, end - from, zeros, low);
+}
+
+/* Writes such a code, where it has room. */
 /*@ requires \valid(memory + (0 .. words - 1)) && \valid(place) && \separated(memory + (0 .. words - 1), place);
   @ requires zeros <= 64 && low < power_of_two(zeros);
   @ assigns memory[0 .. words - 1], *place;
@@ -1373,28 +1434,12 @@ static uint8_t PUT_CODE(uint8_t order, WORD *memory, size_t words, size_t *place
         status = BITVEC_TOO_FEW;
     if (status != BITVEC_OK)
         return status;
-    size_t from = *place, one = from + zeros;
-    /*@ loop invariant 0 <= i <= zeros;
-      @ loop invariant \forall integer p; from <= p < from + i ==> !BIT{Here}(order, memory, p);
-      @ loop invariant OTHERS{Pre, Here}(order, memory, words, from, i);
-      @ loop assigns i, memory[0 .. words - 1];
-      @ loop variant zeros - i;
-      @*/
-    for (size_t i = 0; i < zeros; i++)
-        PUT(order, memory, from + i, false);
-    PUT(order, memory, one, true);
-    GIVEN(true, true, order, memory, words, one + 1, zeros, low);
-    //@ assert first: BIT{Here}(order, memory, one);
-    //@ assert zeros: \forall integer p; from <= p < one ==> !BIT{Here}(order, memory, p);
-    //@ assert given: HOLDS{Here}(1, 1, order, memory, one + 1, zeros, low);
-    //@ assert low: NUMBER{Here}(1, 1, order, memory, one + 1, zeros, zeros) == low;
-    //@ ghost PARTED(order, memory, one, zeros);
-    //@ ghost HELD(order, memory, one, zeros + 1);
-    //@ assert value: NUMBER{Here}(1, 1, order, memory, one, zeros + 1, zeros + 1) == power_of_two(zeros) + low;
-    /*@ assert held: \forall integer p; one <= p <= one + zeros ==>
-      @   (BIT{Here}(order, memory, p) <==> digit_of(power_of_two(zeros) + low, one + zeros - p)); */
-    //@ ghost MADE(order, memory, from, end - from, zeros, low);
+    size_t from = *place;
+    PUT_BITS(order, memory, words, from, end, zeros, low);
+    //@ ghost Done: ;
     *place = from + 2 * zeros + 1;
+    //@ assert kept: KEPT{Done, Here}(memory, words);
+    //@ assert same: OTHERS{Done, Here}(order, memory, words, 0, 0);
     return status;
 }
 
@@ -1435,8 +1480,10 @@ static uint8_t SPANS(size_t words, const struct bitvec_span *spans, size_t count
       @ loop variant count - i;
       @*/
     for (size_t i = 0; i < count; i++)
-        if (spans[i].count > BITVEC_MAX_BITS)
+        if (spans[i].count > BITVEC_MAX_BITS) {
+            //@ assert too_long: !short_spans{Here}(spans, count);
             return BITVEC_TOO_LONG;
+        }
     /*@ loop invariant 0 <= i <= count;
       @ loop invariant inside_spans{Here}(MODEL_BITS, words, spans, i);
       @ loop invariant 0 < i ==> words * MODEL_BITS <= 18446744073709551615;
@@ -1444,8 +1491,10 @@ static uint8_t SPANS(size_t words, const struct bitvec_span *spans, size_t count
       @ loop variant count - i;
       @*/
     for (size_t i = 0; i < count; i++)
-        if (STATUS(0, words, spans[i].start, spans[i].count) != BITVEC_OK)
+        if (STATUS(0, words, spans[i].start, spans[i].count) != BITVEC_OK) {
+            //@ assert outside: !inside_spans{Here}(MODEL_BITS, words, spans, count);
             return BITVEC_OUTSIDE;
+        }
     /*@ loop invariant 0 <= k <= count;
       @ loop invariant apart_spans{Here}(spans, k);
       @ loop assigns k;
@@ -1460,8 +1509,10 @@ static uint8_t SPANS(size_t words, const struct bitvec_span *spans, size_t count
           @*/
         for (size_t j = 0; j < k; j++)
             if (spans[j].count != 0 && spans[k].count != 0 && spans[k].start < spans[j].start + spans[j].count &&
-                spans[j].start < spans[k].start + spans[k].count)
+                spans[j].start < spans[k].start + spans[k].count) {
+                //@ assert common: !apart_spans{Here}(spans, count);
                 return BITVEC_OVERLAP;
+            }
     }
     return BITVEC_OK;
 }
