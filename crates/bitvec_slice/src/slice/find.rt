@@ -125,6 +125,10 @@ impl<'a, R: BitRegister, O: BitOrder<R>> BitSlice<'a, R, O> {
         ensures end { result ≤ end }
         ensures words { SliceHasDigits self.now lacking k result }
     {
+        // (often the next word has what is sought)
+        if k == end || !self.has_digits(k, lacking) {
+            return k;
+        }
         let mut at = self.pass_eights(k, end, lacking);
         while at < end && self.has_digits(at, lacking) {
             at += 1;
@@ -164,6 +168,9 @@ impl<'a, R: BitRegister, O: BitOrder<R>> BitSlice<'a, R, O> {
         ensures end { result ≤ end }
         ensures words { SliceHasDigits self.now lacking result end }
     {
+        if start == end || !self.has_digits(end - 1, lacking) {
+            return end;
+        }
         let mut at = self.pass_eights_back(start, end, lacking);
         while start < at && self.has_digits(at - 1, lacking) {
             at -= 1;
