@@ -1,10 +1,8 @@
 //! Callers of the codes and of unary numbers, with what they know of the bits.
 
-ghost use Rattle.std.specs.Prelude.{◌≡◌, ◌*◌, ◌^◌, ◌≤◌, ◌++◌, ◌∷◌, [], true, false, map};
-ghost use Rattle.std.specs.Prelude.{◌<◌, ◌↔◌, IsOk};
-ghost use Rattle.std.specs.Prelude.{MatchOption, MatchResult, IfOk, IfErr, drop, length, replicate};
+ghost use Rattle.std.specs.Prelude.{◌≡◌, ◌*◌, ◌^◌, ◌≤◌, ◌++◌, ◌<◌, ◌↔◌, map};
+ghost use Rattle.std.specs.Prelude.{MatchOption, MatchResult, IsOk, IfOk, IfErr, drop, length};
 ghost use Rattle.bitvec.specs.BitSpan.{span_of, list_by, Becomes};
-ghost use Rattle.bitvec.specs.Memory.{memory_bits};
 ghost use Rattle.bitvec.specs.Place.{region_max_bits};
 ghost use Rattle.bitvec.specs.Span.{Fits};
 ghost use Rattle.bitvec.specs.Truths.{AllAre};
@@ -17,7 +15,7 @@ ghost use Rattle.bitvec_stream.specs.Numbers.{digits_be};
 ghost use Rattle.bitvec_stream.specs.Reader.{unread};
 ghost use Rattle.bitvec_stream.specs.Refusals.{IsCodeRefusal};
 ghost use Rattle.bitvec_stream.specs.Writer.{written, room};
-ghost use Rattle.tests_stream.specs.Starts.{with_start, HasWritten};
+ghost use Rattle.tests_stream.specs.Starts.{with_start, zeros_and_one, HasNewStart, HasWritten, HasNoRoom};
 
 use bitvec::mem::BitRegister;
 use bitvec::order::BitOrder;
@@ -91,8 +89,9 @@ fn write_signed_code<R: BitRegister, O: BitOrder<R>>(
     writer: &mut BitWriter<'_, R, O>,
     number: i32,
 ) -> Result<(), WriteError>
-    ensures { MatchResult result (λ _. HasWritten writer.old writer.new (golomb (signed_place
-        number))) (λ error. (error ≡ WriteError.NoRoom) × (writer.new ≡ writer.old)) }
+    ensures { MatchResult result
+        (λ _. HasWritten writer.old writer.new (golomb (signed_place number)))
+        (HasNoRoom writer.old writer.new) }
 {
     writer.write_signed_exp_golomb(number)
 }
@@ -102,8 +101,9 @@ fn write_zeros<R: BitRegister, O: BitOrder<R>>(
     writer: &mut BitWriter<'_, R, O>,
     count: usize,
 ) -> Result<(), WriteError>
-    ensures { MatchResult result (λ _. HasWritten writer.old writer.new (replicate count false ++
-        (true ∷ []))) (λ error. (length (room writer.old) ≤ count) × (writer.new ≡ writer.old)) }
+    ensures { MatchResult result
+        (λ _. HasWritten writer.old writer.new (zeros_and_one count))
+        (λ error. (length (room writer.old) ≤ count) × (writer.new ≡ writer.old)) }
 {
     if writer.remaining() <= count {
         return Err(WriteError::NoRoom);
@@ -140,8 +140,8 @@ fn put_first<R: BitRegister, O: BitOrder<R>>(
     requires few { count ≤ 64 }
     ensures accepted { IsOk result
         ↔ ((number < 2 ^ count) × (count ≤ length memory.old * R.BITS)) }
-    ensures written { IfOk result (λ _. memory_bits R.BITS O.at_of (map R.number memory.new) ≡
-        with_start (memory_bits R.BITS O.at_of (map R.number memory.old)) (digits_be count number)) }
+    ensures written { IfOk result (λ _. HasNewStart R.BITS O.at_of (map R.number memory.old)
+        (map R.number memory.new) (digits_be count number)) }
     ensures kept { IfErr result (λ _. memory.new ≡ memory.old) }
 {
     let mut writer = BitWriter::<R, O>::all_unchecked(memory);

@@ -1,15 +1,14 @@
 //! A header of five numbers, each in a way of its own, that is written and read.
 
 ghost use Rattle.std.specs.Prelude.{◌≡◌, ◌↔◌, ◌++◌, IsOk, IsSome, IfOk, IfSome, MatchResult};
-ghost use Rattle.std.specs.Prelude.{Bool, List, length};
+ghost use Rattle.std.specs.Prelude.{length};
 ghost use Rattle.bitvec.specs.BitSpan.{span_of};
 ghost use Rattle.bitvec.specs.Span.{Fits};
-ghost use Rattle.bitvec_stream.specs.Items.{AreRead, items_bits};
+ghost use Rattle.bitvec_stream.specs.Items.{items_bits};
 ghost use Rattle.bitvec_stream.specs.Reader.{unread};
 ghost use Rattle.bitvec_stream.specs.Writer.{written, room};
-ghost use Rattle.tests_stream.specs.Header.{header_ways, header_values, header_items};
-ghost use Rattle.tests_stream.specs.Header.{HasItsTypes, CanBePut};
-ghost use Rattle.tests_stream.specs.declared.header.Header.{Header};
+ghost use Rattle.tests_stream.specs.Header.{header_items, BeginWithHeader, BeginWithNoHeader};
+ghost use Rattle.tests_stream.specs.Header.{CanBePut};
 
 use bitvec::mem::BitRegister;
 use bitvec::order::BitOrder;
@@ -57,9 +56,8 @@ fn read_header<R: BitRegister, O: BitOrder<R>>(
     reader: &mut BitReader<'_, R, O>,
 ) -> Result<Header, ReadError>
     ensures { MatchResult result
-        (λ it. AreRead header_ways (unread reader.old) (header_values it) (unread reader.new))
-        (λ _. (it : Header) (left : List Bool) → HasItsTypes it
-        → ¬ AreRead header_ways (unread reader.old) (header_values it) left) }
+        (λ it. BeginWithHeader (unread reader.old) it (unread reader.new))
+        (λ _. BeginWithNoHeader (unread reader.old)) }
 {
     let version = reader.read_be(4)?;
     let kind = reader.read_le(12)?;

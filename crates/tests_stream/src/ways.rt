@@ -39,9 +39,10 @@ fn two_signed<R: BitRegister, O: BitOrder<R>>(
     reader: &mut BitReader<'_, R, O>,
 ) -> Result<(i8, i8), ReadError>
     ensures accepted { IsOk result ↔ (16 ≤ length (unread reader.old)) }
-    ensures numbers { let bits = unread reader.old
-        in IfOk result (λ it. (it.0 ≡ signed_of 8 (number_be (take 8 bits)))
-        × (it.1 ≡ signed_of 8 (number_le (take 8 (drop 8 bits))))) }
+    ensures first { IfOk result (λ it. it.0
+        ≡ signed_of 8 (number_be (take 8 (unread reader.old)))) }
+    ensures second { IfOk result (λ it. it.1
+        ≡ signed_of 8 (number_le (take 8 (drop 8 (unread reader.old))))) }
 {
     let highest_first = reader.read_signed_be(8)?;
     let lowest_first = reader.read_signed_le(8)?;
