@@ -13,3 +13,8 @@ IsPrime n = (1 < n) × ((d : ℕ) → 1 < d → d < n → ¬ (n % d ≡ 0))
 -- element n of a list is true exactly where P holds of n
 abbrev pub IsSetOf : (ℕ → Type 0) → List Bool → Type 0
 IsSetOf P xs = (n : ℕ) → n < length xs → (element xs n ≡ true) ↔ P n
+
+-- one list has the numbers of another, but for the multiples of a number that are greater than it
+abbrev pub LacksMultiples : ℕ → (old new : List Bool) → Type 0
+LacksMultiples number old new =
+    (n : ℕ) → n < length old → (element new n ≡ true) ↔ ((element old n ≡ true) × (¬ ((number < n) × (n % number ≡ 0))))

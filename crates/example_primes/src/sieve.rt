@@ -1,13 +1,11 @@
 //! A set of numbers as a vector in which bit n says whether n is in it: a sieve, and the numbers
 //! that it leaves.
 
-ghost use Rattle.std.specs.Prelude.{◌≡◌, ◌<◌, ◌≤◌, ◌%◌, ◌↔◌, ℕ, IfOk, OnErr, true, length};
-ghost use Rattle.std.specs.Prelude.{Contains};
+ghost use Rattle.std.specs.Prelude.{◌≡◌, ◌<◌, ◌≤◌, ◌↔◌, ℕ, IfOk, OnErr, Contains, length};
 ghost use Rattle.std.specs.List.Sorted.{IsStrictlyIncreasing};
-ghost use Rattle.bitvec.specs.Span.{element};
 ghost use Rattle.bitvec_slice.specs.Bits.{ones_between};
 ghost use Rattle.bitvec_vec.specs.BitVec.{vec_bits};
-ghost use Rattle.example_primes.specs.Primes.{IsPrime, IsSetOf};
+ghost use Rattle.example_primes.specs.Primes.{IsPrime, IsSetOf, LacksMultiples};
 
 use bitvec::order::Lsb0;
 use bitvec_slice::slice::ReadBits;
@@ -18,9 +16,7 @@ use std::alloc::{AllocError, Global};
 fn take_multiples(set: &mut BitVec<u64, Lsb0>, number: usize)
     requires { 1 < number }
     ensures len { length (vec_bits set.new) ≡ length (vec_bits set.old) }
-    ensures out { let old = vec_bits set.old in (n : ℕ) → n < length old
-        → (element (vec_bits set.new) n ≡ true)
-        ↔ ((element old n ≡ true) × (¬ ((number < n) × (n % number ≡ 0)))) }
+    ensures out { LacksMultiples number (vec_bits set.old) (vec_bits set.new) }
 {
     let len = set.len();
     for times in 2..len / number + 1 {
