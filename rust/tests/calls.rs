@@ -726,12 +726,12 @@ mod cases {
             1 => number::<T, O, u16>(random, false, 16),
             2 => number::<T, O, u32>(random, false, 32),
             3 => number::<T, O, u64>(random, false, 64),
-            4 => number::<T, O, usize>(random, false, 64),
+            4 => number::<T, O, usize>(random, false, usize::BITS as usize),
             5 => number::<T, O, i8>(random, true, 8),
             6 => number::<T, O, i16>(random, true, 16),
             7 => number::<T, O, i32>(random, true, 32),
             8 => number::<T, O, i64>(random, true, 64),
-            _ => number::<T, O, isize>(random, true, 64),
+            _ => number::<T, O, isize>(random, true, usize::BITS as usize),
         }
     }
 }

@@ -602,10 +602,11 @@ fn what_is_held_is_written_where_a_call_panics() {
 
 #[test]
 fn numbers_of_usize() {
-    let words = [usize::MAX - 1, 1 << 63, 7 << 59];
+    const WIDTH: usize = usize::BITS as usize;
+    let words = [usize::MAX - 1, 1 << (WIDTH - 1), 7 << (WIDTH - 5)];
     let mut reader = BitReader::new(words.view_bits::<Msb0>());
-    assert_eq!(reader.read_be::<usize>(64), Ok(usize::MAX - 1));
-    assert_eq!(reader.read_be::<isize>(64), Ok(isize::MIN));
+    assert_eq!(reader.read_be::<usize>(WIDTH), Ok(usize::MAX - 1));
+    assert_eq!(reader.read_be::<isize>(WIDTH), Ok(isize::MIN));
     assert_eq!(reader.read_exp_golomb::<usize>(), Ok(6));
 }
 
@@ -640,13 +641,17 @@ fn codes_past_a_narrow_type() {
 
 #[test]
 fn numbers_of_usize_are_written() {
+    const WIDTH: usize = usize::BITS as usize;
     let mut words = [0_usize; 3];
     let mut writer = BitWriter::new(words.view_bits_mut::<Msb0>());
-    assert_eq!(writer.write_be(64, usize::MAX - 1), Ok(()));
-    assert_eq!(writer.write_be(63, isize::MIN), Err(Refusal::TooLarge));
-    assert_eq!(writer.write_be(64, isize::MIN), Ok(()));
+    assert_eq!(writer.write_be(WIDTH, usize::MAX - 1), Ok(()));
+    assert_eq!(
+        writer.write_be(WIDTH - 1, isize::MIN),
+        Err(Refusal::TooLarge)
+    );
+    assert_eq!(writer.write_be(WIDTH, isize::MIN), Ok(()));
     assert_eq!(writer.write_exp_golomb(6_usize), Ok(()));
-    assert_eq!(words, [usize::MAX - 1, 1 << 63, 7 << 59]);
+    assert_eq!(words, [usize::MAX - 1, 1 << (WIDTH - 1), 7 << (WIDTH - 5)]);
 }
 
 #[test]

@@ -13,7 +13,7 @@ use worghulen::{Lsb0, Msb0, Order, Refusal, Register};
 pub const CASES: usize = 10_000;
 
 /// How many bits a range has at most.
-pub const MAX_BITS: usize = 2_305_843_009_213_693_951;
+pub const MAX_BITS: usize = usize::MAX >> 3;
 
 /// A word whose digits the model can read and write.
 pub trait Word: Register + Eq + Debug {
