@@ -1237,12 +1237,13 @@ uint8_t MODEL(write_unary)(uint8_t order, WORD *memory, size_t words, size_t *pl
 /*@ ghost
   /@ requires digit_count(power_of_two(zeros) + low) == zeros + 1 && 2 * zeros + 1 <= left;
    @ requires \forall integer p; place <= p < place + zeros ==> !BIT{Pre}(order, memory, p);
-   @ requires \forall integer p; place + zeros <= p <= place + 2 * zeros ==>
-   @   (BIT{Pre}(order, memory, p) <==> digit_of(power_of_two(zeros) + low, place + 2 * zeros - p));
+   @ requires one == place + zeros;
+   @ requires \forall integer p; one <= p <= one + zeros ==>
+   @   (BIT{Pre}(order, memory, p) <==> digit_of(power_of_two(zeros) + low, one + zeros - p));
    @ assigns \nothing;
    @ ensures IS_CODE{Pre}(order, memory, place, left, power_of_two(zeros) + low - 1);
    @/
-  void MADE(uint8_t order, const WORD *memory, size_t place, size_t left, size_t zeros, uint64_t low) {
+  void MADE(uint8_t order, const WORD *memory, size_t place, size_t one, size_t left, size_t zeros, uint64_t low) {
       /@ assert length: code_length(power_of_two(zeros) + low - 1) == 2 * zeros + 1; @/
   }
 */
@@ -1409,7 +1410,7 @@ static void PUT_BITS(uint8_t order, WORD *memory, size_t words, size_t from, siz
     //@ ghost SUMMED(order, memory, one, zeros, low);
     /*@ assert held: \forall integer p; one <= p <= one + zeros ==>
       @   (BIT{Here}(order, memory, p) <==> digit_of(power_of_two(zeros) + low, one + zeros - p)); */
-    //@ ghost MADE(order, memory, from, end - from, zeros, low);
+    //@ ghost MADE(order, memory, from, one, end - from, zeros, low);
 }
 
 /* Writes such a code, where it has room. */
