@@ -321,7 +321,10 @@ impl<T: Register, O: Order> BitSliceMut<'_, T, O> {
     /// ```
     ///
     /// ```should_panic
-    /// worghulen::bitvec![0; 8].store_le(0x123);
+    /// use worghulen::{BitView, Lsb0};
+    ///
+    /// let mut word = 0_u8;
+    /// word.view_bits_mut::<Lsb0>().store_le(0x123);
     /// ```
     #[inline]
     #[track_caller]
