@@ -1,10 +1,11 @@
-//! How many bits of a slice are one behind an edit: for every register and every lawful order. A
-//! search finds each proof by the lemmas that slices have of counts.
+//! How many bits of a slice, or of a span, are one behind an edit: for every register and every
+//! lawful order. A search finds each proof by the lemmas that slices have of counts.
 #![tactic(auto, using(bitvec_slice::proofs::OneCountLemmas::slice_counts))]
 
-ghost use Rattle.std.specs.Prelude.{◌≡◌, ◌<◌, ◌+◌, ◌||◌, ◌&&◌, if◌then◌else◌};
+ghost use Rattle.std.specs.Prelude.{◌≡◌, ◌<◌, ◌+◌, ◌||◌, ◌&&◌, if◌then◌else◌, length};
+ghost use Rattle.bitvec.specs.BitSpan.{span_of, list_by};
 ghost use Rattle.bitvec.specs.Memory.{zip_with};
-ghost use Rattle.bitvec.specs.Span.{element};
+ghost use Rattle.bitvec.specs.Span.{Fits, element};
 ghost use Rattle.bitvec.specs.Truths.{ones_in};
 ghost use Rattle.bitvec_slice.specs.Bits.{zeros_in};
 ghost use Rattle.bitvec_slice.specs.BitSlice.{slice_len, slice_bits};
@@ -12,6 +13,7 @@ ghost use Rattle.bitvec_slice.specs.BitSliceMut.{lent_len, lent_bits};
 
 use bitvec::mem::BitRegister;
 use bitvec::order::BitOrder;
+use bitvec::ptr::span::BitSpan;
 use bitvec_slice::slice::{BitSlice, BitSliceMut, ReadBits};
 
 /// Adds a set to another, and returns how many numbers that has then: those of both, less those
@@ -92,4 +94,36 @@ fn turn_all<'a, R: BitRegister, O: BitOrder<R>>(bits: &mut BitSliceMut<'a, R, O>
 {
     bits.invert();
     bits.count_ones()
+}
+
+/// Writes a bit of a span, and returns the one that was there: what was there goes, and what is
+/// written comes.
+fn write_in_span<R: BitRegister, O: BitOrder<R>>(
+    span: BitSpan<R, O>,
+    memory: &mut [R],
+    i: usize,
+    bit: bool,
+) -> bool
+    requires fits { Fits R.BITS (span_of span) (length memory.old) }
+    requires inside { i < (span_of span).len }
+    ensures { ones_in (list_by span O.at_of memory.new) + (if result then 1 else 0)
+        ≡ ones_in (list_by span O.at_of memory.old) + (if bit then 1 else 0) }
+{
+    span.replace(memory, i, bit)
+}
+
+/// Exchanges two bits of a span: as many are one as before.
+fn exchange_in_span<R: BitRegister, O: BitOrder<R>>(
+    span: BitSpan<R, O>,
+    memory: &mut [R],
+    i: usize,
+    j: usize,
+)
+    requires fits { Fits R.BITS (span_of span) (length memory.old) }
+    requires first { i < (span_of span).len }
+    requires second { j < (span_of span).len }
+    ensures { ones_in (list_by span O.at_of memory.new)
+        ≡ ones_in (list_by span O.at_of memory.old) }
+{
+    span.swap(memory, i, j);
 }
