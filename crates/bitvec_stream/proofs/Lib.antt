@@ -5,8 +5,8 @@ pub mod ItemLemmas
 mod KeepLemmas
 mod KnownLemmas
 mod MultipleLemmas
-mod ReadLemmas
 pub mod ReadBackLemmas
+mod ReadLemmas
 pub mod RowLemmas
 pub mod SignedGolombLemmas
 mod TurnedLemmas
