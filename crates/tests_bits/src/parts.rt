@@ -1,11 +1,10 @@
 //! Parts of one memory.
 
-ghost use Rattle.std.specs.Prelude.{◌≡◌, ℕ, ℤ, pos, ◌<◌, ◌≤ℤ◌, List, [], ◌∷◌, All, length, map};
-ghost use Rattle.std.specs.Prelude.{replicate, slice_set, true};
+ghost use Rattle.std.specs.Prelude.{◌≡◌, ◌<◌, [], ◌∷◌, length, map, replicate, slice_set, true};
 ghost use Rattle.bitvec.specs.BitSpan.{span_of};
-ghost use Rattle.bitvec.specs.Memory.{bit_of};
-ghost use Rattle.bitvec.specs.Run.{CanRun, IsOutside};
-ghost use Rattle.bitvec.specs.Span.{AreDisjoint, list_of};
+ghost use Rattle.bitvec.specs.Run.{CanRun};
+ghost use Rattle.bitvec.specs.Span.{list_of};
+ghost use Rattle.tests_bits.specs.Beside.{KeepsBitsBeside, KeepsListsBeside};
 
 use bits_lib::view::Parts;
 use bitvec::mem::BitRegister;
@@ -135,17 +134,10 @@ fn write_two_parts<R: BitRegister, O: BitOrder<R>>(
         ≡ slice_set (list_of R.BITS O.at_of (span_of a) (map R.number memory.old)) 1 true }
     ensures second { list_of R.BITS O.at_of (span_of b) (map R.number memory.new)
         ≡ replicate (span_of b).len true }
-    ensures others { (place : ℕ)
-        → IsOutside R.BITS (λ span. span) (span_of a ∷ span_of b ∷ []) place
-        → bit_of R.BITS O.at_of (map R.number memory.new) place
-        ≡ bit_of R.BITS O.at_of (map R.number memory.old) place }
-    ensures apart { (word : ℤ) (head len : ℕ) → pos 0 ≤ℤ word
-        → All (λ part. AreDisjoint R.BITS part (record { word = word; head = head; len = len }))
-        (span_of a ∷ span_of b ∷ [])
-        → list_of R.BITS O.at_of (record { word = word; head = head; len = len })
-        (map R.number memory.new)
-        ≡ list_of R.BITS O.at_of (record { word = word; head = head; len = len })
-        (map R.number memory.old) }
+    ensures others { KeepsBitsBeside R.BITS O.at_of (span_of a ∷ span_of b ∷ [])
+        (map R.number memory.old) (map R.number memory.new) }
+    ensures apart { KeepsListsBeside R.BITS O.at_of (span_of a ∷ span_of b ∷ [])
+        (map R.number memory.old) (map R.number memory.new) }
     ensures words { length memory.new ≡ length memory.old }
 {
     let mut parts = Parts::new_unchecked(memory, [a, b]);
