@@ -45,9 +45,8 @@ fn pointers_compare_as_places<R: BitRegister, O>(
     here: BitPtr<R, O>,
     there: BitPtr<R, O>,
 ) -> Ordering
-    ensures { let place = place_of R.BITS (ptr_of here) in
-        let other = place_of R.BITS (ptr_of there) in
-        MatchOrdering result (place <ℤ other) (place ≡ other) (other <ℤ place) }
+    ensures { let a = place_of R.BITS (ptr_of here) in let b = place_of R.BITS (ptr_of there)
+        in MatchOrdering result (a <ℤ b) (a ≡ b) (b <ℤ a) }
 {
     here.cmp(&there)
 }

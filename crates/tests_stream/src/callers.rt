@@ -103,7 +103,7 @@ fn write_zeros<R: BitRegister, O: BitOrder<R>>(
 ) -> Result<(), WriteError>
     ensures { MatchResult result
         (λ _. HasWritten writer.old writer.new (zeros_and_one count))
-        (λ error. (length (room writer.old) ≤ count) × (writer.new ≡ writer.old)) }
+        (λ _. (length (room writer.old) ≤ count) × (writer.new ≡ writer.old)) }
 {
     if writer.remaining() <= count {
         return Err(WriteError::NoRoom);
