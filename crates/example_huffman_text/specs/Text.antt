@@ -1,5 +1,5 @@
 -- A text of symbols: their codes, one behind the other.
-use Rattle.std.specs.Prelude.{◌≡◌, ℕ, Bool, List, ◌++◌, length, slice_index}
+use Rattle.std.specs.Prelude.{◌≡◌, ◌≤◌, ℕ, Bool, List, ◌++◌, length, slice_index}
 use Rattle.std.specs.List.{All, flat_map}
 use Rattle.bitvec_stream.specs.Golomb.{StartsWith}
 use Rattle.bitvec_stream.specs.Numbers.{digits_be}
@@ -16,6 +16,10 @@ BeginsWithSymbol lengths xs symbol = HasCode lengths symbol × StartsWith xs (co
 -- the bits of symbols, one code behind the other
 abbrev pub text_bits : List ℕ → List ℕ → List Bool
 text_bits lengths symbols = flat_map (code_bits lengths) symbols
+
+-- symbols have codes, and there is room for the bits of these
+abbrev pub CanBeEncoded : List ℕ → List ℕ → ℕ → Type 0
+CanBeEncoded lengths symbols room = All (HasCode lengths) symbols × (length (text_bits lengths symbols) ≤ room)
 
 -- Bits begin with one text of so many symbols and no other, and what stands behind it is known: what was written is read.
 abbrev pub OneText : Type 0

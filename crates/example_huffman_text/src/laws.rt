@@ -1,11 +1,11 @@
 //! What was written is read.
 
-ghost use Rattle.std.specs.Prelude.{◌≡◌, ◌↔◌, ◌≤◌, Err, IsOk, IfOk, MatchResult, length, take, drop};
+ghost use Rattle.std.specs.Prelude.{◌≡◌, ◌↔◌, ◌≤◌, Err, IsOk, IfOk, IfErr, length, take, drop};
 ghost use Rattle.std.specs.List.{All};
 ghost use Rattle.bitvec_stream.specs.Writer.{room, Writes};
 ghost use Rattle.example_huffman.specs.Codes.{HasCode};
 ghost use Rattle.example_huffman.specs.Huffman.{lengths_of};
-ghost use Rattle.example_huffman_text.specs.Text.{text_bits, OneText};
+ghost use Rattle.example_huffman_text.specs.Text.{text_bits, OneText, CanBeEncoded};
 
 use crate::error::EncodeError;
 use crate::text::{decode_into, encode};
@@ -30,17 +30,16 @@ pub fn there_and_back<R: BitRegister, O: BitOrder<R>>(
     back: &mut [usize],
 ) -> Result<usize, EncodeError>
     requires { length symbols.now ≤ length back.old }
-    ensures accepted { let lengths = lengths_of code.now in IsOk result
-        ↔ (All (HasCode lengths) symbols.now
-        × (length (text_bits lengths symbols.now) ≤ length (room writer.old))) }
+    ensures accepted { IsOk result
+        ↔ CanBeEncoded (lengths_of code.now) symbols.now (length (room writer.old)) }
     ensures no_code { (result ≡ Err EncodeError.NoCode)
         ↔ ¬ All (HasCode (lengths_of code.now)) symbols.now }
     ensures value { IfOk result (λ count.
         (count ≡ length symbols.now) × (take count back.new ≡ symbols.now)) }
     ensures others { IfOk result (λ count. drop count back.new ≡ drop count back.old) }
-    ensures written { MatchResult result
-        (λ _. Writes writer.old writer.new (text_bits (lengths_of code.now) symbols.now))
-        (λ _. (writer.new ≡ writer.old) × (back.new ≡ back.old)) }
+    ensures written { IfOk result
+        (λ _. Writes writer.old writer.new (text_bits (lengths_of code.now) symbols.now)) }
+    ensures refused { IfErr result (λ _. (writer.new ≡ writer.old) × (back.new ≡ back.old)) }
 {
     let before = writer.position();
     encode(code, symbols, writer)?;

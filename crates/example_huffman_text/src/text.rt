@@ -7,7 +7,7 @@ ghost use Rattle.bitvec_stream.specs.Reader.{unread, Passes};
 ghost use Rattle.bitvec_stream.specs.Writer.{room, Writes};
 ghost use Rattle.example_huffman.specs.Codes.{HasCode};
 ghost use Rattle.example_huffman.specs.Huffman.{lengths_of};
-ghost use Rattle.example_huffman_text.specs.Text.{text_bits, BeginsWithSymbol};
+ghost use Rattle.example_huffman_text.specs.Text.{text_bits, BeginsWithSymbol, CanBeEncoded};
 
 use crate::error::EncodeError;
 use crate::symbol::{next_symbol, put_symbol};
@@ -75,9 +75,8 @@ pub fn encode<R: BitRegister, O: BitOrder<R>>(
     symbols: &[usize],
     writer: &mut BitWriter<'_, R, O>,
 ) -> Result<(), EncodeError>
-    ensures accepted { let lengths = lengths_of code.now in IsOk result
-        ↔ (All (HasCode lengths) symbols.now
-        × (length (text_bits lengths symbols.now) ≤ length (room writer.old))) }
+    ensures accepted { IsOk result
+        ↔ CanBeEncoded (lengths_of code.now) symbols.now (length (room writer.old)) }
     ensures no_code { (result ≡ Err EncodeError.NoCode)
         ↔ ¬ All (HasCode (lengths_of code.now)) symbols.now }
     ensures written { MatchResult result
