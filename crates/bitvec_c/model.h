@@ -1463,10 +1463,13 @@ uint8_t MODEL(write_exp_golomb)(uint8_t order, WORD *memory, size_t words, size_
 uint8_t MODEL(write_signed_exp_golomb)(uint8_t order, WORD *memory, size_t words, size_t *place, size_t end,
                                        int64_t number) {
     //@ ghost model_powers();
-    if (number == -INT64_MAX - 1)
+    if (number == -INT64_MAX - 1) {
+        //@ assert least: signed_place(number) == power_of_two(64);
         return PUT_CODE(order, memory, words, place, end, 64, 1);
-    return MODEL(write_exp_golomb)(order, memory, words, place, end,
-                                   number > 0 ? 2 * (uint64_t)number - 1 : 2 * (uint64_t)-number);
+    }
+    uint64_t code = number > 0 ? 2 * (uint64_t)number - 1 : 2 * (uint64_t)-number;
+    //@ assert code: code == signed_place(number);
+    return MODEL(write_exp_golomb)(order, memory, words, place, end, code);
 }
 
 /* The status of spans that may be as many as they are. */
