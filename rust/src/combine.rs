@@ -225,6 +225,31 @@ impl<T: Register, O: Order> BitSlice<'_, T, O> {
         }
     }
 
+    /// How many bits are set in one of two slices or in both: how many elements the union of two
+    /// sets has. The longer slice counts past the end of the other too. Costs as
+    /// [`count_and`](BitSlice::count_and) does.
+    ///
+    /// # Examples
+    ///
+    /// ```
+    /// use worghulen::{BitView, Lsb0};
+    ///
+    /// let (here, there) = ([0x3c_u8, 0x03], [0xfff0_u16]);
+    /// assert_eq!(here.view_bits::<Lsb0>().count_or(&there.view_bits::<Lsb0>()), 14);
+    /// ```
+    #[must_use]
+    pub fn count_or<T2: Register, O2: Order>(&self, other: &BitSlice<'_, T2, O2>) -> usize {
+        let common = self.len().min(other.len());
+        let in_common = match T::same(&other.seen()) {
+            Some(words) => self.ask(words, other, common, T::count_or),
+            None => self
+                .windows_with(other)
+                .map(|(here, there)| (here | there).count_ones() as usize)
+                .sum(),
+        };
+        in_common + self.rest(common).count_ones() + other.rest(common).count_ones()
+    }
+
     /// What a call of the library answers of the first bits and those of another slice, whose words
     /// are of one type.
     #[inline]

@@ -168,6 +168,10 @@ macro_rules! readers {
                 other: &BitSlice<'_, T2, O2>
             ) -> usize =>
                 "assert_eq!(bits.count_and(&bits![0, 1, 0, 1]), 1);";
+            #[must_use] count_or<T2: Register, O2: Order>(
+                other: &BitSlice<'_, T2, O2>
+            ) -> usize =>
+                "assert_eq!(bits.count_or(&bits![0, 1, 0, 1]), 4);";
             ///
             /// # Errors
             ///

@@ -375,6 +375,9 @@ pub trait Exports: Copy {
         /// Counts the bits that are one in two ranges.
         count_and by count_with, And;
 
+        /// Counts the bits that are one in either of two ranges.
+        count_or by count_with, Or;
+
         /// Finds the first bit that is one in two ranges, and answers `count` where there is none.
         first_and by first_with, And;
 

@@ -434,6 +434,9 @@ mod cases {
             assert_eq!(bits.is_subset(&other), ones().all(there));
             assert_eq!(bits.intersects(&other), ones().any(there));
             assert_eq!(bits.count_and(&other), ones().filter(|i| there(*i)).count());
+            let here = |i: usize| model.get(i) == Some(&true);
+            let either = (0..model.len().max(other_model.len())).filter(|i| here(*i) || there(*i));
+            assert_eq!(bits.count_or(&other), either.count());
         }
         with_any_other!(random, with::<T, O>);
     }

@@ -80,17 +80,6 @@ fn sum_without<O: BitOrder<u64>>(
     sum
 }
 
-// How many bits are one in a slice or in another.
-fn count_either<O: BitOrder<u64>>(
-    slice: &BitSlice<'_, u64, O>,
-    other: &BitSlice<'_, u64, O>,
-) -> usize
-    requires { slice_len other.now ≡ slice_len slice.now }
-{
-    let all = slice.count_ones().saturating_add(other.count_ones());
-    all.saturating_sub(slice.count_and(other))
-}
-
 // How many bits of a slice are one, each taken in turn.
 fn count_in_turn<O: BitOrder<u64>>(slice: &BitSlice<'_, u64, O>) -> usize {
     let mut bits = slice.iter();
@@ -139,7 +128,7 @@ impl<O: BitOrder<u64>> Job for Reading<'_, O> {
             Ask::Compare => place_of(self.slice.compare(&self.other)),
             Ask::Next => sum_by_next(&self.slice),
             Ask::Without => sum_without(&self.slice, &self.other),
-            Ask::Either => count_either(&self.slice, &self.other),
+            Ask::Either => self.slice.count_or(&self.other),
         };
     }
 }

@@ -326,6 +326,7 @@ fn what_two_slices_have_in_common(rt: HostRuntime) -> Result<(), Fail> {
     let span: BitSpan<u16, Lsb0> = BitSpan::at(0, 10).unwrap();
     let there = BitSlice::new(span, &words).ok_or("outside")?;
     assert_eq!(rt; here.count_and(&there), 4);
+    assert_eq!(rt; here.count_or(&there), 8);
     assert_eq!(rt; here.first_and(&there), Some(4));
     assert_eq!(rt; here.first_and_not(&there), Some(2));
     assert!(rt; here.intersects(&there));

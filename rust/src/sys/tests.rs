@@ -110,6 +110,7 @@ mod cases {
                 count,
             ),
             T::count_and(order, (&memory, start), order, (&memory, 0), count).map(|_| ()),
+            T::count_or(order, (&memory, 0), order, (&memory, start), count).map(|_| ()),
             T::first_and(order, (&memory, 0), order, (&memory, start), count).map(|_| ()),
             T::first_and_not(order, (&memory, start), order, (&memory, 0), count).map(|_| ()),
             T::first_difference(order, (&memory, 0), order, (&memory, start), count).map(|_| ()),

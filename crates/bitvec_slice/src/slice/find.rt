@@ -19,6 +19,7 @@ impl<'a, R: BitRegister, O: BitOrder<R>> BitSlice<'a, R, O> {
     ghost use Rattle.bitvec_slice.specs.Bits.{zeros_in, IsLast};
     ghost use Rattle.bitvec_slice.specs.Bits.{BeginsWith, EndsWith};
     ghost use Rattle.bitvec_slice.specs.Bits.{AllBetween, IsFirstBetween, IsLastBetween};
+    ghost use Rattle.bitvec_slice.specs.Bits.{FindsBetween};
     ghost use Rattle.bitvec_slice.specs.Field.{stretch_end};
     ghost use Rattle.bitvec_slice.specs.Chosen.{IsChosen, FindsWord};
     ghost use Rattle.bitvec_slice.specs.Words.{SliceHasDigits};
@@ -303,11 +304,24 @@ impl<'a, R: BitRegister, O: BitOrder<R>> BitSlice<'a, R, O> {
         self.last_other(start, end, lacking) * width - head
     }
 
-    // The first that is `bit`, of the bits from index `from` to before index `upto`.
-    pub(super) fn first_between(&self, from: usize, upto: usize, bit: bool) -> Option<usize>
+    // The first that is `bit`, of the bits behind word `word` and before index `upto`: word by word.
+    #[inline(always)]
+    fn first_behind(&self, word: usize, upto: usize, bit: bool) -> Option<usize>
         requires { upto ≤ slice_len self.now }
-        ensures { MatchOption result (AllBetween (not bit) (slice_bits self.now) from upto)
-            (IsFirstBetween bit (slice_bits self.now) from upto) }
+        ensures { FindsBetween bit (slice_bits self.now)
+            (stretch_end R.BITS (slice_span self.now).head (slice_len self.now) word) upto result }
+    {
+        let found = self.chosen_later(word, upto, bit)?;
+        let (k, _, index) = found;
+        let i = k * mem::bits_of::<R>() + usize::from(index) - self.head();
+        if upto <= i { None } else { Some(i) }
+    }
+
+    // The first that is `bit`, of the bits from index `from` to before index `upto`: it passes over
+    // whole words by eights.
+    fn first_far(&self, from: usize, upto: usize, bit: bool) -> Option<usize>
+        requires { upto ≤ slice_len self.now }
+        ensures { FindsBetween bit (slice_bits self.now) from upto result }
     {
         let head = self.head();
         let width = mem::bits_of::<R>();
@@ -321,6 +335,28 @@ impl<'a, R: BitRegister, O: BitOrder<R>> BitSlice<'a, R, O> {
             next = self.pass_words(end, upto, bit);
         }
         None
+    }
+
+    // The first that is `bit`, of the bits from index `from` to before index `upto`.
+    pub(super) fn first_between(&self, from: usize, upto: usize, bit: bool) -> Option<usize>
+        requires { upto ≤ slice_len self.now }
+        ensures { FindsBetween bit (slice_bits self.now) from upto result }
+    {
+        if upto <= from {
+            return None;
+        }
+        let width = mem::bits_of::<R>();
+        let k = (self.head() + from) / width;
+        let end = upto.min((k + 1) * width - self.head());
+        if let Some(i) = self.first_in_word(k, from, end, bit) {
+            return Some(i);
+        }
+        // (often one of the next words has what is sought)
+        let near = end + (upto - end).min(16 * width);
+        if let Some(i) = self.first_behind(k, near, bit) {
+            return Some(i);
+        }
+        self.first_far(near, upto, bit)
     }
 
     // The last that is `bit`, of the bits from index `from` to before index `upto`, which lie in

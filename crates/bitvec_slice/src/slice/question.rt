@@ -1,6 +1,6 @@
 //! Questions of two slices, whatever their registers and orders are: no bit of either is moved.
 
-ghost use Rattle.std.specs.Prelude.{◌≡◌, ◌↔◌, ◌&&◌, IsTrue, true, false, not, MatchOption};
+ghost use Rattle.std.specs.Prelude.{◌≡◌, ◌↔◌, ◌&&◌, ◌||◌, IsTrue, true, false, not, MatchOption};
 ghost use Rattle.std.specs.List.{AllZip};
 ghost use Rattle.bitvec.specs.Digit.{exclusive_or};
 ghost use Rattle.bitvec.specs.Memory.{zip_with};
@@ -9,7 +9,7 @@ ghost use Rattle.bitvec.specs.Truths.{ones_in, AllAre, IsFirst};
 use crate::slice::BitSlice;
 use bitvec::mem::BitRegister;
 use bitvec::order::BitOrder;
-use bitvec::ptr::combine::{And, AndNot, Xor};
+use bitvec::ptr::combine::{And, AndNot, Or, Xor};
 
 impl<'a, R: BitRegister, O: BitOrder<R>> BitSlice<'a, R, O> {
     ghost use Rattle.bitvec_slice.specs.BitSlice.{slice_len, slice_bits};
@@ -73,6 +73,7 @@ impl<'a, R: BitRegister, O: BitOrder<R>> BitSlice<'a, R, O> {
     /// let span: BitSpan<u16, Lsb0> = BitSpan::at(0, 10).unwrap();
     /// let there = BitSlice::new(span, &words).ok_or("outside")?;
     /// assert_eq!(rt; here.count_and(&there), 4);
+    /// assert_eq!(rt; here.count_or(&there), 8);
     /// assert_eq!(rt; here.first_and(&there), Some(4));
     /// assert_eq!(rt; here.first_and_not(&there), Some(2));
     /// assert!(rt; here.intersects(&there));
@@ -87,6 +88,20 @@ impl<'a, R: BitRegister, O: BitOrder<R>> BitSlice<'a, R, O> {
     {
         let (here, there) = (self.span, other.span);
         here.count_with::<And, R2, O2>(self.memory, there, other.memory)
+    }
+
+    /// How many bits are set in one of two slices or in both: how many elements the union of two
+    /// sets has.
+    ///
+    /// Requires that the other slice has the same length: [`len`](BitSlice::len) is the test. Costs
+    /// as [`count_and`](BitSlice::count_and) does. Not in the Rust crate.
+    pub fn count_or<R2: BitRegister, O2: BitOrder<R2>>(&self, other: &BitSlice<'_, R2, O2>) -> usize
+        requires { slice_len other.now ≡ slice_len self.now }
+        ensures { result
+            ≡ ones_in (zip_with (λ x y. x || y) (slice_bits self.now) (slice_bits other.now)) }
+    {
+        let (here, there) = (self.span, other.span);
+        here.count_with::<Or, R2, O2>(self.memory, there, other.memory)
     }
 
     /// The index of the first bit that is set in both slices, counted from 0, and `None` where none

@@ -1,7 +1,5 @@
-use Rattle.std.proofs.Common.{rules, ◌≤◌, arith}
-use Rattle.bitvec.specs.Place.{region_max_bits}
+use Rattle.std.proofs.Common.{rules, arith}
 use Rattle.bitvec.specs.Span.{Fits, front_span}
-use Rattle.bitvec_slice.specs.Whole.{IsFront}
 use Rattle.bitvec_slice.proofs.SlicePartLemmas.{front_inside, whole_fits}
 use Rattle.bitvec_slice.proofs.slice.whole.span_of_front.Goals as goal
 

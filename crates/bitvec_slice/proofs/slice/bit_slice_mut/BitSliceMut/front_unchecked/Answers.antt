@@ -1,6 +1,5 @@
 use Rattle.std.proofs.Common.{rules, ◌≡◌, ◌*◌, ◌≤◌, ◌∙◌, map, length, ap, arith}
 use Rattle.std.proofs.lemmas.List.{length-map}
-use Rattle.bitvec.specs.BitSpan.{span_of}
 use Rattle.bitvec.specs.Span.{front_span, list_of}
 use Rattle.bitvec_slice.specs.BitSliceMut.{lent_span}
 use Rattle.bitvec_slice.proofs.SlicePartLemmas.{first_bits}

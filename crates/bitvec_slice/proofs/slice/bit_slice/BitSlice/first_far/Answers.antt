@@ -2,7 +2,7 @@ use Rattle.std.proofs.Common.{map, arith}
 use Rattle.bitvec.proofs.PartLemmas.{length-list_of}
 use Rattle.bitvec_slice.specs.BitSlice.{slice_memory, slice_span, slice_bits}
 use Rattle.bitvec_slice.proofs.FindLemmas.{word_at, first_later}
-use Rattle.bitvec_slice.proofs.slice.bit_slice.BitSlice.first_between.Goals as goal
+use Rattle.bitvec_slice.proofs.slice.bit_slice.BitSlice.first_far.Goals as goal
 
 pub overflow_add-k : goal.overflow_add-k
 overflow_add-k g c =

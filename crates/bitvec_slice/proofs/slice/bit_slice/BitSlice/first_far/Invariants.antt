@@ -1,7 +1,7 @@
 use Rattle.std.proofs.Common.{◌-◌, ◌≤◌, not}
 use Rattle.bitvec_slice.specs.BitSlice.{slice_bits}
 use Rattle.bitvec_slice.specs.Bits.{AllBetween}
-use Rattle.bitvec_slice.proofs.slice.bit_slice.BitSlice.first_between.Given as goal
+use Rattle.bitvec_slice.proofs.slice.bit_slice.BitSlice.first_far.Given as goal
 
 -- none before index `next` is `bit`
 abbrev pub invariant-loop-next : goal.invariant-loop-next
