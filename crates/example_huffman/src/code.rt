@@ -90,6 +90,7 @@ impl<'a> Code<'a> {
 
     /// A symbol's code, the number of its bits from the highest on. Requires that it has one:
     /// [`len`](Code::len) is the test. Time is the number of symbols.
+    #[tactic(auto, using(crate::proofs::CodeLemmas::code_below))]
     pub fn number(&self, symbol: usize) -> usize
         requires { HasCode (lengths_of self.now) symbol }
         ensures value { result ≡ code_of (lengths_of self.now) symbol }
