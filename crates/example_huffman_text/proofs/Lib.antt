@@ -1,3 +1,3 @@
-mod EmptyWrites
+mod TextWrites
 pub mod SymbolLemmas
 pub mod TextLemmas

@@ -10,7 +10,6 @@ pub returns-clause-value : goal.returns-clause-value
 returns-clause-value g c =
     let code = c.args.code.now in
     let symbols = c.args.symbols.now in
-    let before = c.position-before.result in
     let read = c.decode_into.ensures in
     let text = c.new-reader.ensures.rest ∙ c.written_from.ensures.since (written c.args.writer.now) (text_bits (lengths_of code) symbols) (sym c.position-before.ensures.list) c.in_ok-encode.ensures.written.0 in
     read_back (lengths_of code) symbols c.decode_into.new.out (length c.args.back.now) c.decode_into.result (unread c.new-reader.result) (unread c.decode_into.new.reader) code.complete

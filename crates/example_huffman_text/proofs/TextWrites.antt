@@ -1,0 +1,24 @@
+-- What a writer has written of a text: nothing at first, and then a symbol more.
+use Rattle.std.proofs.Common.{◌≡◌, ℕ, ◌+◌, ◌<◌, List, [], ◌++◌, length, take, drop, get_or, refl, sym, ap, ◌∙◌, arith}
+use Rattle.std.proofs.lemmas.List.{append-nil, take-append-drop}
+use Rattle.bitvec.proofs.BecomesLemmas.{becomes}
+use Rattle.bitvec_stream.specs.Writer.{target_span, target_words, target_bits, bits_written, written, room, Writes}
+use Rattle.bitvec_stream.specs.declared.writer.BitWriter.{BitWriter}
+use Rattle.bitvec_stream.proofs.WriterLemmas.{writes-both, writes-as}
+use Rattle.example_huffman_text.specs.Text.{code_bits, text_bits}
+use Rattle.example_huffman_text.proofs.TextLemmas.{text_more}
+
+pub writes-none : {R O : Type 0} {a b c d e f g h i : _} → (writer : BitWriter R O a b c d e f g h i) → Writes writer writer []
+writes-none {a = own} {i = order} writer =
+    let same : target_bits writer ≡ written writer ++ [] ++ drop 0 (room writer) =
+    sym (ap (λ us. us ++ room writer) (append-nil (written writer)) ∙ take-append-drop (bits_written writer) (target_bits writer)) in (
+      sym (append-nil (written writer)),
+      refl,
+      omega arith,
+      (same, refl, refl, becomes own.BITS order.at_of (target_span writer) (target_words writer) (target_words writer) _ same (λ place out. refl) refl),
+    )
+
+pub writes-next : {R O : Type 0} {a b c d e f g h i : _} → (old mid new : BitWriter R O a b c d e f g h i) (lengths symbols : List ℕ) (k : ℕ) → k < length symbols → Writes old mid (text_bits lengths (take k symbols)) → Writes mid new (code_bits lengths (get_or symbols k 0))
+    → Writes old new (text_bits lengths (take (k + 1) symbols))
+writes-next old mid new lengths symbols k inside before wrote =
+    writes-as old new _ _ (sym (text_more lengths symbols k inside)) (writes-both old mid new _ _ before wrote)
