@@ -20,19 +20,9 @@ one_header one other behind left fits too same =
     let it = row_once (header_row one) (header_row other) behind left refl fits too same in
     (same_header one other it.0, it.1)
 
--- a header has 160 bits
-pub header_long : (h : Header) → length (header_bits h) ≡ 160
-header_long h = refl
-
--- a header that was written behind no bits can be read
-pub header_there : (h : Header) (front xs : List Bool) → front ≡ [] → xs ≡ front ++ header_bits h → 160 ≤ length xs
-header_there h front xs none is = omega (arith, ap length is, length-append front (header_bits h), header_long h)
-
--- and what is read is that header
-pub header_back : (h back : Header) (front xs left : List Bool) → front ≡ [] → xs ≡ front ++ header_bits h → xs ≡ header_bits back ++ left → HeaderFits h → HeaderFits back → back ≡ h
-header_back h back front xs left none is read fits too =
-    let all : header_bits h ++ [] ≡ header_bits back ++ left = append-nil (header_bits h) ∙ ap (λ us. us ++ header_bits h) (sym none) ∙ sym is ∙ read in
-    sym (one_header h back [] left fits too all).0
+-- a header is read of a header's bits: what is read is that header
+pub header_back : (h back : Header) (xs left : List Bool) → HeaderFits h → HeaderFits back → xs ≡ header_bits h → xs ≡ header_bits back ++ left → back ≡ h
+header_back h back xs left fits too is read = sym (one_header h back [] left fits too (append-nil (header_bits h) ∙ sym is ∙ read)).0
 
 -- a number that was read has no more digits than bits
 pub number_below : (xs : List Bool) (count n : ℕ) → count ≤ length xs → n ≡ number_be (take count xs) → n < 2 ^ count
