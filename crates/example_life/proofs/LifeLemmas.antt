@@ -1,5 +1,5 @@
 -- A row that goes round at its ends, and a count by three digits.
-use Rattle.std.proofs.Common.{◌≡◌, ◌≢◌, ℕ, zero, suc, ◌+◌, ◌-◌, ◌*◌, ◌%◌, ◌<◌, ◌≤◌, ◌==◌, Bool, true, false, not, ◌&&◌, ◌||◌, cond, List, [], ◌∷◌, ◌++◌, length, map, take, drop, get_or, set, refl, sym, ap, subst, ◌∙◌, inl, inr, arith, length-drop}
+use Rattle.std.proofs.Common.{◌≡◌, ◌≢◌, ℕ, ◌+◌, ◌-◌, ◌*◌, ◌%◌, ◌<◌, ◌≤◌, ◌==◌, Bool, true, false, not, ◌&&◌, ◌||◌, cond, List, [], ◌∷◌, ◌++◌, length, map, take, drop, get_or, set, refl, sym, ap, subst, ◌∙◌, inl, inr, arith, length-drop}
 use Rattle.std.proofs.lemmas.Bool.{cases_eq, cases_lt}
 use Rattle.std.proofs.lemmas.Grind.{common_steps}
 use Rattle.std.proofs.lemmas.List.{get_or-drop, get_or_append_left, get_or-take, get_or-map, get_or-set_same, get_or-set_other, length-set, length-map}
@@ -8,6 +8,8 @@ use Rattle.std.proofs.Math.Nat.{mod-eq_of_lt, mod_self, add-mod_left}
 use Rattle.bitvec.specs.Digit.{exclusive_or}
 use Rattle.bitvec.specs.Memory.{zip_with}
 use Rattle.bitvec.specs.Span.{element}
+use Rattle.bitvec.proofs.CombineLemmas.{get_or-zip_with}
+use Rattle.bitvec.proofs.ZipLemmas.{length-zip_with}
 use Rattle.example_life.specs.Rule.{one_if, place_before, place_behind, beside, around, lives, next_cell, row_of, IsNext}
 use Rattle.example_life.specs.Tally.{IsTally}
 
@@ -19,22 +21,12 @@ tally_more o t f x n h = grind (arith, common_steps)
 pub tally_lives : (o t f alive : Bool) (n : ℕ) → IsTally o t f n → ((t && not f) && (o || alive)) ≡ lives alive n
 tally_lives o t f alive n h = grind (arith, common_steps)
 
--- an element of two lists of one length, combined
-pub at_zip : (f : Bool → Bool → Bool) (xs ys : List Bool) (j : ℕ) → j < length xs → length ys ≡ length xs → element (zip_with f xs ys) j ≡ f (element xs j) (element ys j)
-unfolding zip_with
-at_zip f [] ys j h e = absurd (omega (arith, h))
-at_zip f (x ∷ xs) [] j h e = absurd (omega (arith, e))
-at_zip f (x ∷ xs) (y ∷ ys) zero h e = refl
-at_zip f (x ∷ xs) (y ∷ ys) (suc j) h e = at_zip f xs ys j (omega (arith, h)) (omega (arith, e))
+-- an element of two lists of one length, combined, and how many there are
+at_zip : (f : Bool → Bool → Bool) (xs ys : List Bool) (j : ℕ) → j < length xs → length ys ≡ length xs → element (zip_with f xs ys) j ≡ f (element xs j) (element ys j)
+at_zip f xs ys j h e = get_or-zip_with f xs ys j false false false h (omega (arith, h, e))
 
--- there are as many of them
 long_zip : (f : Bool → Bool → Bool) (xs ys : List Bool) (many : ℕ) → length xs ≡ many → length ys ≡ many → length (zip_with f xs ys) ≡ many
-unfolding zip_with
-long_zip f [] ys many a b = a
-long_zip f (x ∷ xs) [] many a b = absurd (omega (arith, a, b))
-long_zip f (x ∷ xs) (y ∷ ys) many a b =
-    let rest = long_zip f xs ys (many - 1) (omega (arith, a)) (omega (arith, b)) in
-    omega (arith, rest, a)
+long_zip f xs ys many a b = length-zip_with f xs ys (b ∙ sym a) ∙ a
 
 by_digits : (o p t u f g : Bool) (n : ℕ) → p ≡ o → u ≡ t → g ≡ f → IsTally o t f n → IsTally p u g n
 by_digits o p t u f g n a b c h = subst (λ x. IsTally x u g n) (sym a) (subst (λ x. IsTally o x g n) (sym b) (subst (λ x. IsTally o t x n) (sym c) h))
@@ -156,11 +148,11 @@ row_kept f xs i k x other inside =
     get_or-map f (set xs i x) k x [] (omega (arith, inside, length-set xs i x)) ∙ ap f (get_or-set_other xs i k x x other) ∙ sym (get_or-map f xs k x [] inside)
 
 -- a row's cell in the next generation, by the rows that are these turned both ways
-pub next_at : (xs row ys la ra lr rr lb rb : List Bool) (cell : Bool) (j : ℕ) → length xs ≡ 64 → length row ≡ 64 → length ys ≡ 64 → j < 64
+pub next_at : (xs row ys la ra lr rr lb rb : List Bool) (cell : Bool) (many j : ℕ) → length xs ≡ many → length row ≡ many → length ys ≡ many → j < many
     → la ≡ drop 1 xs ++ take 1 xs → ra ≡ drop (length xs - 1) xs ++ take (length xs - 1) xs → lr ≡ drop 1 row ++ take 1 row → rr ≡ drop (length row - 1) row ++ take (length row - 1) row → lb ≡ drop 1 ys ++ take 1 ys → rb ≡ drop (length ys - 1) ys ++ take (length ys - 1) ys
     → cell ≡ lives (element row j) (0 + one_if (element la j) + one_if (element xs j) + one_if (element ra j) + one_if (element lr j) + one_if (element rr j) + one_if (element lb j) + one_if (element ys j) + one_if (element rb j))
     → cell ≡ next_cell xs row ys j
-next_at xs row ys la ra lr rr lb rb cell j a b c inside e f g h k l is =
+next_at xs row ys la ra lr rr lb rb cell many j a b c inside e f g h k l is =
     let up = beside_of xs la ra j (omega (arith, inside, a)) e f in
     let here = beside_of row lr rr j (omega (arith, inside, b)) g h in
     let down = beside_of ys lb rb j (omega (arith, inside, c)) k l in
@@ -177,9 +169,9 @@ MadeTo f old new i =
 
 module _ {X : Type 0} (f : X → List Bool) (old new : List X) where
   -- one more
-  pub next_more : ((y : X) → length (f y) ≡ 64) → (i a b : ℕ) (x above here below : X) → i < length old → a ≡ place_before (length old) i → a < length old → b ≡ place_behind (length old) i → b < length old
-      → above ≡ get_or old a above → here ≡ get_or old i here → below ≡ get_or old b below → ((j : ℕ) → j < 64 → element (f x) j ≡ next_cell (f above) (f here) (f below) j) → MadeTo f old new i → MadeTo f old (set new i x) (i + 1)
-  next_more long i a b x above here below inside before before_inside behind behind_inside first second third rule made =
+  pub next_more : (cells : ℕ) → ((y : X) → length (f y) ≡ cells) → (i a b : ℕ) (x above here below : X) → i < length old → a ≡ place_before (length old) i → a < length old → b ≡ place_behind (length old) i → b < length old
+      → above ≡ get_or old a above → here ≡ get_or old i here → below ≡ get_or old b below → ((j : ℕ) → j < cells → element (f x) j ≡ next_cell (f above) (f here) (f below) j) → MadeTo f old new i → MadeTo f old (set new i x) (i + 1)
+  next_more cells long i a b x above here below inside before before_inside behind behind_inside first second third rule made =
       let many = length-map old f in
       let room : i < length new = omega (arith, inside, made.0) in (
         length-set new i x ∙ made.0,
@@ -190,7 +182,7 @@ module _ {X : Type 0} (f : X → List Bool) (old new : List X) where
               let row : f here ≡ row_of (map f old) k = row_is f old i here inside second ∙ ap (row_of (map f old)) (sym same) in
               let down : f below ≡ row_of (map f old) (place_behind (length (map f old)) k) =
               row_is f old b below behind_inside third ∙ ap (row_of (map f old)) (behind ∙ ap (λ n. place_behind n i) (sym many) ∙ ap (place_behind (length (map f old))) (sym same)) in
-              let short : j < 64 = omega (arith, within, ap length row, long here) in
+              let short : j < cells = omega (arith, within, ap length row, long here) in
               ap (λ n. element (row_of (map f (set new i x)) n) j) same
               ∙ ap (λ ys. element ys j) (row_put f new i x room)
               ∙ rule j short

@@ -5,20 +5,21 @@ ghost use Rattle.bitvec.specs.Span.{element};
 ghost use Rattle.bitvec_array.specs.BitArray.{array_bits};
 ghost use Rattle.example_life.specs.Rule.{one_if, lives};
 
-use bitvec_array::prelude::{BitArray, Lsb0};
+use crate::rows::{both, either, one_alone, turned};
+use bitvec_array::prelude::{BitArray, BitOrder};
 
-/// A row of 64 cells.
-pub type Row = BitArray<Lsb0, 1>;
+/// A row of 64 cells, under any order.
+pub type Row<O> = BitArray<O, 1>;
 
 /// For each cell of a row a number from 0 to 3, or that it is more.
 #[derive(Drop)]
-pub struct Counts {
-    ones: Row,
-    twos: Row,
-    fours: Row,
+pub struct Counts<O: BitOrder<usize>> {
+    ones: Row<O>,
+    twos: Row<O>,
+    fours: Row<O>,
 }
 
-impl Counts {
+impl<O: BitOrder<usize>> Counts<O> {
     ghost use Rattle.example_life.specs.Counts.{CountsTo};
 
     /// 0 for each cell.
@@ -33,23 +34,24 @@ impl Counts {
     }
 
     /// One more for each cell of another row that lives.
-    pub fn plus(&self, cells: &Row) -> Self
+    pub fn plus(&self, cells: &Row<O>) -> Self
         ensures { (j n : ℕ) → j < 64 → CountsTo self.now j n
             → CountsTo result j (n + one_if (element (array_bits cells.now) j)) }
     {
-        let carry = self.ones & *cells;
-        let ones = self.ones ^ *cells;
-        let twos = self.twos ^ carry;
-        let fours = self.fours | (self.twos & carry);
+        let carry = both(&self.ones, cells);
+        let ones = one_alone(&self.ones, cells);
+        let twos = one_alone(&self.twos, &carry);
+        let fours = either(&self.fours, &both(&self.twos, &carry));
         Counts { ones, twos, fours }
     }
 
     /// Whether each cell of a row lives next, where these are the numbers of its neighbours that
     /// live: with three neighbours, or alive and with two.
-    pub fn lives(&self, row: &Row) -> Row
+    pub fn lives(&self, row: &Row<O>) -> Row<O>
         ensures { (j n : ℕ) → j < 64 → CountsTo self.now j n
             → element (array_bits result) j ≡ lives (element (array_bits row.now) j) n }
     {
-        self.twos & !self.fours & (self.ones | *row)
+        let few = both(&self.twos, &turned(&self.fours));
+        both(&few, &either(&self.ones, row))
     }
 }

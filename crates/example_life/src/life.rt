@@ -6,43 +6,48 @@ ghost use Rattle.bitvec_array.specs.BitArray.{array_bits};
 ghost use Rattle.example_life.specs.Rule.{place_before, place_behind, next_cell, IsNext};
 
 use crate::counts::{Counts, Row};
+use crate::rows::copy_of;
 use bitvec_array::prelude::{BitArray, BitOrder};
 
 // The row with each cell where the one behind it was, and the first cell last.
-fn left<O: BitOrder<usize>, const N: usize>(row: BitArray<O, N>) -> BitArray<O, N>
-    requires { 0 < N }
-    ensures { let xs = array_bits row in array_bits result ≡ drop 1 xs ++ take 1 xs }
+fn left<O: BitOrder<usize>, const N: usize>(row: &BitArray<O, N>) -> BitArray<O, N>
+    ensures { let xs = array_bits row.now in array_bits result ≡ drop 1 xs ++ take 1 xs }
 {
-    let mut turned = row;
+    let mut turned = copy_of(row);
+    if N == 0 {
+        return turned;
+    }
     turned.rotate_left(1);
     turned
 }
 
 // The row with each cell where the one before it was, and the last cell first.
-fn right<O: BitOrder<usize>, const N: usize>(row: BitArray<O, N>) -> BitArray<O, N>
-    requires { 0 < N }
-    ensures { let xs = array_bits row in array_bits result
+fn right<O: BitOrder<usize>, const N: usize>(row: &BitArray<O, N>) -> BitArray<O, N>
+    ensures { let xs = array_bits row.now in array_bits result
         ≡ drop (length xs - 1) xs ++ take (length xs - 1) xs }
 {
-    let mut turned = row;
+    let mut turned = copy_of(row);
+    if N == 0 {
+        return turned;
+    }
     turned.rotate_right(1);
     turned
 }
 
 /// The next generation of a row, by the rows above and below it. Each row goes round at its ends.
-pub fn next_row(above: &Row, row: &Row, below: &Row) -> Row
+pub fn next_row<O: BitOrder<usize>>(above: &Row<O>, row: &Row<O>, below: &Row<O>) -> Row<O>
     ensures { (j : ℕ) → j < 64 → element (array_bits result) j
         ≡ next_cell (array_bits above.now) (array_bits row.now) (array_bits below.now) j }
 {
     let counts = Counts::zero()
-        .plus(&left(*above))
+        .plus(&left(above))
         .plus(above)
-        .plus(&right(*above))
-        .plus(&left(*row))
-        .plus(&right(*row))
-        .plus(&left(*below))
+        .plus(&right(above))
+        .plus(&left(row))
+        .plus(&right(row))
+        .plus(&left(below))
         .plus(below)
-        .plus(&right(*below));
+        .plus(&right(below));
     counts.lives(row)
 }
 
@@ -67,7 +72,7 @@ fn behind(many: usize, i: usize) -> usize
 }
 
 /// The next generation of a grid, whose last row is above the first.
-pub fn next(rows: &[Row], out: &mut [Row])
+pub fn next<O: BitOrder<usize>>(rows: &[Row<O>], out: &mut [Row<O>])
     requires { length out.old ≡ length rows.now }
     ensures { IsNext (map array_bits rows.now) (map array_bits out.new) }
 {

@@ -1,7 +1,9 @@
 //! A glider that goes round a torus, and a blinker at the seam.
 
-use example_life::counts::Row;
+use bitvec_array::prelude::{BitArray, Lsb0, Msb0};
 use example_life::life::{next, next_row};
+
+type Row = BitArray<Lsb0, 1>;
 
 // A glider comes back one row down and one column on after four generations.
 #[test]
@@ -33,4 +35,13 @@ fn a_blinker_at_the_seam(rt: HostRuntime) {
     assert_eq!(rt; next_row(&none, &row, &none).into_words(), [1]);
     assert_eq!(rt; next_row(&none, &none, &row).into_words(), [1]);
     assert_eq!(rt; next_row(&row, &none, &none).into_words(), [1]);
+}
+
+// The same where the first cell is the highest digit.
+#[test]
+fn a_blinker_in_the_other_order(rt: HostRuntime) {
+    let none: BitArray<Msb0, 1> = BitArray::zeros();
+    let row: BitArray<Msb0, 1> = BitArray::from_words([0b11 << 62 | 1]);
+    assert_eq!(rt; next_row(&none, &row, &none).into_words(), [1 << 63]);
+    assert_eq!(rt; next_row(&none, &none, &row).into_words(), [1 << 63]);
 }

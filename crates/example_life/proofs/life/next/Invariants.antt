@@ -4,4 +4,4 @@ use Rattle.example_life.proofs.life.next.Given as goal
 
 -- the rows before this one are made
 abbrev pub invariant-loop-i : goal.invariant-loop-i
-invariant-loop-i l = MadeTo array_bits l.rows l.out l.i
+invariant-loop-i g l = MadeTo array_bits l.rows l.out l.i
