@@ -4,6 +4,8 @@
 #[cfg(test)]
 mod callers;
 #[cfg(test)]
+mod counts;
+#[cfg(test)]
 mod examples;
 #[cfg(test)]
 mod prelude;
