@@ -1,6 +1,6 @@
 -- Spans taken in another order: relations of each two of them, and the last one with bits in an order in which places rise.
-use Rattle.std.proofs.Common.{◌≡◌, ℕ, ℤ, ◌*◌, pos, negsuc, ◌+◌, ◌<◌, ◌≤◌, ◌≤ℤ◌, ◌⊎◌, List, length, get_or, [], ◌∷◌, zero-add, refl, sym, ◌∙◌, subst, ap, inl, inr, arith}
-use Rattle.std.specs.Prelude.{nat_abs, min, map, All, AllPairs, swap}
+use Rattle.std.proofs.Common.{◌≡◌, ℕ, ℤ, ◌*◌, ◌%◌, ◌^◌, pos, negsuc, ◌+◌, ◌<◌, ◌≤◌, ◌≤ℤ◌, ◌⊎◌, List, length, get_or, [], ◌∷◌, zero-add, refl, sym, ◌∙◌, subst, ap, inl, inr, arith}
+use Rattle.std.specs.Prelude.{nat_abs, map, All, AllPairs, swap}
 use Rattle.std.specs.Int.{w64, cast_unsigned}
 use Rattle.std.specs.List.{range_with_len}
 use Rattle.std.specs.List.Sorted.{IsPermutation, IsNonDecreasingBy}
@@ -179,7 +179,7 @@ rises_from_sort bits view spans order small low heads inside sorted i j d below 
 
 -- the number of a span's first bit, and the greatest of a word of 64 digits where it passes that
 abbrev pub near_key : ℕ → Span → ℕ
-near_key bits span = min (min (cast_unsigned w64 span.word * bits) 18446744073709551615 + span.head) 18446744073709551615
+near_key bits span = (cast_unsigned w64 span.word * bits % 2 ^ 64 + span.head) % 2 ^ 64
 
 -- in few words it passes none
 pub near_key-start : (bits : ℕ) (a : Span) → bits ≤ 128 → pos 0 ≤ℤ a.word → nat_abs a.word ≤ 36028797018963968 → a.head < bits
@@ -188,7 +188,8 @@ near_key-start bits a small low near in_a =
     let word = unsigned-pos a.word low in
     let product : nat_abs a.word * bits ≤ 36028797018963968 * 128 = mul-le (nat_abs a.word) bits 36028797018963968 128 near small in
     let same : cast_unsigned w64 a.word * bits ≡ nat_abs a.word * bits = ap (λ n. n * bits) word in
-    omega (arith, same, product, in_a, small)
+    let kept : cast_unsigned w64 a.word * bits % 2 ^ 64 ≡ nat_abs a.word * bits = omega (arith, same, product) in
+    omega (arith, kept, product, in_a, small)
 
 -- an order of the numbers of spans in few words along which it does not fall
 pub rises_from_near_sort : {S : Type 0} (bits : ℕ) (view : S → Span) (spans : List S) (order : List ℕ) → bits ≤ 128

@@ -4,7 +4,7 @@
 //! what they give on that list alone. None of it is in the Rust crate.
 
 ghost use Rattle.std.specs.Prelude.{◌≡◌, ℕ, pos, ◌≤ℤ◌, ◌<◌, ◌≤◌, ◌↔◌, IsTrue, IfSome, None, All};
-ghost use Rattle.std.specs.Prelude.{nat_abs, min, ◌+◌, ◌*◌};
+ghost use Rattle.std.specs.Prelude.{nat_abs, ◌+◌, ◌*◌, ◌%◌, ◌^◌};
 ghost use Rattle.std.specs.Prelude.{AllPairs, List, [], ◌∷◌, length, map};
 ghost use Rattle.std.specs.Int.{w64, cast_unsigned};
 ghost use Rattle.bitvec_span.specs.Span.{AreDisjoint, Fits};
@@ -162,17 +162,16 @@ fn key_of<R: BitRegister, O>(spans: &[BitSpan<R, O>], i: usize) -> u128
 }
 
 // The number of the first bit of a span of a list, and 0 where there is no such span. What passes a
-// `usize`, as a word before word 0 does, is its greatest.
+// `usize`, as a word before word 0 does, wraps.
 #[inline(always)]
 fn near_key_of<R: BitRegister, O>(spans: &[BitSpan<R, O>], i: usize) -> usize
     ensures { let span = span_in span_of spans.now i in result
-        ≡ min (min (cast_unsigned w64 span.word * R.BITS) usize.MAX + span.head) usize.MAX }
+        ≡ (cast_unsigned w64 span.word * R.BITS % 2 ^ 64 + span.head) % 2 ^ 64 }
 {
     if i < spans.len() {
         let word = spans[i].address().cast_unsigned();
         let head = usize::from(spans[i].head().into_inner());
-        word.saturating_mul(usize::from(R::BITS))
-            .saturating_add(head)
+        word.wrapping_mul(usize::from(R::BITS)).wrapping_add(head)
     } else {
         0
     }
