@@ -1,12 +1,12 @@
 -- What a call promises, and the operands that calls speak of: bits of a memory from a place on.
-use Rattle.std.specs.Prelude.{◌≡◌, ◌≢◌, ◌↔◌, IsTrue, ℕ, ℤ, Bool, true, ◌&&◌, ◌||◌, not, List, length, map}
+use Rattle.std.specs.Prelude.{◌≡◌, ◌≢◌, ◌↔◌, ◌==◌, IsTrue, ℕ, ℤ, Bool, true, ◌&&◌, ◌||◌, not, if◌then◌else◌, List, length, map}
 use Rattle.bitvec.specs.Digit.{exclusive_or}
 use Rattle.bitvec.specs.Memory.{bit_of, zip_with}
 use Rattle.bitvec.specs.Truths.{ones_in}
 use Rattle.bitvec_slice.specs.Signed.{signed_of}
 use Rattle.bitvec_call.specs.Number.{loaded_number, StoresNumber}
 use Rattle.bitvec_call.specs.Order.{order_at, rises}
-use Rattle.bitvec_call.specs.Range.{range_bits, RangeBecomes, WritesBit, ExchangesBits, CopiesBits}
+use Rattle.bitvec_call.specs.Range.{range_bits, RangeBecomes, WritesBit, ExchangesBits, CopiesBits, CombinesBits}
 use Rattle.bitvec_call.specs.Seek.{IsFirstOr}
 use Rattle.bitvec_call.specs.Status.{ok, range_status, ranges_status, number_status, moved_status, pair_status}
 
@@ -64,6 +64,10 @@ operands_status it other count = pair_status it.bits it.order it.words it.start 
 -- the first `count` bits of an operand become those of a list, and all else stays
 abbrev pub OperandBecomes : Operand → Operand → ℕ → List Bool → Type 0
 OperandBecomes old new count xs = RangeBecomes old.bits (order_of old) old.start count xs old.memory new.memory
+
+-- the status of the first `count` bits of two operands, and then of a third
+abbrev pub three_operands_status : Operand → Operand → Operand → ℕ → ℕ
+three_operands_status it other third count = let first = operands_status it other count in if first == ok then operand_status third count else first
 
 -- a call that answers something of the first `count` bits of an operand
 abbrev pub IsAnswer : Operand → ℕ → (List Bool → Type 0) → Type 0 → ℕ → Type 0
@@ -129,6 +133,16 @@ but_not = λ x y. x && not y
 abbrev pub IsCombination : (Bool → Bool → Bool) → Operand → Operand → Operand → ℕ → ℕ → Type 0
 IsCombination f source old new count result =
     IsCall (operands_status source old count) (OperandBecomes old new count (zip_with f (operand_bits old count) (operand_bits source count))) (new.memory ≡ old.memory) result
+
+-- the same under one order, of a source that may be a range of the same memory: each of its bits is what it was before
+abbrev pub IsCombinationWithin : (Bool → Bool → Bool) → Operand → Operand → Operand → ℕ → ℕ → Type 0
+IsCombinationWithin f source old new count result =
+    IsCall (operands_status source old count) (CombinesBits f old.bits (order_of old) source.memory source.start old.memory old.start count new.memory) (new.memory ≡ old.memory) result
+
+-- a call that makes each of the first `count` bits of an operand what `f` makes of those of two others
+abbrev pub IsCombinationOf : (Bool → Bool → Bool) → Operand → Operand → Operand → Operand → ℕ → ℕ → Type 0
+IsCombinationOf f first second old new count result =
+    IsCall (three_operands_status first second old count) (OperandBecomes old new count (zip_with f (operand_bits first count) (operand_bits second count))) (new.memory ≡ old.memory) result
 
 -- a call that answers whether the first `count` bits of two operands are the same
 abbrev pub IsComparison : Operand → Operand → ℕ → Bool → Bool → ℕ → Type 0

@@ -1,7 +1,7 @@
 -- Ranges of the bits of a memory. A place counts the bits of a memory from 0 on, `bits` is the width of a word, `at` takes
 -- an index in a word to its position in the number, and a memory is the list of its words' numbers.
 use Rattle.std.specs.Prelude.{◌≡◌, ℕ, pos, ◌/◌, ◌%◌, Bool, List, map, slice_set}
-use Rattle.bitvec.specs.Memory.{bit_of, memory_bits, list_with_copy, zip_with}
+use Rattle.bitvec.specs.Memory.{bit_of, memory_bits, list_with, list_with_copy, zip_with}
 use Rattle.bitvec.specs.Place.{Ptr}
 use Rattle.bitvec.specs.Span.{BecomesList, span_at, list_of}
 use Rattle.bitvec_call.specs.Order.{order_at}
@@ -56,3 +56,8 @@ ExchangesBits bits at place other old new =
 -- before
 abbrev pub CopiesBits : ℕ → (ℕ → ℕ) → List ℕ → ℕ → List ℕ → ℕ → ℕ → List ℕ → Type 0
 CopiesBits bits at source from old to count new = memory_bits bits at new ≡ list_with_copy (memory_bits bits at source) from (memory_bits bits at old) to count
+
+-- the `count` bits of a memory from place `to` on become what `f` makes of them and of those of a source from place `from` on,
+-- and every other bit is as before
+abbrev pub CombinesBits : (Bool → Bool → Bool) → ℕ → (ℕ → ℕ) → List ℕ → ℕ → List ℕ → ℕ → ℕ → List ℕ → Type 0
+CombinesBits f bits at source from old to count new = memory_bits bits at new ≡ list_with f (memory_bits bits at source) from (memory_bits bits at old) to count

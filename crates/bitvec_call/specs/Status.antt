@@ -56,6 +56,11 @@ abbrev pub ranges_status : ℕ → ℕ → ℕ → ℕ → ℕ → ℕ → ℕ �
 ranges_status bits order words start other_words other_start count =
     let first = range_status bits order words start count in if first == ok then range_status bits order other_words other_start count else first
 
+-- the same of three
+abbrev pub three_status : ℕ → ℕ → ℕ → ℕ → ℕ → ℕ → ℕ → ℕ → ℕ → ℕ
+three_status bits order words start other_words other_start third_words third_start count =
+    let first = ranges_status bits order words start other_words other_start count in if first == ok then range_status bits order third_words third_start count else first
+
 -- the same of a range that is a number, which has at most 64 bits
 abbrev pub number_status : ℕ → ℕ → ℕ → ℕ → ℕ → ℕ
 number_status bits order words start count =

@@ -1,13 +1,18 @@
-//! A range of bits combined with one of another memory, whose words and order may be others.
+//! A range of bits combined with one of another memory, whose words and order may be others, or
+//! with one of the same memory, and one that is made of two others.
 
-ghost use Rattle.std.specs.Prelude.{◌+◌, ◌*◌, ◌≤◌, length};
+ghost use Rattle.std.specs.Prelude.{◌+◌, ◌*◌, ◌≤◌, length, map};
+ghost use Rattle.bitvec.specs.Memory.{zip_with};
 ghost use Rattle.bitvec.specs.Place.{region_max_bits};
-ghost use Rattle.bitvec_call.specs.Call.{operand, IsCombination};
+ghost use Rattle.bitvec_call.specs.Call.{operand, IsCombination, IsCombinationOf};
+ghost use Rattle.bitvec_call.specs.Call.{IsCombinationWithin};
 ghost use Rattle.bitvec_call.specs.Order.{order_at};
-ghost use Rattle.bitvec_call.specs.Range.{bits_in, coded_bits, MemoryCombines};
+ghost use Rattle.bitvec_call.specs.Range.{bits_in, coded_bits, CombinesBits, MemoryBecomes};
+ghost use Rattle.bitvec_call.specs.Range.{MemoryCombines};
 
-use crate::range::span;
-use crate::status::{LSB0, OK, test_pair};
+use crate::convert::convert_range;
+use crate::range::{pointer, span};
+use crate::status::{LSB0, OK, test_pair, test_ranges, test_three};
 use bitvec::mem::BitRegister;
 use bitvec::order::{BitOrder, Lsb0, Msb0};
 use bitvec::ptr::combine::Combine;
@@ -97,6 +102,133 @@ pub fn combine<C: Combine, R2: BitRegister, R: BitRegister>(
     let status = test_pair::<R2, R>(source_order, source.len(), from, order, words, to, count);
     if status == OK {
         combine_range::<C, R2, R>(source_order, source, from, order, target, to, count);
+    }
+    status
+}
+
+// Makes of each bit of a range what `C` makes of it and of that of another of the same memory, as
+// both were before the call, and changes no other bit.
+fn within_in<C: Combine, R: BitRegister, O: BitOrder<R>>(
+    memory: &mut [R],
+    from: usize,
+    to: usize,
+    count: usize,
+)
+    requires source_inside { from + count ≤ length memory.old * R.BITS }
+    requires target_inside { to + count ≤ length memory.old * R.BITS }
+    ensures { let old = map R.number memory.old in CombinesBits C.of R.BITS O.at_of old from
+        old to count (map R.number memory.new) }
+{
+    let first = pointer::<R, O>(from);
+    let target_first = pointer::<R, O>(to);
+    first.combine_within::<C>(memory, target_first, count);
+}
+
+// The same under the order of a code.
+fn within_range<C: Combine, R: BitRegister>(
+    order: u8,
+    memory: &mut [R],
+    from: usize,
+    to: usize,
+    count: usize,
+)
+    requires source_inside { from + count ≤ length memory.old * R.BITS }
+    requires target_inside { to + count ≤ length memory.old * R.BITS }
+    ensures { let old = map R.number memory.old in CombinesBits C.of R.BITS (order_at R.BITS
+        order) old from old to count (map R.number memory.new) }
+{
+    if order == LSB0 {
+        within_in::<C, R, Lsb0>(memory, from, to, count);
+    } else {
+        within_in::<C, R, Msb0>(memory, from, to, count);
+    }
+}
+
+/// Makes of each bit of a range what `C` makes of it and of that of another of the same memory, as
+/// both were before the call, and changes no other bit. It costs by words.
+///
+/// It refuses with `NO_ORDER`, `TOO_LONG` or `OUTSIDE`, and then the memory is as it was.
+pub fn combine_within<C: Combine, R: BitRegister>(
+    order: u8,
+    memory: &mut [R],
+    from: usize,
+    to: usize,
+    count: usize,
+) -> u8
+    ensures { let at = operand R.number R.BITS order in IsCombinationWithin C.of (at from
+        memory.old) (at to memory.old) (at to memory.new) count result }
+{
+    let words = memory.len();
+    let status = test_ranges::<R>(order, words, from, words, to, count);
+    if status == OK {
+        within_range::<C, R>(order, memory, from, to, count);
+    }
+    status
+}
+
+// Makes each bit of a range what `C` makes of those of two others, and changes no other bit.
+fn range_of<C: Combine, R: BitRegister>(
+    order: u8,
+    first: &[R],
+    first_from: usize,
+    second: &[R],
+    second_from: usize,
+    target: &mut [R],
+    to: usize,
+    count: usize,
+)
+    requires short { count ≤ region_max_bits }
+    requires first_inside { first_from + count ≤ length first.now * R.BITS }
+    requires second_inside { second_from + count ≤ length second.now * R.BITS }
+    requires target_inside { to + count ≤ length target.old * R.BITS }
+    ensures { MemoryBecomes R.number R.BITS (order_at R.BITS order) to count (zip_with C.of
+        (coded_bits R.number R.BITS order first_from count first.now) (coded_bits R.number R.BITS
+        order second_from count second.now)) target.old target.new }
+{
+    convert_range::<R, R>(order, first, first_from, order, target, to, count);
+    combine_range::<C, R, R>(order, second, second_from, order, target, to, count);
+}
+
+/// Makes each bit of a range what `C` makes of those of two others of memories of their own, and
+/// changes no other bit. It costs by words.
+///
+/// It refuses with `NO_ORDER`, `TOO_LONG` or `OUTSIDE`, and then the target is as it was. All three
+/// ranges are tested before a bit is written.
+pub fn combine_of<C: Combine, R: BitRegister>(
+    order: u8,
+    first: &[R],
+    first_from: usize,
+    second: &[R],
+    second_from: usize,
+    target: &mut [R],
+    to: usize,
+    count: usize,
+) -> u8
+    ensures { let at = operand R.number R.BITS order in IsCombinationOf C.of (at first_from
+        first.now) (at second_from second.now) (at to target.old) (at to target.new) count result }
+{
+    let (here, there, words) = (first.len(), second.len(), target.len());
+    let status = test_three::<R>(
+        order,
+        here,
+        first_from,
+        there,
+        second_from,
+        words,
+        to,
+        count,
+    );
+    if status == OK {
+        range_of::<C, R>(
+            order,
+            first,
+            first_from,
+            second,
+            second_from,
+            target,
+            to,
+            count,
+        );
     }
     status
 }

@@ -52,8 +52,9 @@ fn convert_from<R2: BitRegister, R: BitRegister, O: BitOrder<R>>(
     }
 }
 
-// The same where both orders are those of codes.
-fn convert_range<R2: BitRegister, R: BitRegister>(
+/// The same where both orders are those of codes: makes the bits of a range those of another
+/// memory's, and changes no other bit.
+pub(crate) fn convert_range<R2: BitRegister, R: BitRegister>(
     source_order: u8,
     source: &[R2],
     from: usize,

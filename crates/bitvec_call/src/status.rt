@@ -3,7 +3,7 @@
 ghost use Rattle.std.specs.Prelude.{◌≡◌, ◌+◌, ◌-◌, ◌*◌, ◌≤◌, ◌↔◌, IsTrue};
 ghost use Rattle.bitvec.specs.Place.{region_max_bits};
 ghost use Rattle.bitvec_call.specs.Status.{ok, range_status, ranges_status, number_status};
-ghost use Rattle.bitvec_call.specs.Status.{moved_status, left_status, pair_status};
+ghost use Rattle.bitvec_call.specs.Status.{moved_status, left_status, pair_status, three_status};
 
 use bitvec::mem::BitRegister;
 
@@ -125,6 +125,33 @@ pub(crate) fn test_ranges<R: BitRegister>(
     let status = test_range::<R>(order, words, start, count);
     if status == OK {
         test_range::<R>(order, other_words, other_start, count)
+    } else {
+        status
+    }
+}
+
+/// The status of an order and of three ranges of as many bits, each in a memory of its own.
+pub(crate) fn test_three<R: BitRegister>(
+    order: u8,
+    words: usize,
+    start: usize,
+    other_words: usize,
+    other_start: usize,
+    third_words: usize,
+    third_start: usize,
+    count: usize,
+) -> u8
+    ensures status { result ≡ three_status R.BITS order words start other_words other_start
+        third_words third_start count }
+    ensures order { result ≡ ok → order ≤ 1 }
+    ensures short { result ≡ ok → count ≤ region_max_bits }
+    ensures inside { result ≡ ok → start + count ≤ words * R.BITS }
+    ensures other_inside { result ≡ ok → other_start + count ≤ other_words * R.BITS }
+    ensures third_inside { result ≡ ok → third_start + count ≤ third_words * R.BITS }
+{
+    let status = test_ranges::<R>(order, words, start, other_words, other_start, count);
+    if status == OK {
+        test_range::<R>(order, third_words, third_start, count)
     } else {
         status
     }
