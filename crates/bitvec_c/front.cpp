@@ -133,6 +133,17 @@ template <typename W> void two_ranges() {
     say("or_with", bitvec::or_with(msb0, target, 1, msb0, other, 0, 30), target);
     say("xor_with", bitvec::xor_with(msb0, target, 0, msb0, one, 0, 40), target);
     say("and_not", bitvec::and_not(msb0, target, 0, msb0, other, 3, 25), target);
+    target = one;
+    say("and_within", bitvec::and_within(msb0, target, 0, 3, 20), target);
+    say("or_within", bitvec::or_within(msb0, target, 5, 2, 20), target);
+    say("xor_within", bitvec::xor_within(msb0, target, 3, 0, 25), target);
+    say("and_not_within", bitvec::and_not_within(msb0, target, 0, 6, 30), target);
+    say("and_of", bitvec::and_of(msb0, target, 3, one, 0, other, 4, 32), target);
+    say("or_of", bitvec::or_of(msb0, target, 1, one, 2, other, 0, 30), target);
+    say("xor_of", bitvec::xor_of(msb0, target, 0, one, 0, other, 6, 30), target);
+    say("and_not_of", bitvec::and_not_of(msb0, target, 4, one, 0, other, 1, 34), target);
+    say("xor_within", bitvec::xor_within(msb0, target, 0, bits - 3, 4));
+    say("or_of", bitvec::or_of(msb0, target, 0, one, 0, other, bits - 3, 4));
     say("equal", bitvec::equal(msb0, one, 4, other, 8, 8, is), is);
     say("count_and", bitvec::count_and(msb0, one, 0, msb0, other, 0, 32, number), number);
     say("first_and", bitvec::first_and(msb0, one, 0, msb0, other, 0, 32, number), number);

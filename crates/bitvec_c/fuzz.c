@@ -63,12 +63,12 @@ struct buffer {
     const struct guarded *in;
 };
 
-enum { MEMORY, OTHER, SPANS, REQUESTS, REPLIES, NUMBERS, ANSWER, PLACE, ROOMS };
+enum { MEMORY, OTHER, SECOND, SPANS, REQUESTS, REPLIES, NUMBERS, ANSWER, PLACE, ROOMS };
 
 static struct guarded rooms[ROOMS];
 
 /* (of no declared type, as words of any width are read and written there) */
-static uint8_t *model, *other_model, *old_model;
+static uint8_t *model, *other_model, *second_model, *old_model;
 
 static void map_rooms(void) {
     for (int i = 0; i < ROOMS; i++) {
@@ -83,8 +83,9 @@ static void map_rooms(void) {
     }
     model = calloc(1, ROOM);
     other_model = calloc(1, ROOM);
+    second_model = calloc(1, ROOM);
     old_model = calloc(1, ROOM);
-    if (model == NULL || other_model == NULL || old_model == NULL)
+    if (model == NULL || other_model == NULL || second_model == NULL || old_model == NULL)
         exit(2);
 }
 
@@ -793,6 +794,52 @@ static size_t any_start(size_t bits, size_t count) {
         same_bytes(target, model);                                                                 \
     }
 
+/* An export that combines two ranges of one memory, and one that makes a range of two others, which
+ * are sometimes of one memory. */
+#define COMBINED_WITHIN(C, W, T)                                                                   \
+    static void C##_within_##W(uint8_t order, unsigned width) {                                    \
+        struct buffer memory = any_memory(MEMORY, width, model);                                   \
+        size_t words = memory.size / sizeof(T);                                                    \
+        struct range from = any_range(words * width);                                              \
+        size_t to = any_start(words * width, from.count);                                          \
+        uint8_t status = bitvec_c_##C##_within_##W(order, (T *)(void *)memory.at, words, to,       \
+                                                   from.start, from.count);                        \
+        same_status(status, model_##C##_within_##W(order, (T *)(void *)model, words, to,           \
+                                                   from.start, from.count));                       \
+        same_bytes(memory, model);                                                                 \
+    }
+
+#define COMBINED_OF(C, W, T)                                                                       \
+    static void C##_of_##W(uint8_t order, unsigned width) {                                        \
+        struct buffer first = any_memory(OTHER, width, other_model), second = first;               \
+        const uint8_t *second_as = other_model;                                                    \
+        struct buffer target = any_memory(MEMORY, width, model);                                   \
+        if (!one_in(4)) {                                                                          \
+            second = any_memory(SECOND, width, second_model);                                      \
+            second_as = second_model;                                                              \
+        }                                                                                          \
+        size_t words = first.size / sizeof(T), second_words = second.size / sizeof(T);             \
+        size_t target_words = target.size / sizeof(T);                                             \
+        size_t least = second_words < target_words ? second_words : target_words;                  \
+        struct range from = any_range(words * width);                                              \
+        if (!one_in(4) && from.count > least * width)                                              \
+            from.count = least * width;                                                            \
+        size_t second_from = any_start(second_words * width, from.count);                          \
+        size_t to = any_start(target_words * width, from.count);                                   \
+        protect(first, PROT_READ);                                                                 \
+        protect(second, PROT_READ);                                                                \
+        uint8_t status = bitvec_c_##C##_of_##W(                                                    \
+            order, (T *)(void *)target.at, target_words, to, (const T *)(void *)first.at, words,   \
+            from.start, (const T *)(void *)second.at, second_words, second_from, from.count);      \
+        protect(first, PROT_READ | PROT_WRITE);                                                    \
+        protect(second, PROT_READ | PROT_WRITE);                                                   \
+        same_status(status, model_##C##_of_##W(order, (T *)(void *)model, target_words, to,        \
+                                               (const T *)(void *)other_model, words, from.start,  \
+                                               (const T *)(const void *)second_as, second_words,   \
+                                               second_from, from.count));                          \
+        same_bytes(target, model);                                                                 \
+    }
+
 /* And of the same two ranges. */
 #define TOLD_OF_TWO(C)                                                                             \
     (model_##C(order, (const void *)model, words, range.start, other_order,                        \
@@ -875,6 +922,14 @@ static size_t any_start(size_t bits, size_t count) {
     COMBINED(or, W, T)                                                                             \
     COMBINED(xor, W, T)                                                                            \
     COMBINED(and_not, W, T)                                                                        \
+    COMBINED_WITHIN(and, W, T)                                                                     \
+    COMBINED_WITHIN(or, W, T)                                                                      \
+    COMBINED_WITHIN(xor, W, T)                                                                     \
+    COMBINED_WITHIN(and_not, W, T)                                                                 \
+    COMBINED_OF(and, W, T)                                                                         \
+    COMBINED_OF(or, W, T)                                                                          \
+    COMBINED_OF(xor, W, T)                                                                         \
+    COMBINED_OF(and_not, W, T)                                                                     \
     CONVERT(copy_u8_to_##W, uint8_t, T)                                                            \
     CONVERT(copy_u16_to_##W, uint16_t, T)                                                          \
     CONVERT(copy_u32_to_##W, uint32_t, T)                                                          \
@@ -1066,7 +1121,9 @@ static struct export exports[] = {
     EXPORTS_OF(equal), EXPORTS_OF(can_run), EXPORTS_OF(run), EXPORTS_OF(first), EXPORTS_OF(last),
     EXPORTS_OF(find_zeros), EXPORTS_OF(invert), EXPORTS_OF(reverse), EXPORTS_OF(shift_left),
     EXPORTS_OF(shift_right), EXPORTS_OF(rotate_left), EXPORTS_OF(and), EXPORTS_OF(or),
-    EXPORTS_OF(xor), EXPORTS_OF(and_not), EXPORTS_OF(copy_u8_to), EXPORTS_OF(copy_u16_to),
+    EXPORTS_OF(xor), EXPORTS_OF(and_not), EXPORTS_OF(and_within), EXPORTS_OF(or_within),
+    EXPORTS_OF(xor_within), EXPORTS_OF(and_not_within), EXPORTS_OF(and_of), EXPORTS_OF(or_of),
+    EXPORTS_OF(xor_of), EXPORTS_OF(and_not_of), EXPORTS_OF(copy_u8_to), EXPORTS_OF(copy_u16_to),
     EXPORTS_OF(copy_u32_to), EXPORTS_OF(copy_u64_to), EXPORTS_OF(count_and), EXPORTS_OF(first_and),
     EXPORTS_OF(first_and_not), EXPORTS_OF(first_difference), EXPORTS_OF(next),
     EXPORTS_OF(previous), EXPORTS_OF(find_zeros_from), EXPORTS_OF(replace), EXPORTS_OF(swap),

@@ -99,6 +99,25 @@ static uint64_t model_complement(size_t count, int64_t number) {
     return (uint64_t)(left < 0 ? left + power : left);
 }
 
+/* The operators by which two bits are made one, and what each makes of them. */
+enum { MODEL_AND, MODEL_OR, MODEL_XOR, MODEL_AND_NOT };
+
+/*@ assigns \nothing;
+  @ ensures by == MODEL_AND ==> (\result <==> here && there);
+  @ ensures by == MODEL_OR ==> (\result <==> here || there);
+  @ ensures by == MODEL_XOR ==> (\result <==> (here ^^ there));
+  @ ensures by == MODEL_AND_NOT ==> (\result <==> here && !there);
+  @*/
+static bool model_operated(int by, bool here, bool there) {
+    if (by == MODEL_AND)
+        return here && there;
+    if (by == MODEL_OR)
+        return here || there;
+    if (by == MODEL_XOR)
+        return here != there;
+    return here && !there;
+}
+
 /* Lemmas on digits, by which three functions are proved, and nothing else, as the provers find more without them. The proof
  * of digits_bound, powers_least, top_all and powers_rise is by induction, as proved/script says; that of the others the
  * provers find. */
@@ -184,6 +203,9 @@ static uint64_t model_complement(size_t count, int64_t number) {
 #define GROWS MODEL_JOIN(model_grows, _u, MODEL_BITS)
 #define TAKEN MODEL_JOIN(model_taken, _u, MODEL_BITS)
 #define GIVEN MODEL_JOIN(model_given, _u, MODEL_BITS)
+#define IS_OPERATED MODEL_JOIN(is_operated, _u, MODEL_BITS)
+#define WITHIN MODEL_JOIN(model_within, _u, MODEL_BITS)
+#define THIRD MODEL_JOIN(model_third, _u, MODEL_BITS)
 #define IS_FREE MODEL_JOIN(free, _u, MODEL_BITS)
 #define FREE MODEL_JOIN(model_free, _u, MODEL_BITS)
 
@@ -685,6 +707,182 @@ uint8_t MODEL(copy_within)(uint8_t order, WORD *memory, size_t words, size_t tar
         }
     }
     return status;
+}
+
+/* Whether an operator makes a one of a bit of one memory and a bit of another. */
+/*@ predicate IS_OPERATED{L}(integer by, integer order, WORD *memory, integer place, WORD *other, integer other_place) =
+  @   by == MODEL_AND ? BIT{L}(order, memory, place) && BIT{L}(order, other, other_place)
+  @   : (by == MODEL_OR ? BIT{L}(order, memory, place) || BIT{L}(order, other, other_place)
+  @   : (by == MODEL_XOR ? BIT{L}(order, memory, place) ^^ BIT{L}(order, other, other_place)
+  @   : BIT{L}(order, memory, place) && !BIT{L}(order, other, other_place)));
+  @*/
+
+/* Combines two ranges of a memory, upwards or downwards, so that each bit of the source is read before it is put. */
+/*@ requires MODEL_AND <= by <= MODEL_AND_NOT && \valid(memory + (0 .. words - 1));
+  @ assigns memory[0 .. words - 1];
+  @ ensures \result == then_status(range_status(MODEL_BITS, order, words, source_start, count),
+  @   range_status(MODEL_BITS, order, words, target_start, count));
+  @ ensures \result == BITVEC_OK ==> \forall integer p; target_start <= p < target_start + count ==>
+  @   (BIT{Post}(order, memory, p) <==> IS_OPERATED{Pre}(by, order, memory, p, memory, source_start + (p - target_start)));
+  @ ensures \result == BITVEC_OK ==> OTHERS{Pre, Post}(order, memory, words, target_start, count);
+  @ ensures \result != BITVEC_OK ==> KEPT{Pre, Post}(memory, words);
+  @*/
+static uint8_t WITHIN(int by, uint8_t order, WORD *memory, size_t words, size_t target_start, size_t source_start,
+                      size_t count) {
+    uint8_t status = STATUS(order, words, source_start, count);
+    if (status == BITVEC_OK)
+        status = STATUS(order, words, target_start, count);
+    if (status != BITVEC_OK)
+        return status;
+    if (target_start <= source_start) {
+        /*@ loop invariant 0 <= i <= count;
+          @ loop invariant \forall integer p; target_start <= p < target_start + i ==> (BIT{Here}(order, memory, p) <==>
+          @   IS_OPERATED{Pre}(by, order, memory, p, memory, source_start + (p - target_start)));
+          @ loop invariant OTHERS{Pre, Here}(order, memory, words, target_start, i);
+          @ loop assigns i, memory[0 .. words - 1];
+          @ loop variant count - i;
+          @*/
+        for (size_t i = 0; i < count; i++) {
+            bool there = READ(order, memory, source_start + i), here = READ(order, memory, target_start + i);
+            //@ assert there <==> BIT{Pre}(order, memory, source_start + i);
+            //@ assert here <==> BIT{Pre}(order, memory, target_start + i);
+            bool bit = model_operated(by, here, there);
+            //@ assert bit <==> IS_OPERATED{Pre}(by, order, memory, target_start + i, memory, source_start + i);
+            PUT(order, memory, target_start + i, bit);
+            /*@ assert BIT{Here}(order, memory, target_start + i) <==>
+              @   IS_OPERATED{Pre}(by, order, memory, target_start + i, memory, source_start + i); */
+            /*@ assert \forall integer p; target_start + i <= p < target_start + (i + 1) ==> (BIT{Here}(order, memory, p) <==>
+              @   IS_OPERATED{Pre}(by, order, memory, p, memory, source_start + (p - target_start))); */
+            /*@ assert \forall integer p; target_start <= p < target_start + i ==> (BIT{Here}(order, memory, p) <==>
+              @   IS_OPERATED{Pre}(by, order, memory, p, memory, source_start + (p - target_start))); */
+        }
+    } else {
+        size_t i = count;
+        /*@ loop invariant 0 <= i <= count;
+          @ loop invariant \forall integer p; target_start + i <= p < target_start + count ==> (BIT{Here}(order, memory, p) <==>
+          @   IS_OPERATED{Pre}(by, order, memory, p, memory, source_start + (p - target_start)));
+          @ loop invariant OTHERS{Pre, Here}(order, memory, words, target_start + i, count - i);
+          @ loop assigns i, memory[0 .. words - 1];
+          @ loop variant i;
+          @*/
+        while (i > 0) {
+            i--;
+            bool there = READ(order, memory, source_start + i), here = READ(order, memory, target_start + i);
+            //@ assert there <==> BIT{Pre}(order, memory, source_start + i);
+            //@ assert here <==> BIT{Pre}(order, memory, target_start + i);
+            bool bit = model_operated(by, here, there);
+            //@ assert bit <==> IS_OPERATED{Pre}(by, order, memory, target_start + i, memory, source_start + i);
+            PUT(order, memory, target_start + i, bit);
+            /*@ assert BIT{Here}(order, memory, target_start + i) <==>
+              @   IS_OPERATED{Pre}(by, order, memory, target_start + i, memory, source_start + i); */
+            /*@ assert \forall integer p; target_start + i <= p < target_start + (i + 1) ==> (BIT{Here}(order, memory, p) <==>
+              @   IS_OPERATED{Pre}(by, order, memory, p, memory, source_start + (p - target_start))); */
+            /*@ assert \forall integer p; target_start + (i + 1) <= p < target_start + count ==>
+              @   (BIT{Here}(order, memory, p) <==>
+              @   IS_OPERATED{Pre}(by, order, memory, p, memory, source_start + (p - target_start))); */
+        }
+    }
+    return status;
+}
+
+uint8_t MODEL(and_within)(uint8_t order, WORD *memory, size_t words, size_t target_start, size_t source_start,
+                          size_t count) {
+    return WITHIN(MODEL_AND, order, memory, words, target_start, source_start, count);
+}
+
+uint8_t MODEL(or_within)(uint8_t order, WORD *memory, size_t words, size_t target_start, size_t source_start,
+                         size_t count) {
+    return WITHIN(MODEL_OR, order, memory, words, target_start, source_start, count);
+}
+
+uint8_t MODEL(xor_within)(uint8_t order, WORD *memory, size_t words, size_t target_start, size_t source_start,
+                          size_t count) {
+    return WITHIN(MODEL_XOR, order, memory, words, target_start, source_start, count);
+}
+
+uint8_t MODEL(and_not_within)(uint8_t order, WORD *memory, size_t words, size_t target_start, size_t source_start,
+                              size_t count) {
+    return WITHIN(MODEL_AND_NOT, order, memory, words, target_start, source_start, count);
+}
+
+/* Combines two ranges to a third. */
+/*@ requires MODEL_AND <= by <= MODEL_AND_NOT && \valid(target + (0 .. target_words - 1));
+  @ requires \valid_read(first + (0 .. first_words - 1)) && \valid_read(second + (0 .. second_words - 1));
+  @ requires \separated(target + (0 .. target_words - 1), first + (0 .. first_words - 1));
+  @ requires \separated(target + (0 .. target_words - 1), second + (0 .. second_words - 1));
+  @ assigns target[0 .. target_words - 1];
+  @ ensures \result == then_status(then_status(range_status(MODEL_BITS, order, first_words, first_start, count),
+  @   range_status(MODEL_BITS, order, second_words, second_start, count)),
+  @   range_status(MODEL_BITS, order, target_words, target_start, count));
+  @ ensures \result == BITVEC_OK ==> \forall integer p; target_start <= p < target_start + count ==>
+  @   (BIT{Post}(order, target, p) <==> IS_OPERATED{Pre}(by, order, first, first_start + (p - target_start),
+  @   second, second_start + (p - target_start)));
+  @ ensures \result == BITVEC_OK ==> OTHERS{Pre, Post}(order, target, target_words, target_start, count);
+  @ ensures \result != BITVEC_OK ==> KEPT{Pre, Post}(target, target_words);
+  @*/
+static uint8_t THIRD(int by, uint8_t order, WORD *target, size_t target_words, size_t target_start,
+                     const WORD *first, size_t first_words, size_t first_start, const WORD *second,
+                     size_t second_words, size_t second_start, size_t count) {
+    uint8_t status = STATUS(order, first_words, first_start, count);
+    if (status == BITVEC_OK)
+        status = STATUS(order, second_words, second_start, count);
+    if (status == BITVEC_OK)
+        status = STATUS(order, target_words, target_start, count);
+    if (status != BITVEC_OK)
+        return status;
+    /*@ loop invariant 0 <= i <= count;
+      @ loop invariant \forall integer p; target_start <= p < target_start + i ==> (BIT{Here}(order, target, p) <==>
+      @   IS_OPERATED{Pre}(by, order, first, first_start + (p - target_start),
+      @   second, second_start + (p - target_start)));
+      @ loop invariant OTHERS{Pre, Here}(order, target, target_words, target_start, i);
+      @ loop assigns i, target[0 .. target_words - 1];
+      @ loop variant count - i;
+      @*/
+    for (size_t i = 0; i < count; i++) {
+        bool here = READ(order, first, first_start + i), there = READ(order, second, second_start + i);
+        //@ assert here <==> BIT{Pre}(order, first, first_start + i);
+        //@ assert there <==> BIT{Pre}(order, second, second_start + i);
+        bool bit = model_operated(by, here, there);
+        //@ assert bit <==> IS_OPERATED{Pre}(by, order, first, first_start + i, second, second_start + i);
+        PUT(order, target, target_start + i, bit);
+        /*@ assert BIT{Here}(order, target, target_start + i) <==>
+          @   IS_OPERATED{Pre}(by, order, first, first_start + i, second, second_start + i); */
+        /*@ assert \forall integer p; target_start + i <= p < target_start + (i + 1) ==> (BIT{Here}(order, target, p) <==>
+          @   IS_OPERATED{Pre}(by, order, first, first_start + (p - target_start),
+          @   second, second_start + (p - target_start))); */
+        /*@ assert \forall integer p; target_start <= p < target_start + i ==> (BIT{Here}(order, target, p) <==>
+          @   IS_OPERATED{Pre}(by, order, first, first_start + (p - target_start),
+          @   second, second_start + (p - target_start))); */
+    }
+    return status;
+}
+
+uint8_t MODEL(and_of)(uint8_t order, WORD *target, size_t target_words, size_t target_start, const WORD *first,
+                      size_t first_words, size_t first_start, const WORD *second, size_t second_words,
+                      size_t second_start, size_t count) {
+    return THIRD(MODEL_AND, order, target, target_words, target_start, first, first_words, first_start, second,
+                 second_words, second_start, count);
+}
+
+uint8_t MODEL(or_of)(uint8_t order, WORD *target, size_t target_words, size_t target_start, const WORD *first,
+                     size_t first_words, size_t first_start, const WORD *second, size_t second_words,
+                     size_t second_start, size_t count) {
+    return THIRD(MODEL_OR, order, target, target_words, target_start, first, first_words, first_start, second,
+                 second_words, second_start, count);
+}
+
+uint8_t MODEL(xor_of)(uint8_t order, WORD *target, size_t target_words, size_t target_start, const WORD *first,
+                      size_t first_words, size_t first_start, const WORD *second, size_t second_words,
+                      size_t second_start, size_t count) {
+    return THIRD(MODEL_XOR, order, target, target_words, target_start, first, first_words, first_start, second,
+                 second_words, second_start, count);
+}
+
+uint8_t MODEL(and_not_of)(uint8_t order, WORD *target, size_t target_words, size_t target_start, const WORD *first,
+                          size_t first_words, size_t first_start, const WORD *second, size_t second_words,
+                          size_t second_start, size_t count) {
+    return THIRD(MODEL_AND_NOT, order, target, target_words, target_start, first, first_words, first_start, second,
+                 second_words, second_start, count);
 }
 
 uint8_t MODEL(shift_left)(uint8_t order, WORD *memory, size_t words, size_t start, size_t count, size_t by) {

@@ -8,8 +8,9 @@
  *                 next_zero, previous, previous_one, previous_zero, find_zeros, find_zeros_from
  *   Counting      count_ones, count_zeros, is_empty, is_full
  *   Moving        copy, copy_within, copy_V_to_W, shift_left, shift_right, rotate_left
- *   Two ranges    and, or, xor, and_not, equal, count_and, first_and, intersects, first_and_not,
- *                 is_subset, first_difference, first_difference_V_with_W
+ *   Two ranges    and, or, xor, and_not, and_within, or_within, xor_within, and_not_within, and_of,
+ *                 or_of, xor_of, and_not_of, equal, count_and, first_and, intersects,
+ *                 first_and_not, is_subset, first_difference, first_difference_V_with_W
  *   Numbers       load, store, load_signed, store_signed
  *   Streams       read, read_signed, read_unary, read_exp_golomb, read_signed_exp_golomb, write,
  *                 write_signed, write_unary, write_exp_golomb, write_signed_exp_golomb
@@ -844,9 +845,10 @@ BITVEC_CHECKED uint8_t bitvec_c_rotate_left_u64(
 
 /* ---------------------------------------- Two ranges ---------------------------------------- */
 
-/* Both ranges have `count` bits, and both are tested. But for bitvec_c_equal_W each memory has an
- * order of its own, `order` that of the target, or of the first. A target shares no word with the
- * source; what is only read may share words. */
+/* Both ranges have `count` bits, and both are tested. Each memory has an order of its own, `order`
+ * that of the target, or of the first, but for bitvec_c_equal_W and the calls of one array
+ * (`within`) and of three (`of`), which have one order. A target shares no word with another array;
+ * what is only read may share words. */
 
 /* Leaves one those bits of the target whose bit in the source is one: an intersection. Refuses with
  * BITVEC_NO_ORDER, BITVEC_TOO_LONG or BITVEC_OUTSIDE. Costs by words where the orders are the same,
@@ -911,6 +913,150 @@ BITVEC_CHECKED uint8_t bitvec_c_and_not_u32(
 BITVEC_CHECKED uint8_t bitvec_c_and_not_u64(
     uint8_t order, uint64_t *target, size_t target_words, size_t target_start, uint8_t source_order,
     const uint64_t *source, size_t source_words, size_t source_start, size_t count);
+
+/* Leaves one those bits of a range whose bit in another range of the same array is one. The two
+ * ranges may overlap: each bit is combined with what was there before. Refuses with
+ * BITVEC_NO_ORDER, BITVEC_TOO_LONG or BITVEC_OUTSIDE. Costs by words. */
+BITVEC_CHECKED uint8_t bitvec_c_and_within_u8(
+    uint8_t order, uint8_t *memory, size_t words, size_t target_start, size_t source_start,
+    size_t count);
+BITVEC_CHECKED uint8_t bitvec_c_and_within_u16(
+    uint8_t order, uint16_t *memory, size_t words, size_t target_start, size_t source_start,
+    size_t count);
+BITVEC_CHECKED uint8_t bitvec_c_and_within_u32(
+    uint8_t order, uint32_t *memory, size_t words, size_t target_start, size_t source_start,
+    size_t count);
+BITVEC_CHECKED uint8_t bitvec_c_and_within_u64(
+    uint8_t order, uint64_t *memory, size_t words, size_t target_start, size_t source_start,
+    size_t count);
+
+/* Makes one those bits of a range whose bit in another range of the same array is one. The two
+ * ranges may overlap, as in bitvec_c_and_within_W. Refuses with BITVEC_NO_ORDER, BITVEC_TOO_LONG or
+ * BITVEC_OUTSIDE. Costs by words. */
+BITVEC_CHECKED uint8_t bitvec_c_or_within_u8(
+    uint8_t order, uint8_t *memory, size_t words, size_t target_start, size_t source_start,
+    size_t count);
+BITVEC_CHECKED uint8_t bitvec_c_or_within_u16(
+    uint8_t order, uint16_t *memory, size_t words, size_t target_start, size_t source_start,
+    size_t count);
+BITVEC_CHECKED uint8_t bitvec_c_or_within_u32(
+    uint8_t order, uint32_t *memory, size_t words, size_t target_start, size_t source_start,
+    size_t count);
+BITVEC_CHECKED uint8_t bitvec_c_or_within_u64(
+    uint8_t order, uint64_t *memory, size_t words, size_t target_start, size_t source_start,
+    size_t count);
+
+/* Turns over those bits of a range whose bit in another range of the same array is one. The two
+ * ranges may overlap, as in bitvec_c_and_within_W. Refuses with BITVEC_NO_ORDER, BITVEC_TOO_LONG or
+ * BITVEC_OUTSIDE. Costs by words. */
+BITVEC_CHECKED uint8_t bitvec_c_xor_within_u8(
+    uint8_t order, uint8_t *memory, size_t words, size_t target_start, size_t source_start,
+    size_t count);
+BITVEC_CHECKED uint8_t bitvec_c_xor_within_u16(
+    uint8_t order, uint16_t *memory, size_t words, size_t target_start, size_t source_start,
+    size_t count);
+BITVEC_CHECKED uint8_t bitvec_c_xor_within_u32(
+    uint8_t order, uint32_t *memory, size_t words, size_t target_start, size_t source_start,
+    size_t count);
+BITVEC_CHECKED uint8_t bitvec_c_xor_within_u64(
+    uint8_t order, uint64_t *memory, size_t words, size_t target_start, size_t source_start,
+    size_t count);
+
+/* Makes zero those bits of a range whose bit in another range of the same array is one. The two
+ * ranges may overlap, as in bitvec_c_and_within_W. Refuses with BITVEC_NO_ORDER, BITVEC_TOO_LONG or
+ * BITVEC_OUTSIDE. Costs by words. */
+BITVEC_CHECKED uint8_t bitvec_c_and_not_within_u8(
+    uint8_t order, uint8_t *memory, size_t words, size_t target_start, size_t source_start,
+    size_t count);
+BITVEC_CHECKED uint8_t bitvec_c_and_not_within_u16(
+    uint8_t order, uint16_t *memory, size_t words, size_t target_start, size_t source_start,
+    size_t count);
+BITVEC_CHECKED uint8_t bitvec_c_and_not_within_u32(
+    uint8_t order, uint32_t *memory, size_t words, size_t target_start, size_t source_start,
+    size_t count);
+BITVEC_CHECKED uint8_t bitvec_c_and_not_within_u64(
+    uint8_t order, uint64_t *memory, size_t words, size_t target_start, size_t source_start,
+    size_t count);
+
+/* Makes one those bits of the target whose bits in both other ranges are one, and its other bits
+ * zero: an intersection. Refuses with BITVEC_NO_ORDER, BITVEC_TOO_LONG or BITVEC_OUTSIDE. Costs by
+ * words. */
+BITVEC_CHECKED uint8_t bitvec_c_and_of_u8(
+    uint8_t order, uint8_t *target, size_t target_words, size_t target_start, const uint8_t *first,
+    size_t first_words, size_t first_start, const uint8_t *second, size_t second_words,
+    size_t second_start, size_t count);
+BITVEC_CHECKED uint8_t bitvec_c_and_of_u16(
+    uint8_t order, uint16_t *target, size_t target_words, size_t target_start,
+    const uint16_t *first, size_t first_words, size_t first_start, const uint16_t *second,
+    size_t second_words, size_t second_start, size_t count);
+BITVEC_CHECKED uint8_t bitvec_c_and_of_u32(
+    uint8_t order, uint32_t *target, size_t target_words, size_t target_start,
+    const uint32_t *first, size_t first_words, size_t first_start, const uint32_t *second,
+    size_t second_words, size_t second_start, size_t count);
+BITVEC_CHECKED uint8_t bitvec_c_and_of_u64(
+    uint8_t order, uint64_t *target, size_t target_words, size_t target_start,
+    const uint64_t *first, size_t first_words, size_t first_start, const uint64_t *second,
+    size_t second_words, size_t second_start, size_t count);
+
+/* Makes one those bits of the target whose bit in at least one of two other ranges is one, and its
+ * other bits zero: a union. Refuses with BITVEC_NO_ORDER, BITVEC_TOO_LONG or BITVEC_OUTSIDE. Costs
+ * by words. */
+BITVEC_CHECKED uint8_t bitvec_c_or_of_u8(
+    uint8_t order, uint8_t *target, size_t target_words, size_t target_start, const uint8_t *first,
+    size_t first_words, size_t first_start, const uint8_t *second, size_t second_words,
+    size_t second_start, size_t count);
+BITVEC_CHECKED uint8_t bitvec_c_or_of_u16(
+    uint8_t order, uint16_t *target, size_t target_words, size_t target_start,
+    const uint16_t *first, size_t first_words, size_t first_start, const uint16_t *second,
+    size_t second_words, size_t second_start, size_t count);
+BITVEC_CHECKED uint8_t bitvec_c_or_of_u32(
+    uint8_t order, uint32_t *target, size_t target_words, size_t target_start,
+    const uint32_t *first, size_t first_words, size_t first_start, const uint32_t *second,
+    size_t second_words, size_t second_start, size_t count);
+BITVEC_CHECKED uint8_t bitvec_c_or_of_u64(
+    uint8_t order, uint64_t *target, size_t target_words, size_t target_start,
+    const uint64_t *first, size_t first_words, size_t first_start, const uint64_t *second,
+    size_t second_words, size_t second_start, size_t count);
+
+/* Makes one those bits of the target whose bits in two other ranges differ, and its other bits
+ * zero: a symmetric difference. Refuses with BITVEC_NO_ORDER, BITVEC_TOO_LONG or BITVEC_OUTSIDE.
+ * Costs by words. */
+BITVEC_CHECKED uint8_t bitvec_c_xor_of_u8(
+    uint8_t order, uint8_t *target, size_t target_words, size_t target_start, const uint8_t *first,
+    size_t first_words, size_t first_start, const uint8_t *second, size_t second_words,
+    size_t second_start, size_t count);
+BITVEC_CHECKED uint8_t bitvec_c_xor_of_u16(
+    uint8_t order, uint16_t *target, size_t target_words, size_t target_start,
+    const uint16_t *first, size_t first_words, size_t first_start, const uint16_t *second,
+    size_t second_words, size_t second_start, size_t count);
+BITVEC_CHECKED uint8_t bitvec_c_xor_of_u32(
+    uint8_t order, uint32_t *target, size_t target_words, size_t target_start,
+    const uint32_t *first, size_t first_words, size_t first_start, const uint32_t *second,
+    size_t second_words, size_t second_start, size_t count);
+BITVEC_CHECKED uint8_t bitvec_c_xor_of_u64(
+    uint8_t order, uint64_t *target, size_t target_words, size_t target_start,
+    const uint64_t *first, size_t first_words, size_t first_start, const uint64_t *second,
+    size_t second_words, size_t second_start, size_t count);
+
+/* Makes one those bits of the target whose bit in the first of two other ranges is one and in the
+ * second zero, and its other bits zero: a difference. Refuses with BITVEC_NO_ORDER, BITVEC_TOO_LONG
+ * or BITVEC_OUTSIDE. Costs by words. */
+BITVEC_CHECKED uint8_t bitvec_c_and_not_of_u8(
+    uint8_t order, uint8_t *target, size_t target_words, size_t target_start, const uint8_t *first,
+    size_t first_words, size_t first_start, const uint8_t *second, size_t second_words,
+    size_t second_start, size_t count);
+BITVEC_CHECKED uint8_t bitvec_c_and_not_of_u16(
+    uint8_t order, uint16_t *target, size_t target_words, size_t target_start,
+    const uint16_t *first, size_t first_words, size_t first_start, const uint16_t *second,
+    size_t second_words, size_t second_start, size_t count);
+BITVEC_CHECKED uint8_t bitvec_c_and_not_of_u32(
+    uint8_t order, uint32_t *target, size_t target_words, size_t target_start,
+    const uint32_t *first, size_t first_words, size_t first_start, const uint32_t *second,
+    size_t second_words, size_t second_start, size_t count);
+BITVEC_CHECKED uint8_t bitvec_c_and_not_of_u64(
+    uint8_t order, uint64_t *target, size_t target_words, size_t target_start,
+    const uint64_t *first, size_t first_words, size_t first_start, const uint64_t *second,
+    size_t second_words, size_t second_start, size_t count);
 
 /* Writes to `same` whether two ranges have the same bits, in order. Refuses with BITVEC_NO_ORDER,
  * BITVEC_TOO_LONG or BITVEC_OUTSIDE. Costs by words, up to the first difference. */
@@ -1593,6 +1739,33 @@ BITVEC_CHECKED uint8_t bitvec_c_run_in_u64(
     source_words, source_start, count) \
     BITVEC_OF(target, bitvec_c_and_not)(order, target, target_words, target_start, source_order, \
         source, source_words, source_start, count)
+#define bitvec_and_within(order, memory, words, target_start, source_start, count) \
+    BITVEC_OF(memory, bitvec_c_and_within)(order, memory, words, target_start, source_start, \
+        count)
+#define bitvec_or_within(order, memory, words, target_start, source_start, count) \
+    BITVEC_OF(memory, bitvec_c_or_within)(order, memory, words, target_start, source_start, count)
+#define bitvec_xor_within(order, memory, words, target_start, source_start, count) \
+    BITVEC_OF(memory, bitvec_c_xor_within)(order, memory, words, target_start, source_start, \
+        count)
+#define bitvec_and_not_within(order, memory, words, target_start, source_start, count) \
+    BITVEC_OF(memory, bitvec_c_and_not_within)(order, memory, words, target_start, source_start, \
+        count)
+#define bitvec_and_of(order, target, target_words, target_start, first, first_words, first_start, \
+    second, second_words, second_start, count) \
+    BITVEC_OF(target, bitvec_c_and_of)(order, target, target_words, target_start, first, \
+        first_words, first_start, second, second_words, second_start, count)
+#define bitvec_or_of(order, target, target_words, target_start, first, first_words, first_start, \
+    second, second_words, second_start, count) \
+    BITVEC_OF(target, bitvec_c_or_of)(order, target, target_words, target_start, first, \
+        first_words, first_start, second, second_words, second_start, count)
+#define bitvec_xor_of(order, target, target_words, target_start, first, first_words, first_start, \
+    second, second_words, second_start, count) \
+    BITVEC_OF(target, bitvec_c_xor_of)(order, target, target_words, target_start, first, \
+        first_words, first_start, second, second_words, second_start, count)
+#define bitvec_and_not_of(order, target, target_words, target_start, first, first_words, \
+    first_start, second, second_words, second_start, count) \
+    BITVEC_OF(target, bitvec_c_and_not_of)(order, target, target_words, target_start, first, \
+        first_words, first_start, second, second_words, second_start, count)
 #define bitvec_equal(order, memory, words, start, other, other_words, other_start, count, same) \
     BITVEC_OF(memory, bitvec_c_equal)(order, memory, words, start, other, other_words, \
         other_start, count, same)

@@ -8,8 +8,9 @@
  *                 next_zero, previous, previous_one, previous_zero, find_zeros, find_zeros_from
  *   Counting      count_ones, count_zeros, is_empty, is_full
  *   Moving        copy, copy_within, copy_to, shift_left, shift_right, rotate_left
- *   Two ranges    and_with, or_with, xor_with, and_not, equal, count_and, first_and, intersects,
- *                 first_and_not, is_subset, first_difference, first_difference_with
+ *   Two ranges    and_with, or_with, xor_with, and_not, and_within, or_within, xor_within,
+ *                 and_not_within, and_of, or_of, xor_of, and_not_of, equal, count_and, first_and,
+ *                 intersects, first_and_not, is_subset, first_difference, first_difference_with
  *   Numbers       load, store, load_signed, store_signed
  *   Streams       read, read_signed, read_unary, read_exp_golomb, read_signed_exp_golomb, write,
  *                 write_signed, write_unary, write_exp_golomb, write_signed_exp_golomb
@@ -1111,9 +1112,10 @@ concept word = std::same_as<W, std::uint8_t> || std::same_as<W, std::uint16_t> |
 
 /* ---------------------------------------- Two ranges ---------------------------------------- */
 
-/* Both ranges have `count` bits, and both are tested. But for `equal` each memory has an order of
- * its own, `order` that of the target, or of the first. A target shares no word with the source;
- * what is only read may share words. */
+/* Both ranges have `count` bits, and both are tested. Each memory has an order of its own, `order`
+ * that of the target, or of the first, but for `equal` and the calls of one array (`within`) and of
+ * three (`of`), which have one order. A target shares no word with another array; what is only read
+ * may share words. */
 
 /* Leaves one those bits of the target whose bit in the source is one: an intersection. Refuses with
  * status::no_order, status::too_long or status::outside. Costs by words where the orders are the
@@ -1272,6 +1274,294 @@ concept word = std::same_as<W, std::uint8_t> || std::same_as<W, std::uint16_t> |
     return static_cast<bitvec::status>(bitvec_c_and_not_u64(
         static_cast<std::uint8_t>(order), target.data(), target.size(), target_start,
         static_cast<std::uint8_t>(source_order), source.data(), source.size(), source_start,
+        count));
+}
+
+/* Leaves one those bits of a range whose bit in another range of the same array is one. The two
+ * ranges may overlap: each bit is combined with what was there before. Refuses with
+ * status::no_order, status::too_long or status::outside. Costs by words. */
+[[nodiscard]] inline bitvec::status and_within(
+    bitvec::order order, std::span<std::uint8_t> memory, std::size_t target_start,
+    std::size_t source_start, std::size_t count) noexcept {
+    return static_cast<bitvec::status>(bitvec_c_and_within_u8(
+        static_cast<std::uint8_t>(order), memory.data(), memory.size(), target_start, source_start,
+        count));
+}
+[[nodiscard]] inline bitvec::status and_within(
+    bitvec::order order, std::span<std::uint16_t> memory, std::size_t target_start,
+    std::size_t source_start, std::size_t count) noexcept {
+    return static_cast<bitvec::status>(bitvec_c_and_within_u16(
+        static_cast<std::uint8_t>(order), memory.data(), memory.size(), target_start, source_start,
+        count));
+}
+[[nodiscard]] inline bitvec::status and_within(
+    bitvec::order order, std::span<std::uint32_t> memory, std::size_t target_start,
+    std::size_t source_start, std::size_t count) noexcept {
+    return static_cast<bitvec::status>(bitvec_c_and_within_u32(
+        static_cast<std::uint8_t>(order), memory.data(), memory.size(), target_start, source_start,
+        count));
+}
+[[nodiscard]] inline bitvec::status and_within(
+    bitvec::order order, std::span<std::uint64_t> memory, std::size_t target_start,
+    std::size_t source_start, std::size_t count) noexcept {
+    return static_cast<bitvec::status>(bitvec_c_and_within_u64(
+        static_cast<std::uint8_t>(order), memory.data(), memory.size(), target_start, source_start,
+        count));
+}
+
+/* Makes one those bits of a range whose bit in another range of the same array is one. The two
+ * ranges may overlap, as in `and_within`. Refuses with status::no_order, status::too_long or
+ * status::outside. Costs by words. */
+[[nodiscard]] inline bitvec::status or_within(
+    bitvec::order order, std::span<std::uint8_t> memory, std::size_t target_start,
+    std::size_t source_start, std::size_t count) noexcept {
+    return static_cast<bitvec::status>(bitvec_c_or_within_u8(
+        static_cast<std::uint8_t>(order), memory.data(), memory.size(), target_start, source_start,
+        count));
+}
+[[nodiscard]] inline bitvec::status or_within(
+    bitvec::order order, std::span<std::uint16_t> memory, std::size_t target_start,
+    std::size_t source_start, std::size_t count) noexcept {
+    return static_cast<bitvec::status>(bitvec_c_or_within_u16(
+        static_cast<std::uint8_t>(order), memory.data(), memory.size(), target_start, source_start,
+        count));
+}
+[[nodiscard]] inline bitvec::status or_within(
+    bitvec::order order, std::span<std::uint32_t> memory, std::size_t target_start,
+    std::size_t source_start, std::size_t count) noexcept {
+    return static_cast<bitvec::status>(bitvec_c_or_within_u32(
+        static_cast<std::uint8_t>(order), memory.data(), memory.size(), target_start, source_start,
+        count));
+}
+[[nodiscard]] inline bitvec::status or_within(
+    bitvec::order order, std::span<std::uint64_t> memory, std::size_t target_start,
+    std::size_t source_start, std::size_t count) noexcept {
+    return static_cast<bitvec::status>(bitvec_c_or_within_u64(
+        static_cast<std::uint8_t>(order), memory.data(), memory.size(), target_start, source_start,
+        count));
+}
+
+/* Turns over those bits of a range whose bit in another range of the same array is one. The two
+ * ranges may overlap, as in `and_within`. Refuses with status::no_order, status::too_long or
+ * status::outside. Costs by words. */
+[[nodiscard]] inline bitvec::status xor_within(
+    bitvec::order order, std::span<std::uint8_t> memory, std::size_t target_start,
+    std::size_t source_start, std::size_t count) noexcept {
+    return static_cast<bitvec::status>(bitvec_c_xor_within_u8(
+        static_cast<std::uint8_t>(order), memory.data(), memory.size(), target_start, source_start,
+        count));
+}
+[[nodiscard]] inline bitvec::status xor_within(
+    bitvec::order order, std::span<std::uint16_t> memory, std::size_t target_start,
+    std::size_t source_start, std::size_t count) noexcept {
+    return static_cast<bitvec::status>(bitvec_c_xor_within_u16(
+        static_cast<std::uint8_t>(order), memory.data(), memory.size(), target_start, source_start,
+        count));
+}
+[[nodiscard]] inline bitvec::status xor_within(
+    bitvec::order order, std::span<std::uint32_t> memory, std::size_t target_start,
+    std::size_t source_start, std::size_t count) noexcept {
+    return static_cast<bitvec::status>(bitvec_c_xor_within_u32(
+        static_cast<std::uint8_t>(order), memory.data(), memory.size(), target_start, source_start,
+        count));
+}
+[[nodiscard]] inline bitvec::status xor_within(
+    bitvec::order order, std::span<std::uint64_t> memory, std::size_t target_start,
+    std::size_t source_start, std::size_t count) noexcept {
+    return static_cast<bitvec::status>(bitvec_c_xor_within_u64(
+        static_cast<std::uint8_t>(order), memory.data(), memory.size(), target_start, source_start,
+        count));
+}
+
+/* Makes zero those bits of a range whose bit in another range of the same array is one. The two
+ * ranges may overlap, as in `and_within`. Refuses with status::no_order, status::too_long or
+ * status::outside. Costs by words. */
+[[nodiscard]] inline bitvec::status and_not_within(
+    bitvec::order order, std::span<std::uint8_t> memory, std::size_t target_start,
+    std::size_t source_start, std::size_t count) noexcept {
+    return static_cast<bitvec::status>(bitvec_c_and_not_within_u8(
+        static_cast<std::uint8_t>(order), memory.data(), memory.size(), target_start, source_start,
+        count));
+}
+[[nodiscard]] inline bitvec::status and_not_within(
+    bitvec::order order, std::span<std::uint16_t> memory, std::size_t target_start,
+    std::size_t source_start, std::size_t count) noexcept {
+    return static_cast<bitvec::status>(bitvec_c_and_not_within_u16(
+        static_cast<std::uint8_t>(order), memory.data(), memory.size(), target_start, source_start,
+        count));
+}
+[[nodiscard]] inline bitvec::status and_not_within(
+    bitvec::order order, std::span<std::uint32_t> memory, std::size_t target_start,
+    std::size_t source_start, std::size_t count) noexcept {
+    return static_cast<bitvec::status>(bitvec_c_and_not_within_u32(
+        static_cast<std::uint8_t>(order), memory.data(), memory.size(), target_start, source_start,
+        count));
+}
+[[nodiscard]] inline bitvec::status and_not_within(
+    bitvec::order order, std::span<std::uint64_t> memory, std::size_t target_start,
+    std::size_t source_start, std::size_t count) noexcept {
+    return static_cast<bitvec::status>(bitvec_c_and_not_within_u64(
+        static_cast<std::uint8_t>(order), memory.data(), memory.size(), target_start, source_start,
+        count));
+}
+
+/* Makes one those bits of the target whose bits in both other ranges are one, and its other bits
+ * zero: an intersection. Refuses with status::no_order, status::too_long or status::outside. Costs
+ * by words. */
+[[nodiscard]] inline bitvec::status and_of(
+    bitvec::order order, std::span<std::uint8_t> target, std::size_t target_start,
+    std::span<const std::uint8_t> first, std::size_t first_start,
+    std::span<const std::uint8_t> second, std::size_t second_start, std::size_t count) noexcept {
+    return static_cast<bitvec::status>(bitvec_c_and_of_u8(
+        static_cast<std::uint8_t>(order), target.data(), target.size(), target_start,
+        first.data(), first.size(), first_start, second.data(), second.size(), second_start,
+        count));
+}
+[[nodiscard]] inline bitvec::status and_of(
+    bitvec::order order, std::span<std::uint16_t> target, std::size_t target_start,
+    std::span<const std::uint16_t> first, std::size_t first_start,
+    std::span<const std::uint16_t> second, std::size_t second_start, std::size_t count) noexcept {
+    return static_cast<bitvec::status>(bitvec_c_and_of_u16(
+        static_cast<std::uint8_t>(order), target.data(), target.size(), target_start,
+        first.data(), first.size(), first_start, second.data(), second.size(), second_start,
+        count));
+}
+[[nodiscard]] inline bitvec::status and_of(
+    bitvec::order order, std::span<std::uint32_t> target, std::size_t target_start,
+    std::span<const std::uint32_t> first, std::size_t first_start,
+    std::span<const std::uint32_t> second, std::size_t second_start, std::size_t count) noexcept {
+    return static_cast<bitvec::status>(bitvec_c_and_of_u32(
+        static_cast<std::uint8_t>(order), target.data(), target.size(), target_start,
+        first.data(), first.size(), first_start, second.data(), second.size(), second_start,
+        count));
+}
+[[nodiscard]] inline bitvec::status and_of(
+    bitvec::order order, std::span<std::uint64_t> target, std::size_t target_start,
+    std::span<const std::uint64_t> first, std::size_t first_start,
+    std::span<const std::uint64_t> second, std::size_t second_start, std::size_t count) noexcept {
+    return static_cast<bitvec::status>(bitvec_c_and_of_u64(
+        static_cast<std::uint8_t>(order), target.data(), target.size(), target_start,
+        first.data(), first.size(), first_start, second.data(), second.size(), second_start,
+        count));
+}
+
+/* Makes one those bits of the target whose bit in at least one of two other ranges is one, and its
+ * other bits zero: a union. Refuses with status::no_order, status::too_long or status::outside.
+ * Costs by words. */
+[[nodiscard]] inline bitvec::status or_of(
+    bitvec::order order, std::span<std::uint8_t> target, std::size_t target_start,
+    std::span<const std::uint8_t> first, std::size_t first_start,
+    std::span<const std::uint8_t> second, std::size_t second_start, std::size_t count) noexcept {
+    return static_cast<bitvec::status>(bitvec_c_or_of_u8(
+        static_cast<std::uint8_t>(order), target.data(), target.size(), target_start,
+        first.data(), first.size(), first_start, second.data(), second.size(), second_start,
+        count));
+}
+[[nodiscard]] inline bitvec::status or_of(
+    bitvec::order order, std::span<std::uint16_t> target, std::size_t target_start,
+    std::span<const std::uint16_t> first, std::size_t first_start,
+    std::span<const std::uint16_t> second, std::size_t second_start, std::size_t count) noexcept {
+    return static_cast<bitvec::status>(bitvec_c_or_of_u16(
+        static_cast<std::uint8_t>(order), target.data(), target.size(), target_start,
+        first.data(), first.size(), first_start, second.data(), second.size(), second_start,
+        count));
+}
+[[nodiscard]] inline bitvec::status or_of(
+    bitvec::order order, std::span<std::uint32_t> target, std::size_t target_start,
+    std::span<const std::uint32_t> first, std::size_t first_start,
+    std::span<const std::uint32_t> second, std::size_t second_start, std::size_t count) noexcept {
+    return static_cast<bitvec::status>(bitvec_c_or_of_u32(
+        static_cast<std::uint8_t>(order), target.data(), target.size(), target_start,
+        first.data(), first.size(), first_start, second.data(), second.size(), second_start,
+        count));
+}
+[[nodiscard]] inline bitvec::status or_of(
+    bitvec::order order, std::span<std::uint64_t> target, std::size_t target_start,
+    std::span<const std::uint64_t> first, std::size_t first_start,
+    std::span<const std::uint64_t> second, std::size_t second_start, std::size_t count) noexcept {
+    return static_cast<bitvec::status>(bitvec_c_or_of_u64(
+        static_cast<std::uint8_t>(order), target.data(), target.size(), target_start,
+        first.data(), first.size(), first_start, second.data(), second.size(), second_start,
+        count));
+}
+
+/* Makes one those bits of the target whose bits in two other ranges differ, and its other bits
+ * zero: a symmetric difference. Refuses with status::no_order, status::too_long or status::outside.
+ * Costs by words. */
+[[nodiscard]] inline bitvec::status xor_of(
+    bitvec::order order, std::span<std::uint8_t> target, std::size_t target_start,
+    std::span<const std::uint8_t> first, std::size_t first_start,
+    std::span<const std::uint8_t> second, std::size_t second_start, std::size_t count) noexcept {
+    return static_cast<bitvec::status>(bitvec_c_xor_of_u8(
+        static_cast<std::uint8_t>(order), target.data(), target.size(), target_start,
+        first.data(), first.size(), first_start, second.data(), second.size(), second_start,
+        count));
+}
+[[nodiscard]] inline bitvec::status xor_of(
+    bitvec::order order, std::span<std::uint16_t> target, std::size_t target_start,
+    std::span<const std::uint16_t> first, std::size_t first_start,
+    std::span<const std::uint16_t> second, std::size_t second_start, std::size_t count) noexcept {
+    return static_cast<bitvec::status>(bitvec_c_xor_of_u16(
+        static_cast<std::uint8_t>(order), target.data(), target.size(), target_start,
+        first.data(), first.size(), first_start, second.data(), second.size(), second_start,
+        count));
+}
+[[nodiscard]] inline bitvec::status xor_of(
+    bitvec::order order, std::span<std::uint32_t> target, std::size_t target_start,
+    std::span<const std::uint32_t> first, std::size_t first_start,
+    std::span<const std::uint32_t> second, std::size_t second_start, std::size_t count) noexcept {
+    return static_cast<bitvec::status>(bitvec_c_xor_of_u32(
+        static_cast<std::uint8_t>(order), target.data(), target.size(), target_start,
+        first.data(), first.size(), first_start, second.data(), second.size(), second_start,
+        count));
+}
+[[nodiscard]] inline bitvec::status xor_of(
+    bitvec::order order, std::span<std::uint64_t> target, std::size_t target_start,
+    std::span<const std::uint64_t> first, std::size_t first_start,
+    std::span<const std::uint64_t> second, std::size_t second_start, std::size_t count) noexcept {
+    return static_cast<bitvec::status>(bitvec_c_xor_of_u64(
+        static_cast<std::uint8_t>(order), target.data(), target.size(), target_start,
+        first.data(), first.size(), first_start, second.data(), second.size(), second_start,
+        count));
+}
+
+/* Makes one those bits of the target whose bit in the first of two other ranges is one and in the
+ * second zero, and its other bits zero: a difference. Refuses with status::no_order,
+ * status::too_long or status::outside. Costs by words. */
+[[nodiscard]] inline bitvec::status and_not_of(
+    bitvec::order order, std::span<std::uint8_t> target, std::size_t target_start,
+    std::span<const std::uint8_t> first, std::size_t first_start,
+    std::span<const std::uint8_t> second, std::size_t second_start, std::size_t count) noexcept {
+    return static_cast<bitvec::status>(bitvec_c_and_not_of_u8(
+        static_cast<std::uint8_t>(order), target.data(), target.size(), target_start,
+        first.data(), first.size(), first_start, second.data(), second.size(), second_start,
+        count));
+}
+[[nodiscard]] inline bitvec::status and_not_of(
+    bitvec::order order, std::span<std::uint16_t> target, std::size_t target_start,
+    std::span<const std::uint16_t> first, std::size_t first_start,
+    std::span<const std::uint16_t> second, std::size_t second_start, std::size_t count) noexcept {
+    return static_cast<bitvec::status>(bitvec_c_and_not_of_u16(
+        static_cast<std::uint8_t>(order), target.data(), target.size(), target_start,
+        first.data(), first.size(), first_start, second.data(), second.size(), second_start,
+        count));
+}
+[[nodiscard]] inline bitvec::status and_not_of(
+    bitvec::order order, std::span<std::uint32_t> target, std::size_t target_start,
+    std::span<const std::uint32_t> first, std::size_t first_start,
+    std::span<const std::uint32_t> second, std::size_t second_start, std::size_t count) noexcept {
+    return static_cast<bitvec::status>(bitvec_c_and_not_of_u32(
+        static_cast<std::uint8_t>(order), target.data(), target.size(), target_start,
+        first.data(), first.size(), first_start, second.data(), second.size(), second_start,
+        count));
+}
+[[nodiscard]] inline bitvec::status and_not_of(
+    bitvec::order order, std::span<std::uint64_t> target, std::size_t target_start,
+    std::span<const std::uint64_t> first, std::size_t first_start,
+    std::span<const std::uint64_t> second, std::size_t second_start, std::size_t count) noexcept {
+    return static_cast<bitvec::status>(bitvec_c_and_not_of_u64(
+        static_cast<std::uint8_t>(order), target.data(), target.size(), target_start,
+        first.data(), first.size(), first_start, second.data(), second.size(), second_start,
         count));
 }
 

@@ -2740,6 +2740,582 @@ uint8_t bitvec_c_and_not_u64(
     uint8_t order, uint64_t *target, size_t target_words, size_t target_start, uint8_t source_order,
     const uint64_t *source, size_t source_words, size_t source_start, size_t count);
 
+/*@ requires \valid(memory + (0 .. words - 1));
+  @ assigns memory[0 .. words - 1];
+  @ ensures status: \result == then_status(range_status(8, order, words, source_start, count),
+  @   range_status(8, order, words, target_start, count));
+  @ ensures range: \result == BITVEC_OK ==> (\forall integer p; target_start <= p < target_start +
+  @   count ==> (bit_u8{Post}(order, memory, p) <==> (bit_u8{Pre}(order, memory, p) &&
+  @   bit_u8{Pre}(order, memory, source_start + (p - target_start)))));
+  @ ensures others: \result == BITVEC_OK ==> others_u8{Pre, Post}(order, memory, words,
+  @   target_start, count);
+  @ ensures refused: \result != BITVEC_OK ==> kept_u8{Pre, Post}(memory, words);
+  @*/
+uint8_t bitvec_c_and_within_u8(
+    uint8_t order, uint8_t *memory, size_t words, size_t target_start, size_t source_start,
+    size_t count);
+
+/*@ requires \valid(memory + (0 .. words - 1));
+  @ assigns memory[0 .. words - 1];
+  @ ensures status: \result == then_status(range_status(16, order, words, source_start, count),
+  @   range_status(16, order, words, target_start, count));
+  @ ensures range: \result == BITVEC_OK ==> (\forall integer p; target_start <= p < target_start +
+  @   count ==> (bit_u16{Post}(order, memory, p) <==> (bit_u16{Pre}(order, memory, p) &&
+  @   bit_u16{Pre}(order, memory, source_start + (p - target_start)))));
+  @ ensures others: \result == BITVEC_OK ==> others_u16{Pre, Post}(order, memory, words,
+  @   target_start, count);
+  @ ensures refused: \result != BITVEC_OK ==> kept_u16{Pre, Post}(memory, words);
+  @*/
+uint8_t bitvec_c_and_within_u16(
+    uint8_t order, uint16_t *memory, size_t words, size_t target_start, size_t source_start,
+    size_t count);
+
+/*@ requires \valid(memory + (0 .. words - 1));
+  @ assigns memory[0 .. words - 1];
+  @ ensures status: \result == then_status(range_status(32, order, words, source_start, count),
+  @   range_status(32, order, words, target_start, count));
+  @ ensures range: \result == BITVEC_OK ==> (\forall integer p; target_start <= p < target_start +
+  @   count ==> (bit_u32{Post}(order, memory, p) <==> (bit_u32{Pre}(order, memory, p) &&
+  @   bit_u32{Pre}(order, memory, source_start + (p - target_start)))));
+  @ ensures others: \result == BITVEC_OK ==> others_u32{Pre, Post}(order, memory, words,
+  @   target_start, count);
+  @ ensures refused: \result != BITVEC_OK ==> kept_u32{Pre, Post}(memory, words);
+  @*/
+uint8_t bitvec_c_and_within_u32(
+    uint8_t order, uint32_t *memory, size_t words, size_t target_start, size_t source_start,
+    size_t count);
+
+/*@ requires \valid(memory + (0 .. words - 1));
+  @ assigns memory[0 .. words - 1];
+  @ ensures status: \result == then_status(range_status(64, order, words, source_start, count),
+  @   range_status(64, order, words, target_start, count));
+  @ ensures range: \result == BITVEC_OK ==> (\forall integer p; target_start <= p < target_start +
+  @   count ==> (bit_u64{Post}(order, memory, p) <==> (bit_u64{Pre}(order, memory, p) &&
+  @   bit_u64{Pre}(order, memory, source_start + (p - target_start)))));
+  @ ensures others: \result == BITVEC_OK ==> others_u64{Pre, Post}(order, memory, words,
+  @   target_start, count);
+  @ ensures refused: \result != BITVEC_OK ==> kept_u64{Pre, Post}(memory, words);
+  @*/
+uint8_t bitvec_c_and_within_u64(
+    uint8_t order, uint64_t *memory, size_t words, size_t target_start, size_t source_start,
+    size_t count);
+
+/*@ requires \valid(memory + (0 .. words - 1));
+  @ assigns memory[0 .. words - 1];
+  @ ensures status: \result == then_status(range_status(8, order, words, source_start, count),
+  @   range_status(8, order, words, target_start, count));
+  @ ensures range: \result == BITVEC_OK ==> (\forall integer p; target_start <= p < target_start +
+  @   count ==> (bit_u8{Post}(order, memory, p) <==> (bit_u8{Pre}(order, memory, p) ||
+  @   bit_u8{Pre}(order, memory, source_start + (p - target_start)))));
+  @ ensures others: \result == BITVEC_OK ==> others_u8{Pre, Post}(order, memory, words,
+  @   target_start, count);
+  @ ensures refused: \result != BITVEC_OK ==> kept_u8{Pre, Post}(memory, words);
+  @*/
+uint8_t bitvec_c_or_within_u8(
+    uint8_t order, uint8_t *memory, size_t words, size_t target_start, size_t source_start,
+    size_t count);
+
+/*@ requires \valid(memory + (0 .. words - 1));
+  @ assigns memory[0 .. words - 1];
+  @ ensures status: \result == then_status(range_status(16, order, words, source_start, count),
+  @   range_status(16, order, words, target_start, count));
+  @ ensures range: \result == BITVEC_OK ==> (\forall integer p; target_start <= p < target_start +
+  @   count ==> (bit_u16{Post}(order, memory, p) <==> (bit_u16{Pre}(order, memory, p) ||
+  @   bit_u16{Pre}(order, memory, source_start + (p - target_start)))));
+  @ ensures others: \result == BITVEC_OK ==> others_u16{Pre, Post}(order, memory, words,
+  @   target_start, count);
+  @ ensures refused: \result != BITVEC_OK ==> kept_u16{Pre, Post}(memory, words);
+  @*/
+uint8_t bitvec_c_or_within_u16(
+    uint8_t order, uint16_t *memory, size_t words, size_t target_start, size_t source_start,
+    size_t count);
+
+/*@ requires \valid(memory + (0 .. words - 1));
+  @ assigns memory[0 .. words - 1];
+  @ ensures status: \result == then_status(range_status(32, order, words, source_start, count),
+  @   range_status(32, order, words, target_start, count));
+  @ ensures range: \result == BITVEC_OK ==> (\forall integer p; target_start <= p < target_start +
+  @   count ==> (bit_u32{Post}(order, memory, p) <==> (bit_u32{Pre}(order, memory, p) ||
+  @   bit_u32{Pre}(order, memory, source_start + (p - target_start)))));
+  @ ensures others: \result == BITVEC_OK ==> others_u32{Pre, Post}(order, memory, words,
+  @   target_start, count);
+  @ ensures refused: \result != BITVEC_OK ==> kept_u32{Pre, Post}(memory, words);
+  @*/
+uint8_t bitvec_c_or_within_u32(
+    uint8_t order, uint32_t *memory, size_t words, size_t target_start, size_t source_start,
+    size_t count);
+
+/*@ requires \valid(memory + (0 .. words - 1));
+  @ assigns memory[0 .. words - 1];
+  @ ensures status: \result == then_status(range_status(64, order, words, source_start, count),
+  @   range_status(64, order, words, target_start, count));
+  @ ensures range: \result == BITVEC_OK ==> (\forall integer p; target_start <= p < target_start +
+  @   count ==> (bit_u64{Post}(order, memory, p) <==> (bit_u64{Pre}(order, memory, p) ||
+  @   bit_u64{Pre}(order, memory, source_start + (p - target_start)))));
+  @ ensures others: \result == BITVEC_OK ==> others_u64{Pre, Post}(order, memory, words,
+  @   target_start, count);
+  @ ensures refused: \result != BITVEC_OK ==> kept_u64{Pre, Post}(memory, words);
+  @*/
+uint8_t bitvec_c_or_within_u64(
+    uint8_t order, uint64_t *memory, size_t words, size_t target_start, size_t source_start,
+    size_t count);
+
+/*@ requires \valid(memory + (0 .. words - 1));
+  @ assigns memory[0 .. words - 1];
+  @ ensures status: \result == then_status(range_status(8, order, words, source_start, count),
+  @   range_status(8, order, words, target_start, count));
+  @ ensures range: \result == BITVEC_OK ==> (\forall integer p; target_start <= p < target_start +
+  @   count ==> (bit_u8{Post}(order, memory, p) <==> (bit_u8{Pre}(order, memory, p) ^^
+  @   bit_u8{Pre}(order, memory, source_start + (p - target_start)))));
+  @ ensures others: \result == BITVEC_OK ==> others_u8{Pre, Post}(order, memory, words,
+  @   target_start, count);
+  @ ensures refused: \result != BITVEC_OK ==> kept_u8{Pre, Post}(memory, words);
+  @*/
+uint8_t bitvec_c_xor_within_u8(
+    uint8_t order, uint8_t *memory, size_t words, size_t target_start, size_t source_start,
+    size_t count);
+
+/*@ requires \valid(memory + (0 .. words - 1));
+  @ assigns memory[0 .. words - 1];
+  @ ensures status: \result == then_status(range_status(16, order, words, source_start, count),
+  @   range_status(16, order, words, target_start, count));
+  @ ensures range: \result == BITVEC_OK ==> (\forall integer p; target_start <= p < target_start +
+  @   count ==> (bit_u16{Post}(order, memory, p) <==> (bit_u16{Pre}(order, memory, p) ^^
+  @   bit_u16{Pre}(order, memory, source_start + (p - target_start)))));
+  @ ensures others: \result == BITVEC_OK ==> others_u16{Pre, Post}(order, memory, words,
+  @   target_start, count);
+  @ ensures refused: \result != BITVEC_OK ==> kept_u16{Pre, Post}(memory, words);
+  @*/
+uint8_t bitvec_c_xor_within_u16(
+    uint8_t order, uint16_t *memory, size_t words, size_t target_start, size_t source_start,
+    size_t count);
+
+/*@ requires \valid(memory + (0 .. words - 1));
+  @ assigns memory[0 .. words - 1];
+  @ ensures status: \result == then_status(range_status(32, order, words, source_start, count),
+  @   range_status(32, order, words, target_start, count));
+  @ ensures range: \result == BITVEC_OK ==> (\forall integer p; target_start <= p < target_start +
+  @   count ==> (bit_u32{Post}(order, memory, p) <==> (bit_u32{Pre}(order, memory, p) ^^
+  @   bit_u32{Pre}(order, memory, source_start + (p - target_start)))));
+  @ ensures others: \result == BITVEC_OK ==> others_u32{Pre, Post}(order, memory, words,
+  @   target_start, count);
+  @ ensures refused: \result != BITVEC_OK ==> kept_u32{Pre, Post}(memory, words);
+  @*/
+uint8_t bitvec_c_xor_within_u32(
+    uint8_t order, uint32_t *memory, size_t words, size_t target_start, size_t source_start,
+    size_t count);
+
+/*@ requires \valid(memory + (0 .. words - 1));
+  @ assigns memory[0 .. words - 1];
+  @ ensures status: \result == then_status(range_status(64, order, words, source_start, count),
+  @   range_status(64, order, words, target_start, count));
+  @ ensures range: \result == BITVEC_OK ==> (\forall integer p; target_start <= p < target_start +
+  @   count ==> (bit_u64{Post}(order, memory, p) <==> (bit_u64{Pre}(order, memory, p) ^^
+  @   bit_u64{Pre}(order, memory, source_start + (p - target_start)))));
+  @ ensures others: \result == BITVEC_OK ==> others_u64{Pre, Post}(order, memory, words,
+  @   target_start, count);
+  @ ensures refused: \result != BITVEC_OK ==> kept_u64{Pre, Post}(memory, words);
+  @*/
+uint8_t bitvec_c_xor_within_u64(
+    uint8_t order, uint64_t *memory, size_t words, size_t target_start, size_t source_start,
+    size_t count);
+
+/*@ requires \valid(memory + (0 .. words - 1));
+  @ assigns memory[0 .. words - 1];
+  @ ensures status: \result == then_status(range_status(8, order, words, source_start, count),
+  @   range_status(8, order, words, target_start, count));
+  @ ensures range: \result == BITVEC_OK ==> (\forall integer p; target_start <= p < target_start +
+  @   count ==> (bit_u8{Post}(order, memory, p) <==> (bit_u8{Pre}(order, memory, p) &&
+  @   !bit_u8{Pre}(order, memory, source_start + (p - target_start)))));
+  @ ensures others: \result == BITVEC_OK ==> others_u8{Pre, Post}(order, memory, words,
+  @   target_start, count);
+  @ ensures refused: \result != BITVEC_OK ==> kept_u8{Pre, Post}(memory, words);
+  @*/
+uint8_t bitvec_c_and_not_within_u8(
+    uint8_t order, uint8_t *memory, size_t words, size_t target_start, size_t source_start,
+    size_t count);
+
+/*@ requires \valid(memory + (0 .. words - 1));
+  @ assigns memory[0 .. words - 1];
+  @ ensures status: \result == then_status(range_status(16, order, words, source_start, count),
+  @   range_status(16, order, words, target_start, count));
+  @ ensures range: \result == BITVEC_OK ==> (\forall integer p; target_start <= p < target_start +
+  @   count ==> (bit_u16{Post}(order, memory, p) <==> (bit_u16{Pre}(order, memory, p) &&
+  @   !bit_u16{Pre}(order, memory, source_start + (p - target_start)))));
+  @ ensures others: \result == BITVEC_OK ==> others_u16{Pre, Post}(order, memory, words,
+  @   target_start, count);
+  @ ensures refused: \result != BITVEC_OK ==> kept_u16{Pre, Post}(memory, words);
+  @*/
+uint8_t bitvec_c_and_not_within_u16(
+    uint8_t order, uint16_t *memory, size_t words, size_t target_start, size_t source_start,
+    size_t count);
+
+/*@ requires \valid(memory + (0 .. words - 1));
+  @ assigns memory[0 .. words - 1];
+  @ ensures status: \result == then_status(range_status(32, order, words, source_start, count),
+  @   range_status(32, order, words, target_start, count));
+  @ ensures range: \result == BITVEC_OK ==> (\forall integer p; target_start <= p < target_start +
+  @   count ==> (bit_u32{Post}(order, memory, p) <==> (bit_u32{Pre}(order, memory, p) &&
+  @   !bit_u32{Pre}(order, memory, source_start + (p - target_start)))));
+  @ ensures others: \result == BITVEC_OK ==> others_u32{Pre, Post}(order, memory, words,
+  @   target_start, count);
+  @ ensures refused: \result != BITVEC_OK ==> kept_u32{Pre, Post}(memory, words);
+  @*/
+uint8_t bitvec_c_and_not_within_u32(
+    uint8_t order, uint32_t *memory, size_t words, size_t target_start, size_t source_start,
+    size_t count);
+
+/*@ requires \valid(memory + (0 .. words - 1));
+  @ assigns memory[0 .. words - 1];
+  @ ensures status: \result == then_status(range_status(64, order, words, source_start, count),
+  @   range_status(64, order, words, target_start, count));
+  @ ensures range: \result == BITVEC_OK ==> (\forall integer p; target_start <= p < target_start +
+  @   count ==> (bit_u64{Post}(order, memory, p) <==> (bit_u64{Pre}(order, memory, p) &&
+  @   !bit_u64{Pre}(order, memory, source_start + (p - target_start)))));
+  @ ensures others: \result == BITVEC_OK ==> others_u64{Pre, Post}(order, memory, words,
+  @   target_start, count);
+  @ ensures refused: \result != BITVEC_OK ==> kept_u64{Pre, Post}(memory, words);
+  @*/
+uint8_t bitvec_c_and_not_within_u64(
+    uint8_t order, uint64_t *memory, size_t words, size_t target_start, size_t source_start,
+    size_t count);
+
+/*@ requires \valid(target + (0 .. target_words - 1));
+  @ requires \valid_read(first + (0 .. first_words - 1));
+  @ requires \valid_read(second + (0 .. second_words - 1));
+  @ requires \separated(target + (0 .. target_words - 1), first + (0 .. first_words - 1));
+  @ requires \separated(target + (0 .. target_words - 1), second + (0 .. second_words - 1));
+  @ assigns target[0 .. target_words - 1];
+  @ ensures status: \result == then_status(then_status(range_status(8, order, first_words,
+  @   first_start, count), range_status(8, order, second_words, second_start, count)),
+  @   range_status(8, order, target_words, target_start, count));
+  @ ensures range: \result == BITVEC_OK ==> (\forall integer p; target_start <= p < target_start +
+  @   count ==> (bit_u8{Post}(order, target, p) <==> (bit_u8{Pre}(order, first, first_start + (p -
+  @   target_start)) && bit_u8{Pre}(order, second, second_start + (p - target_start)))));
+  @ ensures others: \result == BITVEC_OK ==> others_u8{Pre, Post}(order, target, target_words,
+  @   target_start, count);
+  @ ensures refused: \result != BITVEC_OK ==> kept_u8{Pre, Post}(target, target_words);
+  @*/
+uint8_t bitvec_c_and_of_u8(
+    uint8_t order, uint8_t *target, size_t target_words, size_t target_start, const uint8_t *first,
+    size_t first_words, size_t first_start, const uint8_t *second, size_t second_words,
+    size_t second_start, size_t count);
+
+/*@ requires \valid(target + (0 .. target_words - 1));
+  @ requires \valid_read(first + (0 .. first_words - 1));
+  @ requires \valid_read(second + (0 .. second_words - 1));
+  @ requires \separated(target + (0 .. target_words - 1), first + (0 .. first_words - 1));
+  @ requires \separated(target + (0 .. target_words - 1), second + (0 .. second_words - 1));
+  @ assigns target[0 .. target_words - 1];
+  @ ensures status: \result == then_status(then_status(range_status(16, order, first_words,
+  @   first_start, count), range_status(16, order, second_words, second_start, count)),
+  @   range_status(16, order, target_words, target_start, count));
+  @ ensures range: \result == BITVEC_OK ==> (\forall integer p; target_start <= p < target_start +
+  @   count ==> (bit_u16{Post}(order, target, p) <==> (bit_u16{Pre}(order, first, first_start + (p -
+  @   target_start)) && bit_u16{Pre}(order, second, second_start + (p - target_start)))));
+  @ ensures others: \result == BITVEC_OK ==> others_u16{Pre, Post}(order, target, target_words,
+  @   target_start, count);
+  @ ensures refused: \result != BITVEC_OK ==> kept_u16{Pre, Post}(target, target_words);
+  @*/
+uint8_t bitvec_c_and_of_u16(
+    uint8_t order, uint16_t *target, size_t target_words, size_t target_start,
+    const uint16_t *first, size_t first_words, size_t first_start, const uint16_t *second,
+    size_t second_words, size_t second_start, size_t count);
+
+/*@ requires \valid(target + (0 .. target_words - 1));
+  @ requires \valid_read(first + (0 .. first_words - 1));
+  @ requires \valid_read(second + (0 .. second_words - 1));
+  @ requires \separated(target + (0 .. target_words - 1), first + (0 .. first_words - 1));
+  @ requires \separated(target + (0 .. target_words - 1), second + (0 .. second_words - 1));
+  @ assigns target[0 .. target_words - 1];
+  @ ensures status: \result == then_status(then_status(range_status(32, order, first_words,
+  @   first_start, count), range_status(32, order, second_words, second_start, count)),
+  @   range_status(32, order, target_words, target_start, count));
+  @ ensures range: \result == BITVEC_OK ==> (\forall integer p; target_start <= p < target_start +
+  @   count ==> (bit_u32{Post}(order, target, p) <==> (bit_u32{Pre}(order, first, first_start + (p -
+  @   target_start)) && bit_u32{Pre}(order, second, second_start + (p - target_start)))));
+  @ ensures others: \result == BITVEC_OK ==> others_u32{Pre, Post}(order, target, target_words,
+  @   target_start, count);
+  @ ensures refused: \result != BITVEC_OK ==> kept_u32{Pre, Post}(target, target_words);
+  @*/
+uint8_t bitvec_c_and_of_u32(
+    uint8_t order, uint32_t *target, size_t target_words, size_t target_start,
+    const uint32_t *first, size_t first_words, size_t first_start, const uint32_t *second,
+    size_t second_words, size_t second_start, size_t count);
+
+/*@ requires \valid(target + (0 .. target_words - 1));
+  @ requires \valid_read(first + (0 .. first_words - 1));
+  @ requires \valid_read(second + (0 .. second_words - 1));
+  @ requires \separated(target + (0 .. target_words - 1), first + (0 .. first_words - 1));
+  @ requires \separated(target + (0 .. target_words - 1), second + (0 .. second_words - 1));
+  @ assigns target[0 .. target_words - 1];
+  @ ensures status: \result == then_status(then_status(range_status(64, order, first_words,
+  @   first_start, count), range_status(64, order, second_words, second_start, count)),
+  @   range_status(64, order, target_words, target_start, count));
+  @ ensures range: \result == BITVEC_OK ==> (\forall integer p; target_start <= p < target_start +
+  @   count ==> (bit_u64{Post}(order, target, p) <==> (bit_u64{Pre}(order, first, first_start + (p -
+  @   target_start)) && bit_u64{Pre}(order, second, second_start + (p - target_start)))));
+  @ ensures others: \result == BITVEC_OK ==> others_u64{Pre, Post}(order, target, target_words,
+  @   target_start, count);
+  @ ensures refused: \result != BITVEC_OK ==> kept_u64{Pre, Post}(target, target_words);
+  @*/
+uint8_t bitvec_c_and_of_u64(
+    uint8_t order, uint64_t *target, size_t target_words, size_t target_start,
+    const uint64_t *first, size_t first_words, size_t first_start, const uint64_t *second,
+    size_t second_words, size_t second_start, size_t count);
+
+/*@ requires \valid(target + (0 .. target_words - 1));
+  @ requires \valid_read(first + (0 .. first_words - 1));
+  @ requires \valid_read(second + (0 .. second_words - 1));
+  @ requires \separated(target + (0 .. target_words - 1), first + (0 .. first_words - 1));
+  @ requires \separated(target + (0 .. target_words - 1), second + (0 .. second_words - 1));
+  @ assigns target[0 .. target_words - 1];
+  @ ensures status: \result == then_status(then_status(range_status(8, order, first_words,
+  @   first_start, count), range_status(8, order, second_words, second_start, count)),
+  @   range_status(8, order, target_words, target_start, count));
+  @ ensures range: \result == BITVEC_OK ==> (\forall integer p; target_start <= p < target_start +
+  @   count ==> (bit_u8{Post}(order, target, p) <==> (bit_u8{Pre}(order, first, first_start + (p -
+  @   target_start)) || bit_u8{Pre}(order, second, second_start + (p - target_start)))));
+  @ ensures others: \result == BITVEC_OK ==> others_u8{Pre, Post}(order, target, target_words,
+  @   target_start, count);
+  @ ensures refused: \result != BITVEC_OK ==> kept_u8{Pre, Post}(target, target_words);
+  @*/
+uint8_t bitvec_c_or_of_u8(
+    uint8_t order, uint8_t *target, size_t target_words, size_t target_start, const uint8_t *first,
+    size_t first_words, size_t first_start, const uint8_t *second, size_t second_words,
+    size_t second_start, size_t count);
+
+/*@ requires \valid(target + (0 .. target_words - 1));
+  @ requires \valid_read(first + (0 .. first_words - 1));
+  @ requires \valid_read(second + (0 .. second_words - 1));
+  @ requires \separated(target + (0 .. target_words - 1), first + (0 .. first_words - 1));
+  @ requires \separated(target + (0 .. target_words - 1), second + (0 .. second_words - 1));
+  @ assigns target[0 .. target_words - 1];
+  @ ensures status: \result == then_status(then_status(range_status(16, order, first_words,
+  @   first_start, count), range_status(16, order, second_words, second_start, count)),
+  @   range_status(16, order, target_words, target_start, count));
+  @ ensures range: \result == BITVEC_OK ==> (\forall integer p; target_start <= p < target_start +
+  @   count ==> (bit_u16{Post}(order, target, p) <==> (bit_u16{Pre}(order, first, first_start + (p -
+  @   target_start)) || bit_u16{Pre}(order, second, second_start + (p - target_start)))));
+  @ ensures others: \result == BITVEC_OK ==> others_u16{Pre, Post}(order, target, target_words,
+  @   target_start, count);
+  @ ensures refused: \result != BITVEC_OK ==> kept_u16{Pre, Post}(target, target_words);
+  @*/
+uint8_t bitvec_c_or_of_u16(
+    uint8_t order, uint16_t *target, size_t target_words, size_t target_start,
+    const uint16_t *first, size_t first_words, size_t first_start, const uint16_t *second,
+    size_t second_words, size_t second_start, size_t count);
+
+/*@ requires \valid(target + (0 .. target_words - 1));
+  @ requires \valid_read(first + (0 .. first_words - 1));
+  @ requires \valid_read(second + (0 .. second_words - 1));
+  @ requires \separated(target + (0 .. target_words - 1), first + (0 .. first_words - 1));
+  @ requires \separated(target + (0 .. target_words - 1), second + (0 .. second_words - 1));
+  @ assigns target[0 .. target_words - 1];
+  @ ensures status: \result == then_status(then_status(range_status(32, order, first_words,
+  @   first_start, count), range_status(32, order, second_words, second_start, count)),
+  @   range_status(32, order, target_words, target_start, count));
+  @ ensures range: \result == BITVEC_OK ==> (\forall integer p; target_start <= p < target_start +
+  @   count ==> (bit_u32{Post}(order, target, p) <==> (bit_u32{Pre}(order, first, first_start + (p -
+  @   target_start)) || bit_u32{Pre}(order, second, second_start + (p - target_start)))));
+  @ ensures others: \result == BITVEC_OK ==> others_u32{Pre, Post}(order, target, target_words,
+  @   target_start, count);
+  @ ensures refused: \result != BITVEC_OK ==> kept_u32{Pre, Post}(target, target_words);
+  @*/
+uint8_t bitvec_c_or_of_u32(
+    uint8_t order, uint32_t *target, size_t target_words, size_t target_start,
+    const uint32_t *first, size_t first_words, size_t first_start, const uint32_t *second,
+    size_t second_words, size_t second_start, size_t count);
+
+/*@ requires \valid(target + (0 .. target_words - 1));
+  @ requires \valid_read(first + (0 .. first_words - 1));
+  @ requires \valid_read(second + (0 .. second_words - 1));
+  @ requires \separated(target + (0 .. target_words - 1), first + (0 .. first_words - 1));
+  @ requires \separated(target + (0 .. target_words - 1), second + (0 .. second_words - 1));
+  @ assigns target[0 .. target_words - 1];
+  @ ensures status: \result == then_status(then_status(range_status(64, order, first_words,
+  @   first_start, count), range_status(64, order, second_words, second_start, count)),
+  @   range_status(64, order, target_words, target_start, count));
+  @ ensures range: \result == BITVEC_OK ==> (\forall integer p; target_start <= p < target_start +
+  @   count ==> (bit_u64{Post}(order, target, p) <==> (bit_u64{Pre}(order, first, first_start + (p -
+  @   target_start)) || bit_u64{Pre}(order, second, second_start + (p - target_start)))));
+  @ ensures others: \result == BITVEC_OK ==> others_u64{Pre, Post}(order, target, target_words,
+  @   target_start, count);
+  @ ensures refused: \result != BITVEC_OK ==> kept_u64{Pre, Post}(target, target_words);
+  @*/
+uint8_t bitvec_c_or_of_u64(
+    uint8_t order, uint64_t *target, size_t target_words, size_t target_start,
+    const uint64_t *first, size_t first_words, size_t first_start, const uint64_t *second,
+    size_t second_words, size_t second_start, size_t count);
+
+/*@ requires \valid(target + (0 .. target_words - 1));
+  @ requires \valid_read(first + (0 .. first_words - 1));
+  @ requires \valid_read(second + (0 .. second_words - 1));
+  @ requires \separated(target + (0 .. target_words - 1), first + (0 .. first_words - 1));
+  @ requires \separated(target + (0 .. target_words - 1), second + (0 .. second_words - 1));
+  @ assigns target[0 .. target_words - 1];
+  @ ensures status: \result == then_status(then_status(range_status(8, order, first_words,
+  @   first_start, count), range_status(8, order, second_words, second_start, count)),
+  @   range_status(8, order, target_words, target_start, count));
+  @ ensures range: \result == BITVEC_OK ==> (\forall integer p; target_start <= p < target_start +
+  @   count ==> (bit_u8{Post}(order, target, p) <==> (bit_u8{Pre}(order, first, first_start + (p -
+  @   target_start)) ^^ bit_u8{Pre}(order, second, second_start + (p - target_start)))));
+  @ ensures others: \result == BITVEC_OK ==> others_u8{Pre, Post}(order, target, target_words,
+  @   target_start, count);
+  @ ensures refused: \result != BITVEC_OK ==> kept_u8{Pre, Post}(target, target_words);
+  @*/
+uint8_t bitvec_c_xor_of_u8(
+    uint8_t order, uint8_t *target, size_t target_words, size_t target_start, const uint8_t *first,
+    size_t first_words, size_t first_start, const uint8_t *second, size_t second_words,
+    size_t second_start, size_t count);
+
+/*@ requires \valid(target + (0 .. target_words - 1));
+  @ requires \valid_read(first + (0 .. first_words - 1));
+  @ requires \valid_read(second + (0 .. second_words - 1));
+  @ requires \separated(target + (0 .. target_words - 1), first + (0 .. first_words - 1));
+  @ requires \separated(target + (0 .. target_words - 1), second + (0 .. second_words - 1));
+  @ assigns target[0 .. target_words - 1];
+  @ ensures status: \result == then_status(then_status(range_status(16, order, first_words,
+  @   first_start, count), range_status(16, order, second_words, second_start, count)),
+  @   range_status(16, order, target_words, target_start, count));
+  @ ensures range: \result == BITVEC_OK ==> (\forall integer p; target_start <= p < target_start +
+  @   count ==> (bit_u16{Post}(order, target, p) <==> (bit_u16{Pre}(order, first, first_start + (p -
+  @   target_start)) ^^ bit_u16{Pre}(order, second, second_start + (p - target_start)))));
+  @ ensures others: \result == BITVEC_OK ==> others_u16{Pre, Post}(order, target, target_words,
+  @   target_start, count);
+  @ ensures refused: \result != BITVEC_OK ==> kept_u16{Pre, Post}(target, target_words);
+  @*/
+uint8_t bitvec_c_xor_of_u16(
+    uint8_t order, uint16_t *target, size_t target_words, size_t target_start,
+    const uint16_t *first, size_t first_words, size_t first_start, const uint16_t *second,
+    size_t second_words, size_t second_start, size_t count);
+
+/*@ requires \valid(target + (0 .. target_words - 1));
+  @ requires \valid_read(first + (0 .. first_words - 1));
+  @ requires \valid_read(second + (0 .. second_words - 1));
+  @ requires \separated(target + (0 .. target_words - 1), first + (0 .. first_words - 1));
+  @ requires \separated(target + (0 .. target_words - 1), second + (0 .. second_words - 1));
+  @ assigns target[0 .. target_words - 1];
+  @ ensures status: \result == then_status(then_status(range_status(32, order, first_words,
+  @   first_start, count), range_status(32, order, second_words, second_start, count)),
+  @   range_status(32, order, target_words, target_start, count));
+  @ ensures range: \result == BITVEC_OK ==> (\forall integer p; target_start <= p < target_start +
+  @   count ==> (bit_u32{Post}(order, target, p) <==> (bit_u32{Pre}(order, first, first_start + (p -
+  @   target_start)) ^^ bit_u32{Pre}(order, second, second_start + (p - target_start)))));
+  @ ensures others: \result == BITVEC_OK ==> others_u32{Pre, Post}(order, target, target_words,
+  @   target_start, count);
+  @ ensures refused: \result != BITVEC_OK ==> kept_u32{Pre, Post}(target, target_words);
+  @*/
+uint8_t bitvec_c_xor_of_u32(
+    uint8_t order, uint32_t *target, size_t target_words, size_t target_start,
+    const uint32_t *first, size_t first_words, size_t first_start, const uint32_t *second,
+    size_t second_words, size_t second_start, size_t count);
+
+/*@ requires \valid(target + (0 .. target_words - 1));
+  @ requires \valid_read(first + (0 .. first_words - 1));
+  @ requires \valid_read(second + (0 .. second_words - 1));
+  @ requires \separated(target + (0 .. target_words - 1), first + (0 .. first_words - 1));
+  @ requires \separated(target + (0 .. target_words - 1), second + (0 .. second_words - 1));
+  @ assigns target[0 .. target_words - 1];
+  @ ensures status: \result == then_status(then_status(range_status(64, order, first_words,
+  @   first_start, count), range_status(64, order, second_words, second_start, count)),
+  @   range_status(64, order, target_words, target_start, count));
+  @ ensures range: \result == BITVEC_OK ==> (\forall integer p; target_start <= p < target_start +
+  @   count ==> (bit_u64{Post}(order, target, p) <==> (bit_u64{Pre}(order, first, first_start + (p -
+  @   target_start)) ^^ bit_u64{Pre}(order, second, second_start + (p - target_start)))));
+  @ ensures others: \result == BITVEC_OK ==> others_u64{Pre, Post}(order, target, target_words,
+  @   target_start, count);
+  @ ensures refused: \result != BITVEC_OK ==> kept_u64{Pre, Post}(target, target_words);
+  @*/
+uint8_t bitvec_c_xor_of_u64(
+    uint8_t order, uint64_t *target, size_t target_words, size_t target_start,
+    const uint64_t *first, size_t first_words, size_t first_start, const uint64_t *second,
+    size_t second_words, size_t second_start, size_t count);
+
+/*@ requires \valid(target + (0 .. target_words - 1));
+  @ requires \valid_read(first + (0 .. first_words - 1));
+  @ requires \valid_read(second + (0 .. second_words - 1));
+  @ requires \separated(target + (0 .. target_words - 1), first + (0 .. first_words - 1));
+  @ requires \separated(target + (0 .. target_words - 1), second + (0 .. second_words - 1));
+  @ assigns target[0 .. target_words - 1];
+  @ ensures status: \result == then_status(then_status(range_status(8, order, first_words,
+  @   first_start, count), range_status(8, order, second_words, second_start, count)),
+  @   range_status(8, order, target_words, target_start, count));
+  @ ensures range: \result == BITVEC_OK ==> (\forall integer p; target_start <= p < target_start +
+  @   count ==> (bit_u8{Post}(order, target, p) <==> (bit_u8{Pre}(order, first, first_start + (p -
+  @   target_start)) && !bit_u8{Pre}(order, second, second_start + (p - target_start)))));
+  @ ensures others: \result == BITVEC_OK ==> others_u8{Pre, Post}(order, target, target_words,
+  @   target_start, count);
+  @ ensures refused: \result != BITVEC_OK ==> kept_u8{Pre, Post}(target, target_words);
+  @*/
+uint8_t bitvec_c_and_not_of_u8(
+    uint8_t order, uint8_t *target, size_t target_words, size_t target_start, const uint8_t *first,
+    size_t first_words, size_t first_start, const uint8_t *second, size_t second_words,
+    size_t second_start, size_t count);
+
+/*@ requires \valid(target + (0 .. target_words - 1));
+  @ requires \valid_read(first + (0 .. first_words - 1));
+  @ requires \valid_read(second + (0 .. second_words - 1));
+  @ requires \separated(target + (0 .. target_words - 1), first + (0 .. first_words - 1));
+  @ requires \separated(target + (0 .. target_words - 1), second + (0 .. second_words - 1));
+  @ assigns target[0 .. target_words - 1];
+  @ ensures status: \result == then_status(then_status(range_status(16, order, first_words,
+  @   first_start, count), range_status(16, order, second_words, second_start, count)),
+  @   range_status(16, order, target_words, target_start, count));
+  @ ensures range: \result == BITVEC_OK ==> (\forall integer p; target_start <= p < target_start +
+  @   count ==> (bit_u16{Post}(order, target, p) <==> (bit_u16{Pre}(order, first, first_start + (p -
+  @   target_start)) && !bit_u16{Pre}(order, second, second_start + (p - target_start)))));
+  @ ensures others: \result == BITVEC_OK ==> others_u16{Pre, Post}(order, target, target_words,
+  @   target_start, count);
+  @ ensures refused: \result != BITVEC_OK ==> kept_u16{Pre, Post}(target, target_words);
+  @*/
+uint8_t bitvec_c_and_not_of_u16(
+    uint8_t order, uint16_t *target, size_t target_words, size_t target_start,
+    const uint16_t *first, size_t first_words, size_t first_start, const uint16_t *second,
+    size_t second_words, size_t second_start, size_t count);
+
+/*@ requires \valid(target + (0 .. target_words - 1));
+  @ requires \valid_read(first + (0 .. first_words - 1));
+  @ requires \valid_read(second + (0 .. second_words - 1));
+  @ requires \separated(target + (0 .. target_words - 1), first + (0 .. first_words - 1));
+  @ requires \separated(target + (0 .. target_words - 1), second + (0 .. second_words - 1));
+  @ assigns target[0 .. target_words - 1];
+  @ ensures status: \result == then_status(then_status(range_status(32, order, first_words,
+  @   first_start, count), range_status(32, order, second_words, second_start, count)),
+  @   range_status(32, order, target_words, target_start, count));
+  @ ensures range: \result == BITVEC_OK ==> (\forall integer p; target_start <= p < target_start +
+  @   count ==> (bit_u32{Post}(order, target, p) <==> (bit_u32{Pre}(order, first, first_start + (p -
+  @   target_start)) && !bit_u32{Pre}(order, second, second_start + (p - target_start)))));
+  @ ensures others: \result == BITVEC_OK ==> others_u32{Pre, Post}(order, target, target_words,
+  @   target_start, count);
+  @ ensures refused: \result != BITVEC_OK ==> kept_u32{Pre, Post}(target, target_words);
+  @*/
+uint8_t bitvec_c_and_not_of_u32(
+    uint8_t order, uint32_t *target, size_t target_words, size_t target_start,
+    const uint32_t *first, size_t first_words, size_t first_start, const uint32_t *second,
+    size_t second_words, size_t second_start, size_t count);
+
+/*@ requires \valid(target + (0 .. target_words - 1));
+  @ requires \valid_read(first + (0 .. first_words - 1));
+  @ requires \valid_read(second + (0 .. second_words - 1));
+  @ requires \separated(target + (0 .. target_words - 1), first + (0 .. first_words - 1));
+  @ requires \separated(target + (0 .. target_words - 1), second + (0 .. second_words - 1));
+  @ assigns target[0 .. target_words - 1];
+  @ ensures status: \result == then_status(then_status(range_status(64, order, first_words,
+  @   first_start, count), range_status(64, order, second_words, second_start, count)),
+  @   range_status(64, order, target_words, target_start, count));
+  @ ensures range: \result == BITVEC_OK ==> (\forall integer p; target_start <= p < target_start +
+  @   count ==> (bit_u64{Post}(order, target, p) <==> (bit_u64{Pre}(order, first, first_start + (p -
+  @   target_start)) && !bit_u64{Pre}(order, second, second_start + (p - target_start)))));
+  @ ensures others: \result == BITVEC_OK ==> others_u64{Pre, Post}(order, target, target_words,
+  @   target_start, count);
+  @ ensures refused: \result != BITVEC_OK ==> kept_u64{Pre, Post}(target, target_words);
+  @*/
+uint8_t bitvec_c_and_not_of_u64(
+    uint8_t order, uint64_t *target, size_t target_words, size_t target_start,
+    const uint64_t *first, size_t first_words, size_t first_start, const uint64_t *second,
+    size_t second_words, size_t second_start, size_t count);
+
 /*@ requires \valid_read(memory + (0 .. words - 1));
   @ requires \valid_read(other + (0 .. other_words - 1));
   @ requires \valid(same);

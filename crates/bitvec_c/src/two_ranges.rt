@@ -1,13 +1,14 @@
 //! Two ranges: exports for callers in C. Written by `.ci/exports`.
 
 ghost use Rattle.bitvec_call.specs.Call.{u8_at, u16_at, u32_at, u64_at, both, either, differ};
-ghost use Rattle.bitvec_call.specs.Call.{but_not, IsCombination, IsComparison, CountsPairs};
-ghost use Rattle.bitvec_call.specs.Call.{FindsPair};
+ghost use Rattle.bitvec_call.specs.Call.{but_not, IsComparison, IsCombination, IsCombinationOf};
+ghost use Rattle.bitvec_call.specs.Call.{IsCombinationWithin, CountsPairs, FindsPair};
 
 use bitvec::ptr::combine::{And, AndNot, Or, Xor};
-use bitvec_call::combine::combine;
+use bitvec_call::combine::{combine, combine_of, combine_within};
 use bitvec_call::find::equal;
 use bitvec_call::question::{count_with, first_with};
+use bitvec_call::seek::first;
 
 /// Leaves one those bits of the target whose bit in the source is one: an intersection.
 ///
@@ -415,6 +416,718 @@ pub extern "C" fn bitvec_c_and_not_u64(
         source,
         source_start,
         order,
+        target,
+        target_start,
+        count,
+    )
+}
+
+/// Leaves one those bits of a range whose bit in another range of the same array is one. The two
+/// ranges may overlap: each bit is combined with what was there before.
+///
+/// In words of 8 bits. It refuses with `NO_ORDER`, `TOO_LONG` or `OUTSIDE`. It costs by words.
+#[unsafe(no_mangle)]
+pub extern "C" fn bitvec_c_and_within_u8(
+    order: u8,
+    memory: &mut [u8],
+    target_start: usize,
+    source_start: usize,
+    count: usize,
+) -> u8
+    ensures { let at = u8_at order in IsCombinationWithin both (at source_start memory.old) (at
+        target_start memory.old) (at target_start memory.new) count result }
+{
+    combine_within::<And, u8>(order, memory, source_start, target_start, count)
+}
+
+/// As `bitvec_c_and_within_u8`, of words of 16 bits.
+#[unsafe(no_mangle)]
+pub extern "C" fn bitvec_c_and_within_u16(
+    order: u8,
+    memory: &mut [u16],
+    target_start: usize,
+    source_start: usize,
+    count: usize,
+) -> u8
+    ensures { let at = u16_at order in IsCombinationWithin both (at source_start memory.old) (at
+        target_start memory.old) (at target_start memory.new) count result }
+{
+    combine_within::<And, u16>(order, memory, source_start, target_start, count)
+}
+
+/// As `bitvec_c_and_within_u8`, of words of 32 bits.
+#[unsafe(no_mangle)]
+pub extern "C" fn bitvec_c_and_within_u32(
+    order: u8,
+    memory: &mut [u32],
+    target_start: usize,
+    source_start: usize,
+    count: usize,
+) -> u8
+    ensures { let at = u32_at order in IsCombinationWithin both (at source_start memory.old) (at
+        target_start memory.old) (at target_start memory.new) count result }
+{
+    combine_within::<And, u32>(order, memory, source_start, target_start, count)
+}
+
+/// As `bitvec_c_and_within_u8`, of words of 64 bits.
+#[unsafe(no_mangle)]
+pub extern "C" fn bitvec_c_and_within_u64(
+    order: u8,
+    memory: &mut [u64],
+    target_start: usize,
+    source_start: usize,
+    count: usize,
+) -> u8
+    ensures { let at = u64_at order in IsCombinationWithin both (at source_start memory.old) (at
+        target_start memory.old) (at target_start memory.new) count result }
+{
+    combine_within::<And, u64>(order, memory, source_start, target_start, count)
+}
+
+/// Makes one those bits of a range whose bit in another range of the same array is one. The two
+/// ranges may overlap, as in bitvec_c_and_within_W.
+///
+/// In words of 8 bits. It refuses with `NO_ORDER`, `TOO_LONG` or `OUTSIDE`. It costs by words.
+#[unsafe(no_mangle)]
+pub extern "C" fn bitvec_c_or_within_u8(
+    order: u8,
+    memory: &mut [u8],
+    target_start: usize,
+    source_start: usize,
+    count: usize,
+) -> u8
+    ensures { let at = u8_at order in IsCombinationWithin either (at source_start memory.old) (at
+        target_start memory.old) (at target_start memory.new) count result }
+{
+    combine_within::<Or, u8>(order, memory, source_start, target_start, count)
+}
+
+/// As `bitvec_c_or_within_u8`, of words of 16 bits.
+#[unsafe(no_mangle)]
+pub extern "C" fn bitvec_c_or_within_u16(
+    order: u8,
+    memory: &mut [u16],
+    target_start: usize,
+    source_start: usize,
+    count: usize,
+) -> u8
+    ensures { let at = u16_at order in IsCombinationWithin either (at source_start memory.old) (at
+        target_start memory.old) (at target_start memory.new) count result }
+{
+    combine_within::<Or, u16>(order, memory, source_start, target_start, count)
+}
+
+/// As `bitvec_c_or_within_u8`, of words of 32 bits.
+#[unsafe(no_mangle)]
+pub extern "C" fn bitvec_c_or_within_u32(
+    order: u8,
+    memory: &mut [u32],
+    target_start: usize,
+    source_start: usize,
+    count: usize,
+) -> u8
+    ensures { let at = u32_at order in IsCombinationWithin either (at source_start memory.old) (at
+        target_start memory.old) (at target_start memory.new) count result }
+{
+    combine_within::<Or, u32>(order, memory, source_start, target_start, count)
+}
+
+/// As `bitvec_c_or_within_u8`, of words of 64 bits.
+#[unsafe(no_mangle)]
+pub extern "C" fn bitvec_c_or_within_u64(
+    order: u8,
+    memory: &mut [u64],
+    target_start: usize,
+    source_start: usize,
+    count: usize,
+) -> u8
+    ensures { let at = u64_at order in IsCombinationWithin either (at source_start memory.old) (at
+        target_start memory.old) (at target_start memory.new) count result }
+{
+    combine_within::<Or, u64>(order, memory, source_start, target_start, count)
+}
+
+/// Turns over those bits of a range whose bit in another range of the same array is one. The two
+/// ranges may overlap, as in bitvec_c_and_within_W.
+///
+/// In words of 8 bits. It refuses with `NO_ORDER`, `TOO_LONG` or `OUTSIDE`. It costs by words.
+#[unsafe(no_mangle)]
+pub extern "C" fn bitvec_c_xor_within_u8(
+    order: u8,
+    memory: &mut [u8],
+    target_start: usize,
+    source_start: usize,
+    count: usize,
+) -> u8
+    ensures { let at = u8_at order in IsCombinationWithin differ (at source_start memory.old) (at
+        target_start memory.old) (at target_start memory.new) count result }
+{
+    combine_within::<Xor, u8>(order, memory, source_start, target_start, count)
+}
+
+/// As `bitvec_c_xor_within_u8`, of words of 16 bits.
+#[unsafe(no_mangle)]
+pub extern "C" fn bitvec_c_xor_within_u16(
+    order: u8,
+    memory: &mut [u16],
+    target_start: usize,
+    source_start: usize,
+    count: usize,
+) -> u8
+    ensures { let at = u16_at order in IsCombinationWithin differ (at source_start memory.old) (at
+        target_start memory.old) (at target_start memory.new) count result }
+{
+    combine_within::<Xor, u16>(order, memory, source_start, target_start, count)
+}
+
+/// As `bitvec_c_xor_within_u8`, of words of 32 bits.
+#[unsafe(no_mangle)]
+pub extern "C" fn bitvec_c_xor_within_u32(
+    order: u8,
+    memory: &mut [u32],
+    target_start: usize,
+    source_start: usize,
+    count: usize,
+) -> u8
+    ensures { let at = u32_at order in IsCombinationWithin differ (at source_start memory.old) (at
+        target_start memory.old) (at target_start memory.new) count result }
+{
+    combine_within::<Xor, u32>(order, memory, source_start, target_start, count)
+}
+
+/// As `bitvec_c_xor_within_u8`, of words of 64 bits.
+#[unsafe(no_mangle)]
+pub extern "C" fn bitvec_c_xor_within_u64(
+    order: u8,
+    memory: &mut [u64],
+    target_start: usize,
+    source_start: usize,
+    count: usize,
+) -> u8
+    ensures { let at = u64_at order in IsCombinationWithin differ (at source_start memory.old) (at
+        target_start memory.old) (at target_start memory.new) count result }
+{
+    combine_within::<Xor, u64>(order, memory, source_start, target_start, count)
+}
+
+/// Makes zero those bits of a range whose bit in another range of the same array is one. The two
+/// ranges may overlap, as in bitvec_c_and_within_W.
+///
+/// In words of 8 bits. It refuses with `NO_ORDER`, `TOO_LONG` or `OUTSIDE`. It costs by words.
+#[unsafe(no_mangle)]
+pub extern "C" fn bitvec_c_and_not_within_u8(
+    order: u8,
+    memory: &mut [u8],
+    target_start: usize,
+    source_start: usize,
+    count: usize,
+) -> u8
+    ensures { let at = u8_at order in IsCombinationWithin but_not (at source_start memory.old) (at
+        target_start memory.old) (at target_start memory.new) count result }
+{
+    combine_within::<AndNot, u8>(order, memory, source_start, target_start, count)
+}
+
+/// As `bitvec_c_and_not_within_u8`, of words of 16 bits.
+#[unsafe(no_mangle)]
+pub extern "C" fn bitvec_c_and_not_within_u16(
+    order: u8,
+    memory: &mut [u16],
+    target_start: usize,
+    source_start: usize,
+    count: usize,
+) -> u8
+    ensures { let at = u16_at order in IsCombinationWithin but_not (at source_start memory.old) (at
+        target_start memory.old) (at target_start memory.new) count result }
+{
+    combine_within::<AndNot, u16>(order, memory, source_start, target_start, count)
+}
+
+/// As `bitvec_c_and_not_within_u8`, of words of 32 bits.
+#[unsafe(no_mangle)]
+pub extern "C" fn bitvec_c_and_not_within_u32(
+    order: u8,
+    memory: &mut [u32],
+    target_start: usize,
+    source_start: usize,
+    count: usize,
+) -> u8
+    ensures { let at = u32_at order in IsCombinationWithin but_not (at source_start memory.old) (at
+        target_start memory.old) (at target_start memory.new) count result }
+{
+    combine_within::<AndNot, u32>(order, memory, source_start, target_start, count)
+}
+
+/// As `bitvec_c_and_not_within_u8`, of words of 64 bits.
+#[unsafe(no_mangle)]
+pub extern "C" fn bitvec_c_and_not_within_u64(
+    order: u8,
+    memory: &mut [u64],
+    target_start: usize,
+    source_start: usize,
+    count: usize,
+) -> u8
+    ensures { let at = u64_at order in IsCombinationWithin but_not (at source_start memory.old) (at
+        target_start memory.old) (at target_start memory.new) count result }
+{
+    combine_within::<AndNot, u64>(order, memory, source_start, target_start, count)
+}
+
+/// Makes one those bits of the target whose bits in both other ranges are one, and its other bits
+/// zero: an intersection.
+///
+/// In words of 8 bits. It refuses with `NO_ORDER`, `TOO_LONG` or `OUTSIDE`. It costs by words.
+#[unsafe(no_mangle)]
+pub extern "C" fn bitvec_c_and_of_u8(
+    order: u8,
+    target: &mut [u8],
+    target_start: usize,
+    first: &[u8],
+    first_start: usize,
+    second: &[u8],
+    second_start: usize,
+    count: usize,
+) -> u8
+    ensures { let at = u8_at order in IsCombinationOf both (at first_start first.now) (at
+        second_start second.now) (at target_start target.old) (at target_start target.new) count
+        result }
+{
+    combine_of::<And, u8>(
+        order,
+        first,
+        first_start,
+        second,
+        second_start,
+        target,
+        target_start,
+        count,
+    )
+}
+
+/// As `bitvec_c_and_of_u8`, of words of 16 bits.
+#[unsafe(no_mangle)]
+pub extern "C" fn bitvec_c_and_of_u16(
+    order: u8,
+    target: &mut [u16],
+    target_start: usize,
+    first: &[u16],
+    first_start: usize,
+    second: &[u16],
+    second_start: usize,
+    count: usize,
+) -> u8
+    ensures { let at = u16_at order in IsCombinationOf both (at first_start first.now) (at
+        second_start second.now) (at target_start target.old) (at target_start target.new) count
+        result }
+{
+    combine_of::<And, u16>(
+        order,
+        first,
+        first_start,
+        second,
+        second_start,
+        target,
+        target_start,
+        count,
+    )
+}
+
+/// As `bitvec_c_and_of_u8`, of words of 32 bits.
+#[unsafe(no_mangle)]
+pub extern "C" fn bitvec_c_and_of_u32(
+    order: u8,
+    target: &mut [u32],
+    target_start: usize,
+    first: &[u32],
+    first_start: usize,
+    second: &[u32],
+    second_start: usize,
+    count: usize,
+) -> u8
+    ensures { let at = u32_at order in IsCombinationOf both (at first_start first.now) (at
+        second_start second.now) (at target_start target.old) (at target_start target.new) count
+        result }
+{
+    combine_of::<And, u32>(
+        order,
+        first,
+        first_start,
+        second,
+        second_start,
+        target,
+        target_start,
+        count,
+    )
+}
+
+/// As `bitvec_c_and_of_u8`, of words of 64 bits.
+#[unsafe(no_mangle)]
+pub extern "C" fn bitvec_c_and_of_u64(
+    order: u8,
+    target: &mut [u64],
+    target_start: usize,
+    first: &[u64],
+    first_start: usize,
+    second: &[u64],
+    second_start: usize,
+    count: usize,
+) -> u8
+    ensures { let at = u64_at order in IsCombinationOf both (at first_start first.now) (at
+        second_start second.now) (at target_start target.old) (at target_start target.new) count
+        result }
+{
+    combine_of::<And, u64>(
+        order,
+        first,
+        first_start,
+        second,
+        second_start,
+        target,
+        target_start,
+        count,
+    )
+}
+
+/// Makes one those bits of the target whose bit in at least one of two other ranges is one, and its
+/// other bits zero: a union.
+///
+/// In words of 8 bits. It refuses with `NO_ORDER`, `TOO_LONG` or `OUTSIDE`. It costs by words.
+#[unsafe(no_mangle)]
+pub extern "C" fn bitvec_c_or_of_u8(
+    order: u8,
+    target: &mut [u8],
+    target_start: usize,
+    first: &[u8],
+    first_start: usize,
+    second: &[u8],
+    second_start: usize,
+    count: usize,
+) -> u8
+    ensures { let at = u8_at order in IsCombinationOf either (at first_start first.now) (at
+        second_start second.now) (at target_start target.old) (at target_start target.new) count
+        result }
+{
+    combine_of::<Or, u8>(
+        order,
+        first,
+        first_start,
+        second,
+        second_start,
+        target,
+        target_start,
+        count,
+    )
+}
+
+/// As `bitvec_c_or_of_u8`, of words of 16 bits.
+#[unsafe(no_mangle)]
+pub extern "C" fn bitvec_c_or_of_u16(
+    order: u8,
+    target: &mut [u16],
+    target_start: usize,
+    first: &[u16],
+    first_start: usize,
+    second: &[u16],
+    second_start: usize,
+    count: usize,
+) -> u8
+    ensures { let at = u16_at order in IsCombinationOf either (at first_start first.now) (at
+        second_start second.now) (at target_start target.old) (at target_start target.new) count
+        result }
+{
+    combine_of::<Or, u16>(
+        order,
+        first,
+        first_start,
+        second,
+        second_start,
+        target,
+        target_start,
+        count,
+    )
+}
+
+/// As `bitvec_c_or_of_u8`, of words of 32 bits.
+#[unsafe(no_mangle)]
+pub extern "C" fn bitvec_c_or_of_u32(
+    order: u8,
+    target: &mut [u32],
+    target_start: usize,
+    first: &[u32],
+    first_start: usize,
+    second: &[u32],
+    second_start: usize,
+    count: usize,
+) -> u8
+    ensures { let at = u32_at order in IsCombinationOf either (at first_start first.now) (at
+        second_start second.now) (at target_start target.old) (at target_start target.new) count
+        result }
+{
+    combine_of::<Or, u32>(
+        order,
+        first,
+        first_start,
+        second,
+        second_start,
+        target,
+        target_start,
+        count,
+    )
+}
+
+/// As `bitvec_c_or_of_u8`, of words of 64 bits.
+#[unsafe(no_mangle)]
+pub extern "C" fn bitvec_c_or_of_u64(
+    order: u8,
+    target: &mut [u64],
+    target_start: usize,
+    first: &[u64],
+    first_start: usize,
+    second: &[u64],
+    second_start: usize,
+    count: usize,
+) -> u8
+    ensures { let at = u64_at order in IsCombinationOf either (at first_start first.now) (at
+        second_start second.now) (at target_start target.old) (at target_start target.new) count
+        result }
+{
+    combine_of::<Or, u64>(
+        order,
+        first,
+        first_start,
+        second,
+        second_start,
+        target,
+        target_start,
+        count,
+    )
+}
+
+/// Makes one those bits of the target whose bits in two other ranges differ, and its other bits
+/// zero: a symmetric difference.
+///
+/// In words of 8 bits. It refuses with `NO_ORDER`, `TOO_LONG` or `OUTSIDE`. It costs by words.
+#[unsafe(no_mangle)]
+pub extern "C" fn bitvec_c_xor_of_u8(
+    order: u8,
+    target: &mut [u8],
+    target_start: usize,
+    first: &[u8],
+    first_start: usize,
+    second: &[u8],
+    second_start: usize,
+    count: usize,
+) -> u8
+    ensures { let at = u8_at order in IsCombinationOf differ (at first_start first.now) (at
+        second_start second.now) (at target_start target.old) (at target_start target.new) count
+        result }
+{
+    combine_of::<Xor, u8>(
+        order,
+        first,
+        first_start,
+        second,
+        second_start,
+        target,
+        target_start,
+        count,
+    )
+}
+
+/// As `bitvec_c_xor_of_u8`, of words of 16 bits.
+#[unsafe(no_mangle)]
+pub extern "C" fn bitvec_c_xor_of_u16(
+    order: u8,
+    target: &mut [u16],
+    target_start: usize,
+    first: &[u16],
+    first_start: usize,
+    second: &[u16],
+    second_start: usize,
+    count: usize,
+) -> u8
+    ensures { let at = u16_at order in IsCombinationOf differ (at first_start first.now) (at
+        second_start second.now) (at target_start target.old) (at target_start target.new) count
+        result }
+{
+    combine_of::<Xor, u16>(
+        order,
+        first,
+        first_start,
+        second,
+        second_start,
+        target,
+        target_start,
+        count,
+    )
+}
+
+/// As `bitvec_c_xor_of_u8`, of words of 32 bits.
+#[unsafe(no_mangle)]
+pub extern "C" fn bitvec_c_xor_of_u32(
+    order: u8,
+    target: &mut [u32],
+    target_start: usize,
+    first: &[u32],
+    first_start: usize,
+    second: &[u32],
+    second_start: usize,
+    count: usize,
+) -> u8
+    ensures { let at = u32_at order in IsCombinationOf differ (at first_start first.now) (at
+        second_start second.now) (at target_start target.old) (at target_start target.new) count
+        result }
+{
+    combine_of::<Xor, u32>(
+        order,
+        first,
+        first_start,
+        second,
+        second_start,
+        target,
+        target_start,
+        count,
+    )
+}
+
+/// As `bitvec_c_xor_of_u8`, of words of 64 bits.
+#[unsafe(no_mangle)]
+pub extern "C" fn bitvec_c_xor_of_u64(
+    order: u8,
+    target: &mut [u64],
+    target_start: usize,
+    first: &[u64],
+    first_start: usize,
+    second: &[u64],
+    second_start: usize,
+    count: usize,
+) -> u8
+    ensures { let at = u64_at order in IsCombinationOf differ (at first_start first.now) (at
+        second_start second.now) (at target_start target.old) (at target_start target.new) count
+        result }
+{
+    combine_of::<Xor, u64>(
+        order,
+        first,
+        first_start,
+        second,
+        second_start,
+        target,
+        target_start,
+        count,
+    )
+}
+
+/// Makes one those bits of the target whose bit in the first of two other ranges is one and in the
+/// second zero, and its other bits zero: a difference.
+///
+/// In words of 8 bits. It refuses with `NO_ORDER`, `TOO_LONG` or `OUTSIDE`. It costs by words.
+#[unsafe(no_mangle)]
+pub extern "C" fn bitvec_c_and_not_of_u8(
+    order: u8,
+    target: &mut [u8],
+    target_start: usize,
+    first: &[u8],
+    first_start: usize,
+    second: &[u8],
+    second_start: usize,
+    count: usize,
+) -> u8
+    ensures { let at = u8_at order in IsCombinationOf but_not (at first_start first.now) (at
+        second_start second.now) (at target_start target.old) (at target_start target.new) count
+        result }
+{
+    combine_of::<AndNot, u8>(
+        order,
+        first,
+        first_start,
+        second,
+        second_start,
+        target,
+        target_start,
+        count,
+    )
+}
+
+/// As `bitvec_c_and_not_of_u8`, of words of 16 bits.
+#[unsafe(no_mangle)]
+pub extern "C" fn bitvec_c_and_not_of_u16(
+    order: u8,
+    target: &mut [u16],
+    target_start: usize,
+    first: &[u16],
+    first_start: usize,
+    second: &[u16],
+    second_start: usize,
+    count: usize,
+) -> u8
+    ensures { let at = u16_at order in IsCombinationOf but_not (at first_start first.now) (at
+        second_start second.now) (at target_start target.old) (at target_start target.new) count
+        result }
+{
+    combine_of::<AndNot, u16>(
+        order,
+        first,
+        first_start,
+        second,
+        second_start,
+        target,
+        target_start,
+        count,
+    )
+}
+
+/// As `bitvec_c_and_not_of_u8`, of words of 32 bits.
+#[unsafe(no_mangle)]
+pub extern "C" fn bitvec_c_and_not_of_u32(
+    order: u8,
+    target: &mut [u32],
+    target_start: usize,
+    first: &[u32],
+    first_start: usize,
+    second: &[u32],
+    second_start: usize,
+    count: usize,
+) -> u8
+    ensures { let at = u32_at order in IsCombinationOf but_not (at first_start first.now) (at
+        second_start second.now) (at target_start target.old) (at target_start target.new) count
+        result }
+{
+    combine_of::<AndNot, u32>(
+        order,
+        first,
+        first_start,
+        second,
+        second_start,
+        target,
+        target_start,
+        count,
+    )
+}
+
+/// As `bitvec_c_and_not_of_u8`, of words of 64 bits.
+#[unsafe(no_mangle)]
+pub extern "C" fn bitvec_c_and_not_of_u64(
+    order: u8,
+    target: &mut [u64],
+    target_start: usize,
+    first: &[u64],
+    first_start: usize,
+    second: &[u64],
+    second_start: usize,
+    count: usize,
+) -> u8
+    ensures { let at = u64_at order in IsCombinationOf but_not (at first_start first.now) (at
+        second_start second.now) (at target_start target.old) (at target_start target.new) count
+        result }
+{
+    combine_of::<AndNot, u64>(
+        order,
+        first,
+        first_start,
+        second,
+        second_start,
         target,
         target_start,
         count,
