@@ -48,6 +48,9 @@ pub(crate) mod digits {
         /// Its lowest digits, `count` of them and at most its width, where it is the number of these.
         fn digits(self, count: usize) -> Option<u64>;
 
+        /// The same of fewer digits than 64.
+        fn few_digits(self, count: usize) -> Option<u64>;
+
         /// Its lowest digits, `count` of them, where a number of its type has as many and it has no
         /// more.
         #[inline]
@@ -142,6 +145,15 @@ macro_rules! numbers {
                     wide << (64 - count) >> (64 - count)
                 };
                 (Self::of_digits(digits, count) == self).then_some(digits)
+            }
+
+            #[inline]
+            fn few_digits(self, count: usize) -> Option<u64> {
+                if Self::HAS_SIGN {
+                    return self.digits(count);
+                }
+                let wide = self as u64;
+                (wide.wrapping_shr(count as u32) == 0).then_some(wide)
             }
 
             #[cfg(feature = "std")]

@@ -27,14 +27,14 @@ pub trait Owned: Exports + Eq {
     /// the highest where `big`, and the lowest else.
     fn joined(words: &[Self], from: usize, big: bool) -> Option<u64>;
 
-    /// Puts in place of the 64 bits that `joined` has what is made of them, where there are that many,
-    /// and returns it.
-    fn rejoin(
-        words: &mut [Self],
-        from: usize,
-        big: bool,
-        new: impl FnOnce(u64) -> u64,
-    ) -> Option<u64>;
+    /// The same of the first words, and the words behind these.
+    fn split_joined(words: &[Self], big: bool) -> Option<(u64, &[Self])>;
+
+    /// Puts 64 bits in place of those that `joined` has, where there are that many.
+    fn put(words: &mut [Self], from: usize, big: bool, digits: u64) -> Option<()>;
+
+    /// The same, and returns the 64 behind them, where there are these too.
+    fn put_before(words: &mut [Self], from: usize, big: bool, digits: u64) -> Option<u64>;
 
     /// A vector, as the library is to have it.
     #[cfg(feature = "alloc")]
@@ -94,6 +94,19 @@ macro_rules! put_number {
     }};
 }
 
+/// `N` words from one on, where there are that many. (By one test of its index, where the words do
+/// not change: this is asked of each number that is written.)
+#[inline]
+fn some_of<T, const N: usize>(words: &mut [T], from: usize) -> Option<&mut [T; N]> {
+    if N == 1 {
+        return words.get_mut(from..)?.first_chunk_mut();
+    }
+    if from > words.len().checked_sub(N)? {
+        return None;
+    }
+    words[from..].first_chunk_mut()
+}
+
 macro_rules! owned {
     ($($word:ident)*) => { $(
         impl Owned for $word {
@@ -116,18 +129,33 @@ macro_rules! owned {
             }
 
             #[inline]
-            fn rejoin(
+            fn split_joined(words: &[Self], big: bool) -> Option<(u64, &[Self])> {
+                const COUNT: usize = 64 / $word::BITS as usize;
+                let (words, behind) = words.split_first_chunk::<COUNT>()?;
+                Some((number!($word of words, big), behind))
+            }
+
+            #[inline]
+            fn put(words: &mut [Self], from: usize, big: bool, digits: u64) -> Option<()> {
+                const COUNT: usize = 64 / $word::BITS as usize;
+                let words = some_of::<Self, COUNT>(words, from)?;
+                put_number!($word in words, big, digits);
+                Some(())
+            }
+
+            #[inline]
+            fn put_before(
                 words: &mut [Self],
                 from: usize,
                 big: bool,
-                new: impl FnOnce(u64) -> u64,
+                digits: u64,
             ) -> Option<u64> {
                 const COUNT: usize = 64 / $word::BITS as usize;
-                let words = words.get_mut(from..from.wrapping_add(COUNT))?;
-                let words: &mut [Self; COUNT] = words.try_into().ok()?;
-                let digits = new(number!($word of words, big));
+                let both = some_of::<Self, { 2 * COUNT }>(words, from)?;
+                let (words, behind) = both.split_first_chunk_mut::<COUNT>()?;
+                let behind: &[Self; COUNT] = behind.first_chunk()?;
                 put_number!($word in words, big, digits);
-                Some(digits)
+                Some(number!($word of behind, big))
             }
 
             #[cfg(feature = "alloc")]

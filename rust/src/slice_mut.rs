@@ -93,12 +93,6 @@ impl<'a, T: Register, O: Order> BitSliceMut<'a, T, O> {
         BitSlice::of(self.words, self.start, self.len)
     }
 
-    /// The place behind the last bit.
-    #[inline]
-    pub(crate) fn end(&self) -> usize {
-        self.start + self.len
-    }
-
     /// The words, the place of the first bit in them, and how many bits there are.
     #[inline]
     pub(crate) fn into_place(self) -> (&'a mut [T], usize, usize) {

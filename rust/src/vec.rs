@@ -849,7 +849,7 @@ impl<T: Register, O: Order> BitVec<T, O> {
         loop {
             let (digits, count) = gathered(&mut bits);
             let mut words = [T::ZERO; 8];
-            let _ = T::rejoin(&mut words, 0, O::BIG, |_| O::turned(digits, 64));
+            let _ = T::put(&mut words, 0, O::BIG, O::turned(digits, 64));
             full.words
                 .extend_from_slice(&words[..count.div_ceil(T::BITS)]);
             len += count;

@@ -34,19 +34,20 @@ use crate::slice_mut::BitSliceMut;
 #[derive(Debug)]
 pub struct BitWriter<'a, T: Register, O: Order> {
     bits: BitSliceMut<'a, T, O>,
-    /// 64 bits of the slice as they stand in its words from one on, so that these need not be read
-    /// again, of which the last `free` are still to be written. Where `free` is 0 they are any.
+    /// 64 bits of the slice, those of its words from one on, so that these need not be read again, of
+    /// which the last `free` are still to be written. These stand before the others, as `turned_by`
+    /// has them. Where `free` is 0 there are none, and the word is past all words.
     window: u64,
     word: usize,
     free: usize,
-    /// The place in the words behind those bits that are free.
-    until: usize,
+    /// How many bits of the slice are behind those that are free.
+    left: usize,
 }
 
-/// Puts digits, their number before them, from a place on, which end before that of an end. Returns 64
-/// bits of words, from that of the last of them on, this word, and how many of these bits are behind
-/// them: 0 where that is so or the words have not that many before the end. (What a writer holds is not
-/// lent, so that it can stay in registers.)
+/// Puts digits, their number before them, from a place on, which end before that of an end. Returns the
+/// window behind them, the word that it begins with, and how many of its bits are free: 0 where the
+/// words have not 64 before the end. (What a writer holds is not lent, so that it can stay in
+/// registers.)
 #[inline(never)]
 fn begun<T: Register, O: Order>(
     words: &mut [T],
@@ -55,19 +56,47 @@ fn begun<T: Register, O: Order>(
     (count, digits): (usize, u64),
 ) -> (u64, usize, usize) {
     granted(T::store(O::CODE, O::BIG, words, place, count, digits));
-    let behind = place + count;
-    let word = (behind - 1) / T::BITS;
-    let until = word * T::BITS + 64;
+    let (word, into) = ((place + count) / T::BITS, (place + count) % T::BITS);
     match T::joined(words, word, O::BIG) {
-        Some(window) if until <= end => (window, word, until - behind),
-        _ => (0, word, 0),
+        Some(window) if word * T::BITS + 64 <= end => {
+            (turned_by::<O>(window, into), word, 64 - into)
+        }
+        _ => (0, usize::MAX, 0),
     }
 }
 
-/// The digits of a window whose last bits, fewer than 64, are free: one where they are.
+/// 64 bits, of which the first `count` stand behind the others.
 #[inline]
-fn free_digits<O: Order>(free: usize) -> u64 {
-    if O::BIG { !(!0 << free) } else { !(!0 >> free) }
+#[allow(clippy::cast_possible_truncation)] // (by 64 bits is by none)
+fn turned_by<O: Order>(window: u64, count: usize) -> u64 {
+    if O::BIG {
+        window.rotate_left(count as u32)
+    } else {
+        window.rotate_right(count as u32)
+    }
+}
+
+/// 64 bits without the first, fewer than 64, and as many digits behind the others.
+#[inline]
+#[allow(clippy::cast_possible_truncation)] // (no digits are none, wherever they stand)
+fn passed_on<O: Order>(window: u64, count: usize, digits: u64) -> u64 {
+    let count = count as u32;
+    if O::BIG {
+        window.wrapping_shl(count) | digits
+    } else {
+        window.wrapping_shr(count) | digits.wrapping_shl(64 - count)
+    }
+}
+
+/// Digits, at most 64, as they stand in 64 bits behind others, where the first is the highest or not.
+#[inline]
+#[allow(clippy::cast_possible_truncation)] // (of no digits all are zero)
+fn in_order<O: Order>(digits: u64, big: bool, count: usize) -> u64 {
+    if O::BIG == big {
+        digits
+    } else {
+        digits.reverse_bits().wrapping_shr(64 - count as u32)
+    }
 }
 
 /// A [`BitWriter`] that holds up to 64 bits back: what [`BitWriter::held`] returns.
@@ -94,10 +123,10 @@ fn free_digits<O: Order>(free: usize) -> u64 {
 /// ```
 #[derive(Debug)]
 pub struct HeldWriter<'w, T: Register, O: Order> {
-    /// Of its window the digits that are free are zero: these bits are in the words alone.
+    /// What is written of its window is not in the words yet.
     own: BitWriter<'w, T, O>,
-    /// Where the writer stands behind this one.
-    until: &'w mut usize,
+    /// How many bits are left behind what was written.
+    left: &'w mut usize,
 }
 
 impl<T: Register, O: Order> HeldWriter<'_, T, O> {
@@ -206,14 +235,8 @@ impl<T: Register, O: Order> Drop for HeldWriter<'_, T, O> {
     /// Puts what is held in the words, whose bits behind it stay.
     #[inline]
     fn drop(&mut self) {
-        let BitWriter {
-            window, word, free, ..
-        } = self.own;
-        if free > 0 {
-            let new = |bits| bits & free_digits::<O>(free) | window;
-            T::rejoin(self.own.bits.place_mut().0, word, O::BIG, new);
-        }
-        *self.until = self.own.until - free;
+        self.own.put_window();
+        *self.left = self.own.remaining();
     }
 }
 
@@ -232,10 +255,10 @@ impl<'a, T: Register, O: Order> BitWriter<'a, T, O> {
     #[must_use]
     pub fn new(bits: BitSliceMut<'a, T, O>) -> Self {
         Self {
-            until: bits.as_bitslice().place().1,
+            left: bits.len(),
             bits,
             window: 0,
-            word: 0,
+            word: usize::MAX,
             free: 0,
         }
     }
@@ -256,7 +279,7 @@ impl<'a, T: Register, O: Order> BitWriter<'a, T, O> {
     #[inline]
     #[must_use]
     pub fn position(&self) -> usize {
-        self.until - self.free - self.bits.as_bitslice().place().1
+        self.bits.len() - self.remaining()
     }
 
     /// For how many bits there is room. Constant time.
@@ -272,7 +295,7 @@ impl<'a, T: Register, O: Order> BitWriter<'a, T, O> {
     #[inline]
     #[must_use]
     pub fn remaining(&self) -> usize {
-        self.bits.len() - self.position()
+        self.free + self.left
     }
 
     /// What was written or passed over, for reading. Constant time.
@@ -337,9 +360,9 @@ impl<'a, T: Register, O: Order> BitWriter<'a, T, O> {
     pub fn held(&mut self) -> HeldWriter<'_, T, O> {
         self.stand_at(self.position());
         let mut own = BitWriter::new(self.bits.lend());
-        own.until = self.until;
-        let until = &mut self.until;
-        HeldWriter { own, until }
+        own.left = self.left;
+        let left = &mut self.left;
+        HeldWriter { own, left }
     }
 
     /// Has a call of the library write from the place on, which it moves.
@@ -359,7 +382,8 @@ impl<'a, T: Register, O: Order> BitWriter<'a, T, O> {
     /// Stands at an index. No bits are known there.
     #[inline]
     fn stand_at(&mut self, index: usize) {
-        (self.until, self.free) = (self.bits.place_mut().1 + index, 0);
+        self.left = self.bits.len() - index;
+        (self.word, self.free) = (usize::MAX, 0);
     }
 
     /// Passes over `count` bits, which stay as they are. Constant time.
@@ -386,7 +410,8 @@ impl<'a, T: Register, O: Order> BitWriter<'a, T, O> {
         if count > self.remaining() {
             return Err(Refusal::TooFew);
         }
-        if count <= self.free {
+        if count < self.free {
+            self.window = turned_by::<O>(self.window, count);
             self.free -= count;
         } else {
             self.stand_at(self.position() + count);
@@ -597,36 +622,26 @@ impl<'a, T: Register, O: Order> BitWriter<'a, T, O> {
         count: usize,
         number: N,
     ) -> Result<(), Refusal> {
-        let turned = |digits: u64| {
-            if O::BIG == big {
-                digits
-            } else {
-                digits.reverse_bits() >> (64 - count)
-            }
-        };
-        // (some, and fewer than 64 are free: no number of 64 bits wants a second test)
-        if count.wrapping_sub(1) < self.free && (N::WIDTH == 64 || count <= N::WIDTH) {
-            let digits = turned(number.digits(count).ok_or(Refusal::TooLarge)?);
-            let up = if O::BIG {
-                self.free - count
-            } else {
-                64 - self.free
-            };
-            if !HOLDS {
-                self.window &= !(!(!0 << count) << up);
-            }
-            self.window |= digits << up;
+        // (the window has more room, so that these are fewer than 64)
+        if count < self.free && (N::WIDTH == 64 || count <= N::WIDTH) {
+            let digits = number.few_digits(count).ok_or(Refusal::TooLarge)?;
+            self.window = passed_on::<O>(self.window, count, in_order::<O>(digits, big, count));
             self.free -= count;
-            if !HOLDS || self.free == 0 {
+            if !HOLDS {
                 self.put_window();
             }
             return Ok(());
         }
-        let are_behind = |it: &Self| it.bits.end() - it.until >= 64;
-        if HOLDS && self.free > 0 && count.wrapping_sub(1) < N::WIDTH.min(63) && are_behind(self) {
-            let digits = turned(number.digits(count).ok_or(Refusal::TooLarge)?);
-            self.pass_on(count, digits);
-            return Ok(());
+        if count.wrapping_sub(1) < N::WIDTH.min(63) {
+            let Some(digits) = number.few_digits(count) else {
+                return Err(self.too_large(count));
+            };
+            if self
+                .pass_on::<HOLDS>(count, in_order::<O>(digits, big, count))
+                .is_some()
+            {
+                return Ok(());
+            }
         }
         if count > N::WIDTH {
             return Err(Refusal::TooWide);
@@ -635,89 +650,66 @@ impl<'a, T: Register, O: Order> BitWriter<'a, T, O> {
             return Err(Refusal::TooFew);
         }
         let digits = number.digits(count).ok_or(Refusal::TooLarge)?;
-        if count == 0 {
-            return Ok(());
-        }
-        if self.free > 0 {
-            self.cross(count, turned(digits));
-        } else {
-            self.begin(count, turned(digits));
-        }
         if HOLDS {
-            self.window &= !free_digits::<O>(self.free);
+            self.put_window();
+        }
+        if count > 0 {
+            self.begin(count, in_order::<O>(digits, big, count));
         }
         Ok(())
     }
 
-    /// As `cross` of fewer than 64 bits where what is free of the window is zero, and 64 bits are
-    /// behind it, which a window of the rest alone then stands for.
+    /// Why a number is refused that has more than `count` digits.
     #[inline]
-    fn pass_on(&mut self, count: usize, digits: u64) {
-        let (free, rest) = (self.free, count - self.free);
-        let (last, first) = if O::BIG {
-            (digits >> rest, digits << (64 - rest))
+    fn too_large(&self, count: usize) -> Refusal {
+        if count > self.remaining() {
+            Refusal::TooFew
         } else {
-            (digits << (64 - free), digits >> free)
-        };
-        self.window |= last;
-        self.put_window();
-        (self.window, self.free) = (first, 64 - rest);
-        self.word += 64 / T::BITS;
-        self.until += 64;
+            Refusal::TooLarge
+        }
     }
 
-    /// Puts the window in place of the 64 bits that it stands for, where there are any.
+    /// Puts digits, the first by the order, fewer than 64, in the bits of the window that are free, at
+    /// most as many, and in the next window, which then is this one: where there is one.
+    #[inline]
+    #[allow(clippy::cast_possible_truncation)] // (of a place in a window)
+    fn pass_on<const HOLDS: bool>(&mut self, count: usize, digits: u64) -> Option<()> {
+        if self.left < 64 {
+            return None;
+        }
+        let (free, rest) = (self.free, count - self.free);
+        let (full, digits) = if O::BIG {
+            (self.window << free | digits >> rest, digits & !(!0 << rest))
+        } else {
+            let last = digits.wrapping_shl(64 - free as u32);
+            (self.window >> free | last, digits >> free)
+        };
+        let next = T::put_before(self.bits.place_mut().0, self.word, O::BIG, full)?;
+        self.window = passed_on::<O>(next, rest, digits);
+        self.word += 64 / T::BITS;
+        self.left -= 64;
+        self.free = 64 - rest;
+        if !HOLDS {
+            self.put_window();
+        }
+        Some(())
+    }
+
+    /// Puts the window in place of the bits that it stands for, where there are any.
     #[inline]
     fn put_window(&mut self) {
-        T::rejoin(self.bits.place_mut().0, self.word, O::BIG, |_| self.window);
+        let window = turned_by::<O>(self.window, self.free);
+        T::put(self.bits.place_mut().0, self.word, O::BIG, window);
     }
 
-    /// Puts digits, the first by the order, in the bits of the window that are free and, since these
-    /// are fewer, in those behind it, which are there.
-    #[inline]
-    fn cross(&mut self, count: usize, digits: u64) {
-        let (free, rest) = (self.free, count - self.free);
-        let (first, behind) = if O::BIG {
-            (
-                self.window & !0 << free | digits >> rest,
-                digits << (64 - rest),
-            )
-        } else {
-            (
-                self.window & !(!0 << (64 - free)) | digits << (64 - free),
-                digits >> free,
-            )
-        };
-        let len = self.bits.len();
-        let (words, start) = self.bits.place_mut();
-        T::rejoin(words, self.word, O::BIG, |_| first);
-        let word = self.word + 64 / T::BITS;
-        if start + len - self.until >= 64 {
-            let kept = if O::BIG { !0 >> rest } else { !0 << rest };
-            let new = |window| window & kept | behind;
-            if let Some(window) = T::rejoin(words, word, O::BIG, new) {
-                (self.window, self.word, self.free) = (window, word, 64 - rest);
-                self.until += 64;
-                return;
-            }
-        }
-        let behind = if O::BIG {
-            behind >> (64 - rest)
-        } else {
-            behind
-        };
-        self.free = 0;
-        self.begin(rest, behind);
-    }
-
-    /// Puts digits, the first by the order, in the next bits, which are there. None of them is free.
+    /// Puts digits, the first by the order, in the next bits, which are there.
     #[inline]
     fn begin(&mut self, count: usize, digits: u64) {
-        let (place, len) = (self.until, self.bits.len());
+        let (position, len) = (self.position(), self.bits.len());
         let (words, start) = self.bits.place_mut();
-        let end = start + len;
+        let (place, end) = (start + position, start + len);
         (self.window, self.word, self.free) = begun::<T, O>(words, place, end, (count, digits));
-        self.until += count + self.free;
+        self.left = len - position - count - self.free;
     }
 
     /// Writes `count` bits that are `bit`, and one that is not. Costs by words.
