@@ -31,12 +31,47 @@ use crate::slice::{BitSlice, granted, to_boundary};
 #[derive(Clone, Debug)]
 pub struct BitReader<'a, T: Register, O: Order> {
     bits: BitSlice<'a, T, O>,
-    /// How many of the bits were read, passed over, or are in the window.
-    taken: usize,
-    /// The last of these, which are not read yet, fewer than 64: the first is the highest digit
-    /// where the order is `BIG`, and the lowest else. The other digits are zero.
+    at: At<'a, T>,
+}
+
+/// Where a reader stands. (It is handed on by value, so that it can stay in registers.)
+#[derive(Clone, Copy, Debug)]
+struct At<'a, T> {
+    /// The words behind the bits that were read, passed over, or are in the window: those that the
+    /// slice has whole, and none where one of them begins among these bits. The index behind them.
+    words: &'a [T],
+    until: usize,
+    /// The last of the bits before them, which are not read yet, fewer than 64: the first is the
+    /// highest digit where the order is `BIG`, and the lowest else. The other digits are zero.
     window: u64,
     held: usize,
+}
+
+impl<'a, T: Register> At<'a, T> {
+    /// At an index, with nothing in the window.
+    #[inline]
+    fn index<O: Order>(bits: &BitSlice<'a, T, O>, index: usize) -> Self {
+        let (words, start) = bits.place();
+        let place = start + index;
+        let words = if place.is_multiple_of(T::BITS) {
+            let whole = place / T::BITS..(start + bits.len()) / T::BITS;
+            words.get(whole).unwrap_or_default()
+        } else {
+            &[]
+        };
+        Self {
+            words,
+            until: index + words.len() * T::BITS,
+            window: 0,
+            held: 0,
+        }
+    }
+
+    /// The index behind the window.
+    #[inline]
+    fn behind(&self) -> usize {
+        self.until - self.words.len() * T::BITS
+    }
 }
 
 /// `count` bits from a place on, at most 64, as the window of a reader has them.
@@ -50,95 +85,82 @@ fn bits_at<T: Register, O: Order>(words: &[T], place: usize, count: usize) -> u6
     }
 }
 
-/// The 64 bits from a place on, of those that are left, where these are whole words.
-#[inline]
-fn whole_at<T: Register, O: Order>(words: &[T], place: usize, left: usize) -> Option<u64> {
-    if left < 64 || !place.is_multiple_of(T::BITS) {
-        return None;
-    }
-    T::joined(words, place / T::BITS, O::BIG)
-}
-
-/// `count` bits from a place on at least, and how many they are; `None` where fewer are left.
-#[inline(never)]
-fn some_at<T: Register, O: Order>(
-    words: &[T],
-    place: usize,
-    left: usize,
+/// The bits behind a window, 64 of them where whole words have them: else `lacking` at least, and up
+/// to where whole words begin, if that is not too far. How many they are, and where a reader stands
+/// behind them. `None` where fewer are left.
+fn more<'a, T: Register, O: Order>(
+    bits: &BitSlice<'a, T, O>,
+    at: &At<'a, T>,
     lacking: usize,
-) -> Option<(u64, usize)> {
-    if let Some(digits) = whole_at::<T, O>(words, place, left) {
-        return Some((digits, 64));
-    }
+) -> Option<(u64, usize, At<'a, T>)> {
+    let ((words, start), index) = (bits.place(), at.behind());
+    let left = bits.len() - index;
     if lacking > left {
         return None;
     }
-    // (up to where whole words begin, if that is far enough)
-    let mut more = to_boundary(place, left);
-    if more < lacking {
-        more = left.min(64);
+    let mut count = to_boundary(start + index, left);
+    if count < lacking || at.words.len() * T::BITS >= 64 {
+        count = left.min(64);
     }
-    Some((bits_at::<T, O>(words, place, more), more))
+    let digits = bits_at::<T, O>(words, start + index, count);
+    Some((digits, count, At::index(bits, index + count)))
 }
 
-/// The same, with no call where they are read at once.
-#[inline]
-fn next_bits<T: Register, O: Order>(
-    words: &[T],
-    place: usize,
-    left: usize,
-    lacking: usize,
-) -> Option<(u64, usize)> {
-    if T::BITS == 64 || T::BITS == 8 {
-        if let Some(digits) = whole_at::<T, O>(words, place, left) {
-            return Some((digits, 64));
-        }
-    }
-    some_at::<T, O>(words, place, left, lacking)
-}
-
-/// A window of `count` bits at least, which begins with those that are held, and how many of those
-/// behind them a reader keeps: fewer than 64 with these, up to where a word ends where that is
-/// enough, so that whole words come next. `None` where they end.
-#[inline(never)]
-fn ahead<T: Register, O: Order>(
-    words: &[T],
-    place: usize,
-    left: usize,
-    (window, held): (u64, usize),
-    count: usize,
-) -> Option<(u64, usize)> {
-    let (next, more) = next_bits::<T, O>(words, place, left, count - held)?;
-    let window = window | if O::BIG { next >> held } else { next << held };
-    let (most, into) = (63 - held, place % T::BITS);
-    let whole = ((into + most) / T::BITS * T::BITS).saturating_sub(into);
-    let kept = if held + whole < count { most } else { whole };
-    Some((window, kept.min(more)))
-}
-
-/// What a reader does for a number of no bits or of 64: a window of these, how many bits were taken,
-/// and the window and the bits of it that are left. `None` where they end.
+/// The digits of the next bits, at most 64, where these are not all in the window, and where a reader
+/// stands behind them.
 #[cold]
 #[inline(never)]
-fn none_or_64<T: Register, O: Order>(
-    words: &[T],
-    place: usize,
-    left: usize,
-    (window, held): (u64, usize),
+fn read_on<'a, T: Register, O: Order>(
+    bits: BitSlice<'a, T, O>,
+    at: At<'a, T>,
+    big: bool,
     count: usize,
-) -> Option<(u64, usize, (u64, usize))> {
-    if count == 0 {
-        return Some((0, 0, (window, held)));
+) -> Option<(u64, At<'a, T>)> {
+    let mut reader = BitReader { bits, at };
+    if count > reader.remaining() {
+        return None;
     }
-    let lacking = 64 - held;
-    let (next, more) = next_bits::<T, O>(words, place, left, lacking)?;
-    let window = window | behind_held::<O>(next, held);
-    let behind = if lacking == 64 {
-        0
+    if count == 0 {
+        return Some((0, at));
+    }
+    if count == 64 {
+        let first = reader.number::<u32>(big, 32).ok()?;
+        let last = reader.number::<u32>(big, 32).ok()?;
+        let (high, low) = if big { (first, last) } else { (last, first) };
+        return Some((u64::from(high) << 32 | u64::from(low), reader.at));
+    }
+    let lacking = count - at.held;
+    let (next, taken, mut behind_it) = more(&bits, &at, lacking)?;
+    let window = at.window | behind_held::<O>(next, at.held);
+    behind_it.window = behind::<O>(next, lacking);
+    behind_it.held = taken - lacking;
+    Some((few_digits_of::<O>(window, big, count), behind_it))
+}
+
+/// A window of `count` bits at least, which begins with those that are held, fewer, and the place of a
+/// reader that holds of those behind them as many as it can, fewer than 64 with these: up to where a
+/// word ends where that is enough, so that whole words come next. `None` where the bits end.
+#[inline(never)]
+fn peeked<'a, T: Register, O: Order>(
+    bits: BitSlice<'a, T, O>,
+    at: At<'a, T>,
+    count: usize,
+) -> Option<(u64, At<'a, T>)> {
+    let (held, index) = (at.held, at.behind());
+    let (next, taken, _) = more(&bits, &at, count - held)?;
+    let window = at.window | behind_held::<O>(next, held);
+    let (most, into) = (63 - held, (bits.place().1 + index) % T::BITS);
+    let whole = ((into + most) / T::BITS * T::BITS).saturating_sub(into);
+    let kept = if held + whole < count { most } else { whole };
+    let kept = kept.min(taken);
+    let mut at = At::index(&bits, index + kept);
+    at.held = held + kept;
+    at.window = if O::BIG {
+        window & !(!0 >> at.held)
     } else {
-        behind::<O>(next, lacking)
+        window & !(!0 << at.held)
     };
-    Some((window, more, (behind, more - lacking)))
+    Some((window, at))
 }
 
 /// The first bits of a window, at most 64, as a number has their digits.
@@ -201,12 +223,8 @@ impl<'a, T: Register, O: Order> BitReader<'a, T, O> {
     #[inline]
     #[must_use]
     pub fn new(bits: BitSlice<'a, T, O>) -> Self {
-        Self {
-            bits,
-            taken: 0,
-            window: 0,
-            held: 0,
-        }
+        let at = At::index(&bits, 0);
+        Self { bits, at }
     }
 
     /// How many bits were read or passed over. Constant time.
@@ -225,7 +243,7 @@ impl<'a, T: Register, O: Order> BitReader<'a, T, O> {
     #[inline]
     #[must_use]
     pub fn position(&self) -> usize {
-        self.taken - self.held
+        self.at.behind() - self.at.held
     }
 
     /// How many bits are left. Constant time.
@@ -278,12 +296,11 @@ impl<'a, T: Register, O: Order> BitReader<'a, T, O> {
     /// Moves the place behind `count` of the bits that are left.
     #[inline]
     fn pass(&mut self, count: usize) {
-        if count <= self.held {
-            self.held -= count;
-            self.window = behind::<O>(self.window, count);
+        if count <= self.at.held {
+            self.at.held -= count;
+            self.at.window = behind::<O>(self.at.window, count);
         } else {
-            self.taken += count - self.held;
-            (self.window, self.held) = (0, 0);
+            self.at = At::index(&self.bits, self.position() + count);
         }
     }
 
@@ -292,33 +309,36 @@ impl<'a, T: Register, O: Order> BitReader<'a, T, O> {
     #[inline(always)]
     #[allow(clippy::inline_always)]
     fn number<N: Number>(&mut self, big: bool, count: usize) -> Result<N, Refusal> {
-        // (some, and fewer than 64 are held: no number of 64 bits wants a second test)
-        if count.wrapping_sub(1) < self.held && (N::WIDTH == 64 || count <= N::WIDTH) {
-            let window = self.window;
-            self.window = behind::<O>(window, count);
-            self.held -= count;
-            return Ok(N::of_digits(few_digits_of::<O>(window, big, count), count));
+        let At { window, held, .. } = self.at;
+        // (fewer than 64 are held, so that no number of 64 bits wants a second test)
+        let are_held = if big {
+            count.wrapping_sub(1) < held
+        } else {
+            count <= held
+        };
+        if are_held && (N::WIDTH == 64 || count <= N::WIDTH) {
+            let digits = few_digits_of::<O>(window, big, count);
+            self.at.window = behind::<O>(window, count);
+            self.at.held = held - count;
+            return Ok(N::of_digits(digits, count));
+        }
+        if count.wrapping_sub(1) < N::WIDTH.min(63) {
+            if let Some((next, words)) = T::split_joined(self.at.words, O::BIG) {
+                let (lacking, window) = (count - held, window | behind_held::<O>(next, held));
+                self.at.window = behind::<O>(next, lacking);
+                self.at.held = 64 - lacking;
+                self.at.words = words;
+                return Ok(N::of_digits(few_digits_of::<O>(window, big, count), count));
+            }
         }
         if count > N::WIDTH {
             return Err(Refusal::TooWide);
         }
-        let (words, start) = self.bits.place();
-        let (place, left) = (start + self.taken, self.bits.len() - self.taken);
-        let had = (self.window, self.held);
-        if count.is_multiple_of(64) {
-            let found = none_or_64::<T, O>(words, place, left, had, count);
-            let (window, more, behind) = found.ok_or(Refusal::TooFew)?;
-            (self.window, self.held) = behind;
-            self.taken += more;
-            return Ok(N::of_digits(digits_of::<O>(window, big, count), count));
-        }
-        let lacking = count - self.held;
-        let found = next_bits::<T, O>(words, place, left, lacking);
-        let (next, more) = found.ok_or(Refusal::TooFew)?;
-        let window = self.window | behind_held::<O>(next, self.held);
-        (self.window, self.held) = (behind::<O>(next, lacking), more - lacking);
-        self.taken += more;
-        Ok(N::of_digits(few_digits_of::<O>(window, big, count), count))
+        let Some((digits, at)) = read_on(self.bits, self.at, big, count) else {
+            return Err(Refusal::TooFew);
+        };
+        self.at = at;
+        Ok(N::of_digits(digits, count))
     }
 
     /// Passes over `count` bits. Constant time.
@@ -490,19 +510,12 @@ impl<'a, T: Register, O: Order> BitReader<'a, T, O> {
         if count > N::WIDTH {
             return Err(Refusal::TooWide);
         }
-        let mut window = self.window;
-        if count > self.held {
-            let ((words, start), had) = (self.bits.place(), (window, self.held));
-            let left = self.bits.len() - self.taken;
-            let more = ahead::<T, O>(words, start + self.taken, left, had, count);
-            let (whole, kept) = more.ok_or(Refusal::TooFew)?;
-            (window, self.held) = (whole, self.held + kept);
-            self.taken += kept;
-            self.window = if O::BIG {
-                whole & !(!0 >> self.held)
-            } else {
-                whole & !(!0 << self.held)
+        let mut window = self.at.window;
+        if count > self.at.held {
+            let Some((found, at)) = peeked(self.bits, self.at, count) else {
+                return Err(Refusal::TooFew);
             };
+            (window, self.at) = (found, at);
         }
         let digits = digits_of::<O>(window, O::BIG, count);
         Ok(N::of_digits(digits, count))
@@ -577,13 +590,14 @@ impl<'a, T: Register, O: Order> BitReader<'a, T, O> {
     /// ```
     #[inline]
     pub fn read_unary(&mut self, bit: bool) -> Result<usize, Refusal> {
-        let zeros = if bit { !self.window } else { self.window };
+        let At { window, held, .. } = self.at;
+        let zeros = if bit { !window } else { window };
         let run = if O::BIG {
             zeros.leading_zeros()
         } else {
             zeros.trailing_zeros()
         } as usize;
-        if run < self.held {
+        if run < held {
             self.pass(run + 1);
             return Ok(run);
         }
