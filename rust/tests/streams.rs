@@ -3,7 +3,7 @@
 
 mod common;
 
-use common::{CASES, Random, for_all_memories};
+use common::{CASES, Random, for_all_edges, for_all_memories};
 use worghulen::{BitReader, BitView, BitWriter, Lsb0, Msb0, Refusal};
 
 for_all_memories!(numbers_are_read, 41);
@@ -14,6 +14,9 @@ for_all_memories!(runs_and_codes_are_written, 45);
 for_all_memories!(bits_and_slices_are_written, 46);
 for_all_memories!(reads_take_turns, 47);
 for_all_memories!(writes_take_turns, 48);
+for_all_edges!(rows_are_read, 49);
+for_all_edges!(rows_are_written, 50);
+for_all_edges!(rows_are_held, 51);
 
 mod cases {
     use crate::common::{Layout, Random, Word, bits_of, checked, with_any_other};
@@ -273,6 +276,57 @@ mod cases {
         assert_eq!(reader.rest().iter().collect::<Vec<_>>(), model[place..]);
     }
 
+    /// Words that have a range, and at most two that have none of it behind them; and all bits.
+    fn words_around<T: Word, O: Layout>(
+        random: &mut Random,
+        range: &Range<usize>,
+    ) -> (Vec<T>, Vec<bool>) {
+        let count = range.end.div_ceil(T::BITS) + random.below(3);
+        let words: Vec<T> = (0..count).map(|_| T::of(random.number())).collect();
+        let bits = bits_of::<T, O>(&words);
+        (words, bits)
+    }
+
+    /// How many bits the numbers of a row have: most of them as many.
+    fn widths(random: &mut Random) -> impl FnMut(&mut Random) -> usize + use<> {
+        let width = 1 + random.below(64);
+        move |random| {
+            if random.one_in(8) {
+                random.below(65)
+            } else {
+                width
+            }
+        }
+    }
+
+    pub fn rows_are_read<T: Word, O: Layout>(random: &mut Random, range: Range<usize>) {
+        let (words, bits) = words_around::<T, O>(random, &range);
+        let model = &bits[range.clone()];
+        let mut reader = BitReader::new(BitSlice::<T, O>::new(&words, range).unwrap());
+        let (mut width, is_msb0, mut place) = (widths(random), O::digit(0, 8) == 7, 0);
+        loop {
+            let (count, big) = (width(random), random.bit());
+            let list = model.get(place..place + count).ok_or(Refusal::TooFew);
+            if random.one_in(4) {
+                let expected = list.map(|list| number_of::<u64>(list, is_msb0));
+                assert_eq!(reader.peek::<u64>(count), expected);
+            }
+            let expected = list.map(|list| number_of::<u64>(list, big));
+            let answer = if big {
+                reader.read_be::<u64>(count)
+            } else {
+                reader.read_le::<u64>(count)
+            };
+            assert_eq!(answer, expected);
+            if answer.is_err() {
+                break;
+            }
+            place += count;
+            assert_eq!(reader.position(), place);
+        }
+        assert_eq!(reader.rest().iter().collect::<Vec<_>>(), model[place..]);
+    }
+
     /// A number of any count of digits.
     fn any_number<N: Plain>(random: &mut Random) -> N {
         let digits = random.below(N::DIGITS + 1);
@@ -481,6 +535,55 @@ mod cases {
             Err(Refusal::TooLarge)
         };
         assert_eq!(writer.put(big, count, number), expected);
+    }
+
+    /// A write of a number of so many digits; whether there was room for it.
+    fn puts_any(
+        random: &mut Random,
+        writer: &mut impl Writes,
+        target: &mut Target,
+        count: usize,
+    ) -> bool {
+        let (list, big): (Vec<_>, _) = ((0..count).map(|_| random.bit()).collect(), random.bit());
+        let answer = writer.put::<u64>(big, count, number_of(&list, big));
+        assert_eq!(answer, target.put(&list));
+        answer.is_ok()
+    }
+
+    pub fn rows_are_written<T: Word, O: Layout>(random: &mut Random, range: Range<usize>) {
+        let (mut words, bits) = words_around::<T, O>(random, &range);
+        let slice = BitSliceMut::<T, O>::new(&mut words, range.clone()).unwrap();
+        let (mut writer, len) = (BitWriter::new(slice), 0);
+        let mut target = Target { bits, range, len };
+        let mut width = widths(random);
+        loop {
+            let count = width(random);
+            let is_written = puts_any(random, &mut writer, &mut target, count);
+            target.check(&writer);
+            if !is_written {
+                break;
+            }
+        }
+        assert_eq!(bits_of::<T, O>(&words), target.bits);
+    }
+
+    pub fn rows_are_held<T: Word, O: Layout>(random: &mut Random, range: Range<usize>) {
+        let (mut words, bits) = words_around::<T, O>(random, &range);
+        let slice = BitSliceMut::<T, O>::new(&mut words, range.clone()).unwrap();
+        let (mut writer, len) = (BitWriter::new(slice), 0);
+        let mut target = Target { bits, range, len };
+        let (mut width, mut is_written) = (widths(random), true);
+        while is_written {
+            let mut held = writer.held();
+            for _ in 0..=random.below(40) {
+                let count = width(random);
+                is_written &= puts_any(random, &mut held, &mut target, count);
+                assert_eq!(held.remaining(), target.left().len());
+            }
+            drop(held);
+            target.check(&writer);
+        }
+        assert_eq!(bits_of::<T, O>(&words), target.bits);
     }
 
     /// Writes of numbers that are held back.

@@ -214,6 +214,26 @@ macro_rules! for_all_memories {
     };
 }
 
+/// A test that asks a case of each word and order, from each bit of a word on and of each length of at
+/// most 200 bits.
+macro_rules! for_all_edges {
+    ($test:ident, $seed:literal) => {
+        #[test]
+        fn $test() {
+            let mut random = Random::new($seed);
+            for_all_edges!($test, random: u8 u16 u32 u64 usize);
+        }
+    };
+    ($test:ident, $random:ident: $($t:ident)*) => { $(
+        for start in 0..$t::BITS as usize {
+            for len in 0..=200 {
+                cases::$test::<$t, Lsb0>(&mut $random, start..start + len);
+                cases::$test::<$t, Msb0>(&mut $random, start..start + len);
+            }
+        }
+    )* };
+}
+
 /// Calls a function that is generic over two words and two orders, of which the second two are any of
 /// seven pairs: the first two themselves, which have calls of their own, and others.
 macro_rules! with_any_other {
@@ -230,4 +250,4 @@ macro_rules! with_any_other {
     };
 }
 
-pub(crate) use {for_all_memories, with_any_other};
+pub(crate) use {for_all_edges, for_all_memories, with_any_other};
