@@ -324,6 +324,43 @@ fn a_vector_is_a_list<T: Word, O: Layout>(random: &mut Random) {
     assert!(back.iter().rev().eq(model.iter()));
 }
 
+/// Bits behind the last, one by one up to 200, and away again.
+fn ends_move<T: Word, O: Layout>(random: &mut Random) {
+    let (mut bits, mut model) = (BitVec::<T, O>::new(), Vec::new());
+    assert_eq!(bits.pop(), None);
+    let is_as = |bits: &BitVec<T, O>, model: &[bool]| {
+        assert_eq!(bits, model);
+        assert_eq!(bits.as_raw_slice().len(), model.len().div_ceil(T::BITS));
+    };
+    for _ in 0..200 {
+        let (last, other) = (random.bit(), random.bit());
+        bits.push(!last);
+        assert_eq!(bits.pop(), Some(!last));
+        is_as(&bits, &model);
+        bits.push(last);
+        bits.try_push(other).unwrap();
+        assert_eq!(bits.pop(), Some(other));
+        model.push(last);
+        is_as(&bits, &model);
+    }
+    while let Some(bit) = model.pop() {
+        assert_eq!(bits.pop(), Some(bit));
+        is_as(&bits, &model);
+    }
+    assert_eq!(bits.pop(), None);
+}
+
+#[test]
+fn bits_are_pushed_and_popped_at_each_length() {
+    macro_rules! of_words {
+        ($($word:ident)*) => { $(
+            ends_move::<$word, Lsb0>(&mut Random::new(308));
+            ends_move::<$word, Msb0>(&mut Random::new(309));
+        )* };
+    }
+    of_words!(u8 u16 u32 u64 usize);
+}
+
 macro_rules! vectors {
     ($($name:ident: $seed:literal, $word:ident, $order:ident;)*) => { $(
         #[test]
