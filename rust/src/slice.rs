@@ -196,6 +196,18 @@ impl<'a, T: Register, O: Order> BitSlice<'a, T, O> {
         (self.words, self.start)
     }
 
+    /// The words that it has whole from an index on, at most its length, where one begins there, and
+    /// else none.
+    #[inline]
+    pub(crate) fn whole_from(&self, index: usize) -> &'a [T] {
+        let (place, end) = (self.start + index, self.start + self.len);
+        if !place.is_multiple_of(T::BITS) {
+            return &[];
+        }
+        let whole = self.words.get(place / T::BITS..end / T::BITS);
+        whole.unwrap_or_default()
+    }
+
     /// The words, by their width.
     #[inline]
     pub(crate) fn seen(&self) -> Words<'a> {

@@ -51,14 +51,7 @@ impl<'a, T: Register> At<'a, T> {
     /// At an index, with nothing in the window.
     #[inline]
     fn index<O: Order>(bits: &BitSlice<'a, T, O>, index: usize) -> Self {
-        let (words, start) = bits.place();
-        let place = start + index;
-        let words = if place.is_multiple_of(T::BITS) {
-            let whole = place / T::BITS..(start + bits.len()) / T::BITS;
-            words.get(whole).unwrap_or_default()
-        } else {
-            &[]
-        };
+        let words = bits.whole_from(index);
         Self {
             words,
             until: index + words.len() * T::BITS,
@@ -88,53 +81,54 @@ fn bits_at<T: Register, O: Order>(words: &[T], place: usize, count: usize) -> u6
 /// The bits behind a window, 64 of them where whole words have them: else `lacking` at least, and up
 /// to where whole words begin, if that is not too far. How many they are, and where a reader stands
 /// behind them. `None` where fewer are left.
+#[inline(always)]
+#[allow(clippy::inline_always)] // (what it returns would pass by memory)
 fn more<'a, T: Register, O: Order>(
     bits: &BitSlice<'a, T, O>,
     at: &At<'a, T>,
     lacking: usize,
 ) -> Option<(u64, usize, At<'a, T>)> {
     let ((words, start), index) = (bits.place(), at.behind());
+    if let Some((digits, _)) = T::split_joined(at.words, O::BIG) {
+        return Some((digits, 64, At::index(bits, index + 64)));
+    }
     let left = bits.len() - index;
     if lacking > left {
         return None;
     }
     let mut count = to_boundary(start + index, left);
-    if count < lacking || at.words.len() * T::BITS >= 64 {
+    if count < lacking {
         count = left.min(64);
     }
     let digits = bits_at::<T, O>(words, start + index, count);
     Some((digits, count, At::index(bits, index + count)))
 }
 
-/// The digits of the next bits, at most 64, where these are not all in the window, and where a reader
-/// stands behind them.
+/// A window of the next bits, at most 64 and more than are held, or none; and where a reader stands
+/// behind these. `None` where fewer are left.
 #[cold]
 #[inline(never)]
 fn read_on<'a, T: Register, O: Order>(
     bits: BitSlice<'a, T, O>,
     at: At<'a, T>,
-    big: bool,
     count: usize,
 ) -> Option<(u64, At<'a, T>)> {
-    let mut reader = BitReader { bits, at };
-    if count > reader.remaining() {
-        return None;
-    }
     if count == 0 {
         return Some((0, at));
     }
-    if count == 64 {
-        let first = reader.number::<u32>(big, 32).ok()?;
-        let last = reader.number::<u32>(big, 32).ok()?;
-        let (high, low) = if big { (first, last) } else { (last, first) };
-        return Some((u64::from(high) << 32 | u64::from(low), reader.at));
-    }
     let lacking = count - at.held;
-    let (next, taken, mut behind_it) = more(&bits, &at, lacking)?;
+    let (next, taken, behind_them) = more(&bits, &at, lacking)?;
     let window = at.window | behind_held::<O>(next, at.held);
-    behind_it.window = behind::<O>(next, lacking);
-    behind_it.held = taken - lacking;
-    Some((few_digits_of::<O>(window, big, count), behind_it))
+    let At { words, until, .. } = behind_them;
+    // (by 64 in two steps)
+    let rest = behind::<O>(behind::<O>(next, lacking - 1), 1);
+    let at = At {
+        words,
+        until,
+        window: rest,
+        held: taken - lacking,
+    };
+    Some((window, at))
 }
 
 /// A window of `count` bits at least, which begins with those that are held, fewer, and the place of a
@@ -155,11 +149,7 @@ fn peeked<'a, T: Register, O: Order>(
     let kept = kept.min(taken);
     let mut at = At::index(&bits, index + kept);
     at.held = held + kept;
-    at.window = if O::BIG {
-        window & !(!0 >> at.held)
-    } else {
-        window & !(!0 << at.held)
-    };
+    at.window = first_of::<O>(window, at.held);
     Some((window, at))
 }
 
@@ -197,6 +187,16 @@ fn few_digits_of<O: Order>(window: u64, big: bool, count: usize) -> u64 {
 #[inline]
 fn behind_held<O: Order>(next: u64, held: usize) -> u64 {
     if O::BIG { next >> held } else { next << held }
+}
+
+/// A window of the first bits alone, fewer than 64.
+#[inline]
+fn first_of<O: Order>(window: u64, count: usize) -> u64 {
+    if O::BIG {
+        window & !(!0 >> count)
+    } else {
+        window & !(!0 << count)
+    }
 }
 
 /// A window whose first bits are gone, fewer than 64.
@@ -299,9 +299,46 @@ impl<'a, T: Register, O: Order> BitReader<'a, T, O> {
         if count <= self.at.held {
             self.at.held -= count;
             self.at.window = behind::<O>(self.at.window, count);
-        } else {
-            self.at = At::index(&self.bits, self.position() + count);
+            return;
         }
+        let lacking = count - self.at.held;
+        match T::split_joined(self.at.words, O::BIG) {
+            Some((next, words)) if lacking < 64 => {
+                self.at.words = words;
+                self.at.window = behind::<O>(next, lacking);
+                self.at.held = 64 - lacking;
+            }
+            _ => self.at = At::index(&self.bits, self.position() + count),
+        }
+    }
+
+    /// A window of 64 bits that begins with those that are held, where whole words have the next 64. The
+    /// reader then holds as many of these words as it can, where it holds `count` bits then.
+    #[inline]
+    fn look_ahead(&mut self, count: usize) -> Option<u64> {
+        let At { words, held, .. } = self.at;
+        let (next, _) = T::split_joined(words, O::BIG)?;
+        let window = self.at.window | behind_held::<O>(next, held);
+        let more = (63 - held) / T::BITS;
+        let holds = held + more * T::BITS;
+        if T::BITS < 64 && count <= holds {
+            self.at.words = words.get(more..)?;
+            self.at.window = first_of::<O>(window, holds);
+            self.at.held = holds;
+        }
+        Some(window)
+    }
+
+    /// Passes over 64 bits, where whole words have the next 64: a window that begins with those that are
+    /// held. As many are held behind them as before.
+    #[inline]
+    fn take_64(&mut self) -> Option<u64> {
+        let At { window, held, .. } = self.at;
+        let (next, words) = T::split_joined(self.at.words, O::BIG)?;
+        self.at.words = words;
+        // (by 64 in two steps)
+        self.at.window = behind::<O>(behind::<O>(next, 63 - held), 1);
+        Some(window | behind_held::<O>(next, held))
     }
 
     /// The number of the next `count` bits, which are passed over. (Always inlined: of a number of
@@ -331,14 +368,19 @@ impl<'a, T: Register, O: Order> BitReader<'a, T, O> {
                 return Ok(N::of_digits(few_digits_of::<O>(window, big, count), count));
             }
         }
+        if N::WIDTH == 64 && count == 64 {
+            if let Some(window) = self.take_64() {
+                return Ok(N::of_digits(digits_of::<O>(window, big, 64), 64));
+            }
+        }
         if count > N::WIDTH {
             return Err(Refusal::TooWide);
         }
-        let Some((digits, at)) = read_on(self.bits, self.at, big, count) else {
+        let Some((window, at)) = read_on(self.bits, self.at, count) else {
             return Err(Refusal::TooFew);
         };
         self.at = at;
-        Ok(N::of_digits(digits, count))
+        Ok(N::of_digits(digits_of::<O>(window, big, count), count))
     }
 
     /// Passes over `count` bits. Constant time.
@@ -361,7 +403,8 @@ impl<'a, T: Register, O: Order> BitReader<'a, T, O> {
     /// ```
     #[inline]
     pub fn skip(&mut self, count: usize) -> Result<(), Refusal> {
-        if count > self.remaining() {
+        // (as many as are held need no second test)
+        if count > self.at.held && count > self.remaining() {
             return Err(Refusal::TooFew);
         }
         self.pass(count);
@@ -512,10 +555,13 @@ impl<'a, T: Register, O: Order> BitReader<'a, T, O> {
         }
         let mut window = self.at.window;
         if count > self.at.held {
-            let Some((found, at)) = peeked(self.bits, self.at, count) else {
+            if let Some(whole) = self.look_ahead(count) {
+                window = whole;
+            } else if let Some((some, at)) = peeked(self.bits, self.at, count) {
+                (window, self.at) = (some, at);
+            } else {
                 return Err(Refusal::TooFew);
-            };
-            (window, self.at) = (found, at);
+            }
         }
         let digits = digits_of::<O>(window, O::BIG, count);
         Ok(N::of_digits(digits, count))

@@ -88,6 +88,25 @@ fn passed_on<O: Order>(window: u64, count: usize, digits: u64) -> u64 {
     }
 }
 
+/// Puts the first of 64 digits, those that a window has room for, behind its others, and returns the
+/// next window with the rest; `None` where there is none.
+#[inline]
+fn passed_64<T: Register, O: Order>(
+    words: &mut [T],
+    word: usize,
+    (window, free): (u64, usize),
+    digits: u64,
+) -> Option<u64> {
+    let (less, rest) = (free.checked_sub(1)?, 64 - free);
+    let (full, digits) = if O::BIG {
+        (window << less << 1 | digits >> rest, digits & !(!0 << rest))
+    } else {
+        (window >> less >> 1 | digits << rest, digits >> less >> 1)
+    };
+    let next = T::put_before(words, word, O::BIG, full)?;
+    Some(passed_on::<O>(next, rest, digits))
+}
+
 /// Digits, at most 64, as they stand in 64 bits behind others, where the first is the highest or not.
 #[inline]
 #[allow(clippy::cast_possible_truncation)] // (of no digits all are zero)
@@ -650,6 +669,13 @@ impl<'a, T: Register, O: Order> BitWriter<'a, T, O> {
             return Err(Refusal::TooFew);
         }
         let digits = number.digits(count).ok_or(Refusal::TooLarge)?;
+        if count == 64
+            && self
+                .pass_64::<HOLDS>(in_order::<O>(digits, big, 64))
+                .is_some()
+        {
+            return Ok(());
+        }
         if HOLDS {
             self.put_window();
         }
@@ -689,6 +715,23 @@ impl<'a, T: Register, O: Order> BitWriter<'a, T, O> {
         self.word += 64 / T::BITS;
         self.left -= 64;
         self.free = 64 - rest;
+        if !HOLDS {
+            self.put_window();
+        }
+        Some(())
+    }
+
+    /// The same of 64 digits, behind which as many bits are free as before.
+    #[inline]
+    fn pass_64<const HOLDS: bool>(&mut self, digits: u64) -> Option<()> {
+        if self.left < 64 {
+            return None;
+        }
+        let (word, free) = (self.word, self.free);
+        self.window =
+            passed_64::<T, O>(self.bits.place_mut().0, word, (self.window, free), digits)?;
+        self.word += 64 / T::BITS;
+        self.left -= 64;
         if !HOLDS {
             self.put_window();
         }
