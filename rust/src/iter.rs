@@ -208,10 +208,6 @@ fn before<T: Register, O: Order>(bits: &BitSlice<'_, T, O>) -> usize {
 /// As many words as are read in one call where every bit is to be seen.
 const BLOCK: usize = 16;
 
-/// How many words in a row that have a bit which is looked for are read one by one, before more are
-/// read in one call.
-const FEW: usize = 4;
-
 /// Bits that were read in one call, at most as many as `BLOCK` words of 64 have.
 struct Block {
     /// As digits, the first bit lowest in the first word.
@@ -252,14 +248,11 @@ impl Block {
         self.from + self.len
     }
 
-    /// The digits of each word that are one, or zero where `FLIP`, and the index of the first.
+    /// The digits of each word, and the index of the first.
     #[inline]
-    fn words<const FLIP: bool>(&self) -> impl Iterator<Item = (u64, usize)> {
-        let starts = (0..self.len).step_by(64);
-        self.digits.iter().zip(starts).map(|(digits, at)| {
-            let count = (self.len - at).min(64);
-            (looked_for::<FLIP>(*digits, count), self.from + at)
-        })
+    fn words(&self) -> impl Iterator<Item = (u64, usize)> {
+        let starts = (self.from..self.behind()).step_by(64);
+        self.digits.iter().copied().zip(starts)
     }
 }
 
@@ -313,7 +306,7 @@ impl<T: Register, O: Order> Iterator for BitValIter<'_, T, O> {
         let mut from = 0;
         while from < self.bits.len() {
             let block = Block::read(self.bits, from, self.bits.len());
-            for (digits, at) in block.words::<false>() {
+            for (digits, at) in block.words() {
                 let len = (block.behind() - at).min(64);
                 acc = held(acc, Held { digits, len });
             }
@@ -408,30 +401,24 @@ impl<'a, T: Register, O: Order, const FLIP: bool> Indices<'a, T, O, FLIP> {
             acc
         };
         let mut acc = each(init, self.front);
-        let (mut from, mut in_a_row) = (self.from, 0);
-        while from < self.to {
-            // (many words at a time behind some that have any, since few are passed by faster)
-            let at = from;
-            let has_any;
-            if in_a_row < FEW {
-                let count = self.bits.ahead(from).min(self.to - from);
-                let digits = sought::<T, O, FLIP>(&self.bits, from, count);
-                (from, has_any) = (at + count, digits != 0);
-                acc = each(acc, (digits, at));
-            } else {
-                let block = Block::read(self.bits, from, self.to);
-                from = block.behind();
-                has_any = block.words::<FLIP>().any(|(digits, _)| digits != 0);
-                acc = block.words::<FLIP>().fold(acc, &mut each);
+        let (bits, mut at) = (self.bits.start(self.to), self.from);
+        loop {
+            // (64 bits at a time where these are whole words, else up to where one begins)
+            let mut whole = bits.whole_from(at);
+            while let Some((digits, behind)) = T::split_joined(whole, O::BIG) {
+                let digits = looked_for::<FLIP>(digits, 64);
+                if digits != 0 {
+                    acc = each(acc, (O::turned(digits, 64), at));
+                }
+                (whole, at) = (behind, at + 64);
             }
-            if has_any {
-                in_a_row += 1;
-            } else {
-                from += passed::<T, O, FLIP>(&self.bits, from, self.to - from);
-                in_a_row = 0;
+            if at == self.to {
+                return each(acc, self.back);
             }
+            let count = bits.ahead(at);
+            acc = each(acc, (sought::<T, O, FLIP>(&bits, at, count), at));
+            at += count;
         }
-        each(acc, self.back)
     }
 
     fn size_hint(&self) -> (usize, Option<usize>) {

@@ -3,7 +3,7 @@
 
 mod common;
 
-use common::{CASES, Layout, Random, Word, bits_of, for_all_memories};
+use common::{CASES, Layout, Random, Word, bits_of, for_all_edges, for_all_memories};
 use std::ops::Bound;
 use worghulen::{BitSlice, BitSliceMut, Lsb0, Msb0, Refusal, copy_bits};
 
@@ -22,6 +22,7 @@ for_all_memories!(equals_compares_all_bits, 12);
 for_all_memories!(copy_from_copies_all_bits, 13);
 for_all_memories!(copy_within_moves_bits, 14);
 for_all_memories!(copy_bits_copies_a_range, 15);
+for_all_edges!(all_ones_and_zeros_are_listed, 16);
 
 mod cases {
     use crate::common::{Layout, Random, Word, bits_of, checked, moved, word_and_digit};
@@ -198,6 +199,30 @@ mod cases {
         let mut ones = bits.iter_ones();
         assert_eq!(ones.by_ref().collect::<Vec<_>>(), expected);
         assert_eq!(ones.next(), None);
+    }
+
+    pub fn all_ones_and_zeros_are_listed<T: Word, O: Layout>(
+        random: &mut Random,
+        range: Range<usize>,
+    ) {
+        let mask = [0, 1, !0][random.below(3)];
+        let count = range.end.div_ceil(T::BITS) + random.below(3);
+        let words: Vec<T> = (0..count)
+            .map(|_| T::of(random.number() & mask ^ mask << 7))
+            .collect();
+        let list = &bits_of::<T, O>(&words)[range.clone()];
+        let bits = BitSlice::<T, O>::new(&words, range).unwrap();
+        let of = |bit| -> Vec<usize> { (0..list.len()).filter(|i| list[*i] == bit).collect() };
+        let (mut ones, mut zeros) = (vec![], vec![]);
+        bits.iter_ones().for_each(|index| ones.push(index));
+        bits.iter_zeros().for_each(|index| zeros.push(index));
+        assert_eq!((ones, zeros), (of(true), of(false)));
+        // (behind some that were taken from both ends)
+        let (mut some, mut own) = (bits.iter_zeros(), of(false).into_iter());
+        assert_eq!(some.next(), own.next());
+        assert_eq!(some.next_back(), own.next_back());
+        assert!(some.fold(true, |all, index| all && own.next() == Some(index)));
+        assert_eq!(own.next(), None);
     }
 
     pub fn equals_compares_all_bits<T: Word, O: Layout>(random: &mut Random) {
