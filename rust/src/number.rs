@@ -148,6 +148,7 @@ macro_rules! numbers {
             }
 
             #[inline]
+            #[allow(clippy::cast_sign_loss)] // (none has a sign here)
             fn few_digits(self, count: usize) -> Option<u64> {
                 if Self::HAS_SIGN {
                     return self.digits(count);

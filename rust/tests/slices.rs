@@ -221,8 +221,9 @@ mod cases {
         let (mut some, mut own) = (bits.iter_zeros(), of(false).into_iter());
         assert_eq!(some.next(), own.next());
         assert_eq!(some.next_back(), own.next_back());
-        assert!(some.fold(true, |all, index| all && own.next() == Some(index)));
-        assert_eq!(own.next(), None);
+        let mut left = vec![];
+        some.for_each(|index| left.push(index));
+        assert!(left.into_iter().eq(own));
     }
 
     pub fn equals_compares_all_bits<T: Word, O: Layout>(random: &mut Random) {

@@ -325,8 +325,9 @@ impl Writer<'_> {
     }
 }
 
-/// Numbers that are written to bytes one behind the other, the first bit the highest.
-pub struct ByteWriter<'a> {
+/// Numbers that are written to bytes one behind the other, the first bit the highest: 64 bits at once, or
+/// each number `AT_ONCE`, and zeros behind it.
+pub struct ByteWriter<'a, const AT_ONCE: bool> {
     bytes: &'a mut [u8],
     /// The byte that the window begins with.
     at: usize,
@@ -334,7 +335,7 @@ pub struct ByteWriter<'a> {
     held: usize,
 }
 
-impl<'a> ByteWriter<'a> {
+impl<'a, const AT_ONCE: bool> ByteWriter<'a, AT_ONCE> {
     pub fn new(bytes: &'a mut [u8]) -> Self {
         Self {
             bytes,
@@ -354,6 +355,9 @@ impl<'a> ByteWriter<'a> {
         if count < free {
             self.window |= number << (free - count);
             self.held += count;
+            if AT_ONCE {
+                *self.bytes.get_mut(self.at..)?.first_chunk_mut()? = self.window.to_be_bytes();
+            }
             return Some(());
         }
         let over = count - free;
@@ -362,6 +366,9 @@ impl<'a> ByteWriter<'a> {
         self.at += 8;
         self.window = if over == 0 { 0 } else { number << (64 - over) };
         self.held = over;
+        if AT_ONCE && over > 0 {
+            *self.bytes.get_mut(self.at..)?.first_chunk_mut()? = self.window.to_be_bytes();
+        }
         Some(())
     }
 
