@@ -655,13 +655,23 @@ impl<'a, T: Register, O: Order> BitWriter<'a, T, O> {
             let Some(digits) = number.few_digits(count) else {
                 return Err(self.too_large(count));
             };
-            if self
-                .pass_on::<HOLDS>(count, in_order::<O>(digits, big, count))
-                .is_some()
-            {
+            let digits = in_order::<O>(digits, big, count);
+            if self.pass_on::<HOLDS>(count, digits).is_some() {
                 return Ok(());
             }
         }
+        self.put_any::<N, HOLDS>(big, count, number)
+    }
+
+    /// The same of a number of no bits, or of 64, or where no window has room for it.
+    #[inline(always)]
+    #[allow(clippy::inline_always)]
+    fn put_any<N: Number, const HOLDS: bool>(
+        &mut self,
+        big: bool,
+        count: usize,
+        number: N,
+    ) -> Result<(), Refusal> {
         if count > N::WIDTH {
             return Err(Refusal::TooWide);
         }
@@ -669,18 +679,15 @@ impl<'a, T: Register, O: Order> BitWriter<'a, T, O> {
             return Err(Refusal::TooFew);
         }
         let digits = number.digits(count).ok_or(Refusal::TooLarge)?;
-        if count == 64
-            && self
-                .pass_64::<HOLDS>(in_order::<O>(digits, big, 64))
-                .is_some()
-        {
+        let digits = in_order::<O>(digits, big, count);
+        if count == 64 && self.pass_64::<HOLDS>(digits).is_some() {
             return Ok(());
         }
         if HOLDS {
             self.put_window();
         }
         if count > 0 {
-            self.begin(count, in_order::<O>(digits, big, count));
+            self.begin(count, digits);
         }
         Ok(())
     }
