@@ -1,11 +1,13 @@
 -- What is read of bits that begin with a number that was written: the number, and what stands behind it is left.
 use Rattle.std.proofs.Common.{◌≡◌, ◌↔◌, ℕ, ◌+◌, ◌-◌, ◌<◌, ℤ, Bool, true, false, not, List, [], ◌∷◌, ◌++◌, length, get_or, take, drop, replicate, refl, sym, ap, subst, ◌∙◌, inl, inr, arith, length-append}
+use Rattle.std.specs.Prelude.{Result, Ok, Err, IsOk, MatchResult}
 use Rattle.std.proofs.lemmas.Bool.{cases_order}
 use Rattle.std.proofs.lemmas.List.{take_at, drop_at, length-replicate, get_or-replicate, get_or_append_left, get_or-append_right, append-nil}
 use Rattle.bitvec.specs.Span.{element}
 use Rattle.bitvec.specs.Truths.{AllAre}
 use Rattle.bitvec_slice.specs.Bits.{BeginsWith}
 use Rattle.bitvec_slice.specs.Signed.{signed_of, complement_of, FitsSignedDigits}
+use Rattle.bitvec_slice.proofs.DigitListLemmas.{length-digits_le, length-digits_be}
 use Rattle.bitvec_slice.proofs.SignedLemmas.{signed_back}
 use Rattle.bitvec_stream.specs.Golomb.{golomb, signed_place, StartsWith, IsSignedLacking}
 use Rattle.bitvec_stream.specs.Numbers.{number_le, number_be, digits_le, digits_be}
@@ -124,6 +126,19 @@ module _ (z : ℤ) (behind : List Bool) where
     drop_at (golomb (signed_place z)) behind (length (golomb (signed_place z))) refl,
   )
 
+-- A code is read where the number is not lacking, so also where it is written and read in one type.
+pub golomb_is_read : {T : Type 0} (Is : T → Type 0) (IsLacking : ℕ → Type 0) (n : ℕ) (xs behind : List Bool) (result : Result T ReadError)
+    → ¬ IsLacking n → xs ≡ golomb n ++ behind → MatchResult result Is (IsCodeRefusal IsLacking xs) → IsOk result
+golomb_is_read Is IsLacking n xs behind (Ok value) has is read = refl
+golomb_is_read Is IsLacking n xs behind (Err error) has is refusal =
+    absurd (has (code_lacks n behind IsLacking error (subst (λ us. IsCodeRefusal IsLacking us error) is refusal)))
+
+pub signed_golomb_is_read : {T : Type 0} (Is : T → Type 0) (bits : ℕ) (z : ℤ) (xs behind : List Bool) (result : Result T ReadError)
+    → FitsSignedDigits bits z → xs ≡ golomb (signed_place z) ++ behind → MatchResult result Is (IsCodeRefusal (IsSignedLacking bits) xs) → IsOk result
+signed_golomb_is_read Is bits z xs behind (Ok value) has is read = refl
+signed_golomb_is_read Is bits z xs behind (Err error) has is refusal =
+    absurd (signed_lacks z behind bits error (subst (λ us. IsCodeRefusal (IsSignedLacking bits) us error) is refusal) has)
+
 -- What a search reads: what a writer wrote from its first bit on, with nothing behind it ..
 pub from_first : (bits xs : List Bool) (n : ℕ) → n ≡ 0 → take n bits ++ xs ≡ xs ++ []
 from_first bits xs n none = ap (λ m. take m bits ++ xs) none ∙ sym (append-nil xs)
@@ -134,4 +149,4 @@ pub unary_bits : (n : ℕ) (bit : Bool) (behind : List Bool) → let bits = (rep
 unary_bits n bit behind = (long n bit behind, there n bit behind, before n bit behind, own_opposite bit)
 
 -- What a search takes for what is read back: `#[tactic(auto, using(bitvec_stream::proofs::ReadBackLemmas::read_back))]`.
-pub ruleset read_back = (from_first, signed_be_read, signed_le_read, unary_bits, golomb_read)
+pub ruleset read_back = (from_first, be_read, le_read, signed_be_read, signed_le_read, unary_bits, golomb_read, length-digits_be, length-digits_le, length-append)
