@@ -3,13 +3,14 @@
 #![tactic(auto, using(bitvec_slice::proofs::OneCountLemmas::slice_counts))]
 
 ghost use Rattle.std.specs.Prelude.{◌≡◌, ◌<◌, ◌+◌, ◌||◌, ◌&&◌, if◌then◌else◌, length};
+ghost use Rattle.std.specs.Prelude.{slice_set, true};
 ghost use Rattle.bitvec.specs.BitSpan.{span_of, list_by};
 ghost use Rattle.bitvec.specs.Memory.{zip_with};
 ghost use Rattle.bitvec.specs.Span.{Fits, element};
 ghost use Rattle.bitvec.specs.Truths.{ones_in};
 ghost use Rattle.bitvec_slice.specs.Bits.{zeros_in};
 ghost use Rattle.bitvec_slice.specs.BitSlice.{slice_len, slice_bits};
-ghost use Rattle.bitvec_slice.specs.BitSliceMut.{lent_len, lent_bits};
+ghost use Rattle.bitvec_slice.specs.BitSliceMut.{lent_len, lent_bits, BecomesBits};
 
 use bitvec::mem::BitRegister;
 use bitvec::order::BitOrder;
@@ -126,4 +127,23 @@ fn exchange_in_span<R: BitRegister, O: BitOrder<R>>(
         ≡ ones_in (list_by span O.at_of memory.old) }
 {
     span.swap(memory, i, j);
+}
+
+/// Makes a bit one, and says so by the bits' list alone.
+fn mark<'a, R: BitRegister, O: BitOrder<R>>(bits: &mut BitSliceMut<'a, R, O>, i: usize)
+    requires { i < lent_len bits.old }
+    ensures { BecomesBits bits.old bits.new (slice_set (lent_bits bits.old) i true) }
+{
+    bits.set(i, true);
+}
+
+/// Makes a bit one, and then the last: an edit's list is as long as before, by its record alone.
+fn mark_and_the_last<'a, R: BitRegister, O: BitOrder<R>>(bits: &mut BitSliceMut<'a, R, O>, i: usize)
+    requires { i < lent_len bits.old }
+    ensures len { lent_len bits.new ≡ lent_len bits.old }
+    ensures long { length (lent_bits bits.new) ≡ length (lent_bits bits.old) }
+{
+    let last = bits.len() - 1;
+    mark(bits, i);
+    bits.set(last, true);
 }
