@@ -31,6 +31,18 @@ fn ones_of_union<'a, R: BitRegister, O: BitOrder<R>, R2: BitRegister, O2: BitOrd
     set.count_ones()
 }
 
+/// How many numbers the union of two sets has: those of both, less those that they have in common.
+fn size_of_union<'a, R: BitRegister, O: BitOrder<R>, R2: BitRegister, O2: BitOrder<R2>>(
+    set: BitSlice<'a, R, O>,
+    other: BitSlice<'a, R2, O2>,
+) -> usize
+    requires { slice_len other ≡ slice_len set }
+    ensures { let xs = slice_bits set.entry in let ys = slice_bits other.entry
+        in result + ones_in (zip_with (λ a b. a && b) xs ys) ≡ ones_in xs + ones_in ys }
+{
+    set.count_or(&other)
+}
+
 /// Leaves in a set what another has too, and returns how many numbers that are: those of both, less
 /// those of their union.
 fn ones_in_common<'a, R: BitRegister, O: BitOrder<R>, R2: BitRegister, O2: BitOrder<R2>>(
