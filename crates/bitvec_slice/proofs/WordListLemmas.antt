@@ -1,5 +1,5 @@
 -- What a word of a span shows of the span's list. `bits` is the width of a word, and `at` takes an index to its position.
-use Rattle.std.proofs.Common.{◌≡◌, ℕ, ◌+◌, ◌-◌, ◌*◌, ◌^◌, ◌<◌, ◌≤◌, ◌==◌, ◌&&◌, Bool, true, false, not, nat_le, nat_lt, List, refl, sym, ap, ◌∙◌, inl, inr, arith}
+use Rattle.std.proofs.Common.{◌≡◌, ℕ, ◌+◌, ◌-◌, ◌*◌, ◌^◌, ◌<◌, ◌≤◌, ◌==◌, ◌&&◌, Bool, true, false, true≢false, not, nat_le, nat_lt, List, refl, sym, ap, ◌∙◌, inl, inr, arith}
 use Rattle.std.specs.Prelude.{nat_abs, slice_index, Option, Some, None, MatchOption}
 use Rattle.std.specs.Bool.{beq}
 use Rattle.std.specs.Coded.{le_prop, Π_prop}
@@ -15,9 +15,9 @@ use Rattle.bitvec.proofs.DigitLemmas.{digit-zero, digit-pow, digit-pow_same, dig
 use Rattle.bitvec.proofs.IndexLemmas.{digit-mask_at}
 use Rattle.bitvec.proofs.MemoryLemmas.{bit_of-place}
 use Rattle.bitvec.proofs.PartLemmas.{element-list_of}
-use Rattle.bitvec_slice.specs.Bits.{AllBetween, IsFirstBetween, IsLastBetween}
+use Rattle.bitvec_slice.specs.Bits.{AllBetween, IsFirstBetween, IsLastBetween, FindsBetween}
 use Rattle.bitvec.specs.WordEnds.{HasNoIndex, IsFirstIndex, IsLastIndex}
-use Rattle.bitvec_slice.specs.Chosen.{IsChosen, IsFound}
+use Rattle.bitvec_slice.specs.Chosen.{IsChosen, IsChosenFrom, IsFound}
 use Rattle.bitvec_slice.proofs.FindLemmas.{same_as, other_than, first_later}
 use Rattle.bitvec_slice.proofs.SkipLemmas.{all_joined}
 
@@ -259,3 +259,99 @@ option_behind bits at head xs bit from mid end (Some it) upto k w i low none f =
 -- the index of an element by its place in word k
 pub found_index : (k i bits head : ℕ) → {width index start : ℕ} → width ≡ bits → index ≡ i → start ≡ head → k * width + index - start ≡ k * bits + i - head
 found_index k i bits head {width} {index} {start} ew ei es = ap (λ b. k * b + index - start) ew ∙ ap (λ n. k * bits + n - start) ei ∙ ap (λ h. k * bits + i - h) es
+
+-- A word of a memory, or the word with each digit turned over, under the mask of the indices from `low` on, which is that of
+-- a span's element with index `from` in word k of those that it meets.
+pub record IsMaskedFrom (bits : ℕ) (at : ℕ → ℕ) (span : Span) (words : List ℕ) (k from : ℕ) (bit : Bool) (low mask turned w : ℕ) : Type 0 where
+  pub law : IsOneToOne bits at
+  pub start : k * bits + low ≡ span.head + from
+  pub masked : IsMaskOf bits at low bits mask
+  pub turns : (p : ℕ) → p < bits → digit turned p ≡ beq (digit (slice_index words (nat_abs span.word + k)) p) bit
+  pub joins : (p : ℕ) → p < bits → digit w p ≡ (digit turned p && digit mask p)
+
+-- such a word has the elements that are `bit`
+pub masked_from : {bits : ℕ} {at : ℕ → ℕ} {span : Span} {words : List ℕ} {k from : ℕ} {bit : Bool} {low mask turned w : ℕ}
+    → IsMaskedFrom bits at span words k from bit low mask turned w → IsChosenFrom bits at span.head (list_of bits at span words) k from span.len bit w
+masked_from {bits} {at} {span} {words} {k} {from} {bit} {low} {mask} {turned} {w} m =
+    let start = m.start in
+    record {
+      start = omega arith;
+      ones = λ i small within.
+          let below = m.law.below i small in
+          let mask_digit = digit-mask_at bits at low bits mask i m.law (omega arith) m.masked small in
+          m.joins (at i) below
+          ∙ elim (cases_lt i low) [
+            | inl before ↦ (
+                and_off (digit turned (at i)) (digit mask (at i)) (mask_digit ∙ (rw (lt-leb low i before) refl))
+                ∙ sym (rw (lt-leb (span.head + from) (k * bits + i) (omega arith)) refl))
+            | inr on ↦ (
+                and_on (digit turned (at i)) (digit mask (at i)) (mask_digit ∙ (rw (le-leb low i on, lt-ltb i bits small) refl))
+                ∙ m.turns (at i) below
+                ∙ ap (λ b. beq b bit) (sym (element_digit bits at span words k i (k * bits + i - span.head) small (omega arith) (omega arith)))
+                ∙ sym (rw (le-leb (span.head + from) (k * bits + i) (omega arith)) refl))
+          ];
+    }
+
+-- a word that begins in the span has the elements that are `bit` with no mask
+pub whole_from : (bits : ℕ) (at : ℕ → ℕ) (span : Span) (words : List ℕ) (k from : ℕ) (bit : Bool) (w : ℕ) → IsOneToOne bits at → span.head ≤ k * bits
+    → from ≡ k * bits - span.head → ((p : ℕ) → p < bits → digit w p ≡ beq (digit (slice_index words (nat_abs span.word + k)) p) bit)
+    → IsChosenFrom bits at span.head (list_of bits at span words) k from span.len bit w
+whole_from bits at span words k from bit w law low is turns = record {
+  start = omega arith;
+  ones = λ i small within.
+      turns (at i) (law.below i small)
+      ∙ ap (λ b. beq b bit) (sym (element_digit bits at span words k i (k * bits + i - span.head) small (omega arith) (omega arith)))
+      ∙ sym (rw (le-leb (span.head + from) (k * bits + i) (omega arith)) refl);
+}
+
+-- an element's digit of such a word
+digit_from : {bits : ℕ} {at : ℕ → ℕ} {head : ℕ} {xs : List Bool} {k from end : ℕ} {bit : Bool} {w : ℕ}
+    → IsChosenFrom bits at head xs k from end bit w → (i j : ℕ) → i < bits → k * bits + i ≡ head + j → from ≤ j → j < end → digit w (at i) ≡ beq (element xs j) bit
+digit_from {bits} {at} {head} {xs} {k} {from} {end} {bit} {w} c i j small e low high =
+    let here : k * bits + i - head ≡ j = omega arith in
+    let on : head + from ≤ k * bits + i = omega arith in
+    c.ones i small (omega arith) ∙ (rw (le-leb (head + from) (k * bits + i) on) (ap (λ n. beq (element xs n) bit) here))
+
+-- where the word has no one, no element from index `from` on that it has is `bit`
+pub none_from : {bits : ℕ} {at : ℕ → ℕ} {head : ℕ} {xs : List Bool} {k from end : ℕ} {bit : Bool} {w : ℕ}
+    → IsChosenFrom bits at head xs k from end bit w → HasNoIndex bits at w → (upto : ℕ) → upto ≤ end → head + upto ≤ (k + 1) * bits → AllBetween (not bit) xs from upto
+none_from {bits} {at} {head} {xs} {k} {from} {end} {bit} {w} c none upto inside within j low high =
+    let start = c.start in
+    let small : head + j - k * bits < bits = omega arith in
+    other_than bit (element xs j) (sym (digit_from c (head + j - k * bits) j small (omega arith) low (omega arith)) ∙ none (head + j - k * bits) small)
+
+-- no one of the word is before index `from`
+pub index_from : {bits : ℕ} {at : ℕ → ℕ} {head : ℕ} {xs : List Bool} {k from end : ℕ} {bit : Bool} {w : ℕ}
+    → IsChosenFrom bits at head xs k from end bit w → (i : ℕ) → IsFirstIndex bits at w i → from < end → head + from ≤ k * bits + i
+index_from {bits} {at} {head} {xs} {k} {from} {end} {bit} {w} c i first some =
+    elim (cases_lt (k * bits + i) (head + from)) [
+      | inl before ↦ absurd (true≢false (sym first.1 ∙ c.ones i first.0 (omega arith) ∙ (rw (lt-leb (head + from) (k * bits + i) before) refl)))
+      | inr on ↦ on
+    ]
+
+-- before the first one of the word no element is `bit`
+pub passed_from : {bits : ℕ} {at : ℕ → ℕ} {head : ℕ} {xs : List Bool} {k from end : ℕ} {bit : Bool} {w : ℕ}
+    → IsChosenFrom bits at head xs k from end bit w → (i r : ℕ) → IsFirstIndex bits at w i → r ≡ k * bits + i - head → (upto : ℕ) → upto ≤ end → upto ≤ r
+    → AllBetween (not bit) xs from upto
+passed_from {bits} {at} {head} {xs} {k} {from} {end} {bit} {w} c i r first e upto inside behind j low high =
+    let start = c.start in
+    let below = first.0 in
+    let less : head + j - k * bits < i = omega arith in
+    other_than bit (element xs j) (sym (digit_from c (head + j - k * bits) j (omega arith) (omega arith) low (omega arith)) ∙ first.2 (head + j - k * bits) less)
+
+-- the first one of the word is the first element, if it is before the end of those that are sought
+pub first_from : {bits : ℕ} {at : ℕ → ℕ} {head : ℕ} {xs : List Bool} {k from end : ℕ} {bit : Bool} {w : ℕ}
+    → IsChosenFrom bits at head xs k from end bit w → (i r : ℕ) → IsFirstIndex bits at w i → r ≡ k * bits + i - head → (upto : ℕ) → upto ≤ end → from < upto → r < upto
+    → IsFirstBetween bit xs from upto r
+first_from {bits} {at} {head} {xs} {k} {from} {end} {bit} {w} c i r first e upto inside some before =
+    let on = index_from c i first (omega arith) in (
+      omega arith,
+      before,
+      same_as bit (element xs r) (sym (digit_from c i r first.0 (omega arith) (omega arith) (omega arith)) ∙ first.1),
+      passed_from c i r first e r (omega arith) (omega arith),
+    )
+
+-- what is found behind some elements that are not `bit` is found from the first of these on
+pub finds_behind : (xs : List Bool) (bit : Bool) (from mid upto : ℕ) (o : Option ℕ) → from ≤ mid → AllBetween (not bit) xs from mid → FindsBetween bit xs mid upto o → FindsBetween bit xs from upto o
+finds_behind xs bit from mid upto None low none rest = all_joined (not bit) xs from mid upto none rest
+finds_behind xs bit from mid upto (Some i) low none first = first_later xs bit from mid upto upto i low (omega arith) none first

@@ -17,6 +17,12 @@ pub record IsChosen (bits : ℕ) (at : ℕ → ℕ) (head : ℕ) (xs : List Bool
   pub ones : (i : ℕ) → i < bits → digit w (at i)
       ≡ (nat_le (head + from) (k * bits + i) && nat_lt (k * bits + i) (head + upto) && beq (element xs (k * bits + i - head)) bit)
 
+-- The ones of a word are the elements of a list from index `from` on that are `bit`, each at the index that it has in word k
+-- of those that the list meets under a head. So it is before index `end`: digits from there on may be any.
+pub record IsChosenFrom (bits : ℕ) (at : ℕ → ℕ) (head : ℕ) (xs : List Bool) (k from end : ℕ) (bit : Bool) (w : ℕ) : Type 0 where
+  pub start : k * bits ≤ head + from
+  pub ones : (i : ℕ) → i < bits → k * bits + i < head + end → digit w (at i) ≡ (nat_le (head + from) (k * bits + i) && beq (element xs (k * bits + i - head)) bit)
+
 -- Of the elements of a list from index `from` on, the first that is `bit` is at index i in word k of those that the list
 -- meets under a head. The ones of w are such elements of that word, up to index `upto`.
 pub record IsFound (bits : ℕ) (at : ℕ → ℕ) (head : ℕ) (xs : List Bool) (bit : Bool) (from upto k w i : ℕ) : Type 0 where

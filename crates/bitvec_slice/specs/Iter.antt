@@ -1,5 +1,5 @@
 -- What an `Iter` shows.
-use Rattle.std.specs.Prelude.{Bool, List, map}
+use Rattle.std.specs.Prelude.{◌-◌, Bool, List, map}
 use Rattle.std.specs.Iterator.{YieldsFirst, YieldsLast}
 use Rattle.std.specs.Iterator.Runs.{YieldsInOrder, YieldsInReverse}
 use Rattle.bitvec.specs.Span.{Span, list_of, span_range}
@@ -12,7 +12,7 @@ iter_memory it = slice_memory it.slice
 
 -- where in that memory the bits lie that are still to come
 abbrev pub iter_span : {R O : Type 0} {a b c d e f g h i : _} → Iter R O a b c d e f g h i → Span
-iter_span {a = own} it = span_range own.BITS (slice_span it.slice) it.next it.end
+iter_span {a = own} it = let span = slice_span it.slice in span_range own.BITS span (it.next - span.head) (it.end - span.head)
 
 -- the bits that are still to come, in order
 abbrev pub iter_left : {R O : Type 0} {a b c d e f g h i : _} → Iter R O a b c d e f g h i → List Bool

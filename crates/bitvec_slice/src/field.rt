@@ -262,7 +262,8 @@ fn word_from<R: BitRegister, O: BitOrder<R>>(span: BitSpan<R, O>, memory: &[R], 
     ensures { HasElements R.BITS O.at_of (span_of span) k (R.number result) (element (list_by span
         O.at_of memory.now)) }
 {
-    memory[span.address() as usize + k]
+    let words = &memory[span.address() as usize..];
+    words[k]
 }
 
 // The number of a word of 8 bits.
@@ -342,7 +343,7 @@ fn in_four_bytes<R: BitRegister, O>(span: BitSpan<R, O>, memory: &[R]) -> bool
     ensures few { result ≡ true → (span_of span).head + (span_of span).len ≤ 32 }
 {
     R::BITS == 8
-        && memory.len() - span.address() as usize >= 4
+        && memory[span.address() as usize..].len() >= 4
         && usize::from(span.head().into_inner()) + span.len() <= 32
 }
 
@@ -370,6 +371,28 @@ fn load_few<R: BitRegister, O: Sequential<R>, N: BitRegister>(
     both.or(load_digits(span, memory, 2, big))
 }
 
+// The number of a span that may meet several words, as `load` gives it.
+#[inline(never)]
+fn load_far<R: BitRegister, O: Sequential<R>, N: BitRegister>(
+    span: BitSpan<R, O>,
+    memory: &[R],
+    big: bool,
+) -> N
+    requires fits { Fits R.BITS (span_of span) (length memory.now) }
+    requires small { (span_of span).len ≤ N.BITS }
+    ensures { N.number result ≡ field_number big R.BITS O.RISES (span_of span).head
+        (list_by span O.at_of memory.now) }
+{
+    let elements = span.elements();
+    if elements == 1 {
+        return load_digits(span, memory, 0, big);
+    }
+    if elements >= 2 && elements <= 3 {
+        return load_few(span, memory, elements, big);
+    }
+    load_words(span, memory, big)
+}
+
 // The number of a span, its first word's part lowest, or highest where `big`.
 #[inline(always)]
 fn load<R: BitRegister, O: Sequential<R>, N: BitRegister>(
@@ -389,14 +412,7 @@ fn load<R: BitRegister, O: Sequential<R>, N: BitRegister>(
     if O::RISES != big && 0 < span.len() && in_four_bytes(span, memory) {
         return load_bytes(span, memory);
     }
-    let elements = span.elements();
-    if elements == 1 {
-        return load_digits(span, memory, 0, big);
-    }
-    if elements >= 2 && elements <= 3 {
-        return load_few(span, memory, elements, big);
-    }
-    load_words(span, memory, big)
+    load_far(span, memory, big)
 }
 
 /// The lowest `R::BITS` digits of a number as a word: what Rust's `as` makes of an integer.

@@ -1,6 +1,6 @@
 //! Slices of bits for reading, and their single bits.
 
-ghost use Rattle.std.specs.Prelude.{◌≡◌, ⊤, ◌-◌, ◌<◌, ◌↔◌, IsTrue, IsSome, IfSome, MatchOption};
+ghost use Rattle.std.specs.Prelude.{◌≡◌, ⊤, ◌+◌, ◌-◌, ◌<◌, ◌≤◌, ◌↔◌, IsTrue, IsSome, IfSome, MatchOption};
 ghost use Rattle.std.specs.Prelude.{length, map, slice_get};
 ghost use Rattle.bitvec.specs.BitSpan.{span_of, list_by};
 ghost use Rattle.bitvec.specs.Digit.{digit};
@@ -123,8 +123,17 @@ impl<'a, R: BitRegister, O: BitOrder<R>> BitSlice<'a, R, O> {
         requires { i < slice_len self.now }
         ensures { result ≡ element (slice_bits self.now) i }
     {
+        self.bit_at_place(self.head() + i)
+    }
+
+    // The bit at a place, which is counted from the first bit of the slice's first word.
+    #[inline(always)]
+    pub(super) fn bit_at_place(&self, place: usize) -> bool
+        requires from { (slice_span self.now).head ≤ place }
+        requires inside { place < (slice_span self.now).head + slice_len self.now }
+        ensures { result ≡ element (slice_bits self.now) (place - (slice_span self.now).head) }
+    {
         let width = mem::bits_of::<R>();
-        let place = self.head() + i;
         let word = word_met(self.span, self.memory, place / width);
         bit_at::<R, O>(word, BitIdx::new_unchecked((place % width) as u8))
     }

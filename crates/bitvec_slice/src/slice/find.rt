@@ -21,7 +21,7 @@ impl<'a, R: BitRegister, O: BitOrder<R>> BitSlice<'a, R, O> {
     ghost use Rattle.bitvec_slice.specs.Bits.{AllBetween, IsFirstBetween, IsLastBetween};
     ghost use Rattle.bitvec_slice.specs.Bits.{FindsBetween};
     ghost use Rattle.bitvec_slice.specs.Field.{stretch_end};
-    ghost use Rattle.bitvec_slice.specs.Chosen.{IsChosen, FindsWord};
+    ghost use Rattle.bitvec_slice.specs.Chosen.{IsChosen, IsChosenFrom, FindsWord};
     ghost use Rattle.bitvec_slice.specs.Words.{SliceHasDigits};
 
     // How many bits of the slice in word `k`, counted from its first word, are one.
@@ -337,7 +337,72 @@ impl<'a, R: BitRegister, O: BitOrder<R>> BitSlice<'a, R, O> {
         None
     }
 
+    // The first that is `bit`, of the bits behind word `word` and before index `upto`: it looks at
+    // some words one by one, and then passes over words by eights.
+    #[inline(never)]
+    fn first_later(&self, word: usize, upto: usize, bit: bool) -> Option<usize>
+        requires met { word
+            < words_met R.BITS (slice_span self.now).head (slice_span self.now).len }
+        requires inside { upto ≤ slice_len self.now }
+        ensures { FindsBetween bit (slice_bits self.now)
+            (stretch_end R.BITS (slice_span self.now).head (slice_len self.now) word) upto result }
+    {
+        let width = mem::bits_of::<R>();
+        let end = upto.min((word + 1) * width - self.head());
+        // (often one of the next words has what is sought)
+        let near = end + (upto - end).min(16 * width);
+        if let Some(i) = self.first_behind(word, near, bit) {
+            return Some(i);
+        }
+        self.first_far(near, upto, bit)
+    }
+
+    // The bits of word `k` from index `from` on that are `bit`, as the ones of a word. Where the
+    // word has digits behind the slice's last bit, these may be ones too.
+    #[inline(always)]
+    fn chosen_from(&self, k: usize, from: usize, bit: bool) -> R
+        requires met { k < words_met R.BITS (slice_span self.now).head (slice_span self.now).len }
+        requires start { k * R.BITS ≤ (slice_span self.now).head + from }
+        requires end { (slice_span self.now).head + from < (k + 1) * R.BITS }
+        requires inside { from < slice_len self.now }
+        ensures { IsChosenFrom R.BITS O.at_of (slice_span self.now).head (slice_bits self.now) k
+            from (slice_len self.now) bit (R.number result) }
+    {
+        let start = k * mem::bits_of::<R>();
+        let low = (self.head() + from - start) as u8;
+        let mask = O::mask(Some(BitIdx::new_unchecked(low)), None);
+        self.turned_word(k, bit).and(mask.into_inner())
+    }
+
+    // The first that is `bit`, of the bits behind word `word` and before index `upto`: it looks at
+    // the next word before it calls for the others.
+    #[inline(always)]
+    fn first_after(&self, word: usize, upto: usize, bit: bool) -> Option<usize>
+        requires met { word
+            < words_met R.BITS (slice_span self.now).head (slice_span self.now).len }
+        requires inside { upto ≤ slice_len self.now }
+        ensures { FindsBetween bit (slice_bits self.now)
+            (stretch_end R.BITS (slice_span self.now).head (slice_len self.now) word) upto result }
+    {
+        let k = word + 1;
+        let start = k * mem::bits_of::<R>() - self.head();
+        if upto <= start {
+            return None;
+        }
+        match first_index::<R, O>(self.turned_word(k, bit)) {
+            Some(index) => {
+                let i = start + usize::from(index);
+                if i < upto { Some(i) } else { None }
+            }
+            None => self.first_later(k, upto, bit),
+        }
+    }
+
     // The first that is `bit`, of the bits from index `from` to before index `upto`.
+    //
+    // A bit that is found at or behind `upto` shows that none of them is `bit`: so no mask cuts a
+    // word where they end.
+    #[inline(always)]
     pub(super) fn first_between(&self, from: usize, upto: usize, bit: bool) -> Option<usize>
         requires { upto ≤ slice_len self.now }
         ensures { FindsBetween bit (slice_bits self.now) from upto result }
@@ -347,16 +412,16 @@ impl<'a, R: BitRegister, O: BitOrder<R>> BitSlice<'a, R, O> {
         }
         let width = mem::bits_of::<R>();
         let k = (self.head() + from) / width;
-        let end = upto.min((k + 1) * width - self.head());
-        if let Some(i) = self.first_in_word(k, from, end, bit) {
-            return Some(i);
+        match first_index::<R, O>(self.chosen_from(k, from, bit)) {
+            Some(index) => {
+                let i = k * width + usize::from(index) - self.head();
+                if i >= upto {
+                    return None;
+                }
+                Some(i)
+            }
+            None => self.first_after(k, upto, bit),
         }
-        // (often one of the next words has what is sought)
-        let near = end + (upto - end).min(16 * width);
-        if let Some(i) = self.first_behind(k, near, bit) {
-            return Some(i);
-        }
-        self.first_far(near, upto, bit)
     }
 
     // The last that is `bit`, of the bits from index `from` to before index `upto`, which lie in

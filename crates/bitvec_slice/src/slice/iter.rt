@@ -1,12 +1,12 @@
 //! The bits of a slice one after the other, from both ends.
 
-ghost use Rattle.std.specs.Prelude.{◌≡◌, ⊤, ◌^◌, ◌<◌, ◌≤◌, ◌-◌, Some, length, IfSome};
+ghost use Rattle.std.specs.Prelude.{◌≡◌, ⊤, ◌^◌, ◌<◌, ◌≤◌, ◌+◌, ◌-◌, Some, length, IfSome};
 ghost use Rattle.std.specs.Prelude.{MatchOption};
 ghost use Rattle.std.specs.Iterator.{YieldsFirst, YieldsLast, item_count, at_most, UpTo};
 ghost use Rattle.std.specs.Iterator.{MakesProgress};
 ghost use Rattle.std.specs.Iterator.SizeHint.{IsWithinCount};
 ghost use Rattle.bitvec.specs.Span.{span_from};
-ghost use Rattle.bitvec_slice.specs.BitSlice.{slice_len};
+ghost use Rattle.bitvec_slice.specs.BitSlice.{slice_span, slice_len};
 
 use crate::slice::BitSlice;
 use bitvec::mem::BitRegister;
@@ -29,10 +29,13 @@ use std::iter::FusedIterator;
 #[derive(Drop)]
 pub struct Iter<'a, R: BitRegister, O: BitOrder<R>> {
     slice: BitSlice<'a, R, O>,
+    // Places of bits, counted from the first bit of the slice's first word: of the first that is
+    // still to come, and of one past the last.
     next: usize,
     end: usize,
+    pub ghost begins: { (slice_span slice).head ≤ next },
     pub ghost rises: { next ≤ end },
-    pub ghost inside: { end ≤ slice_len slice },
+    pub ghost inside: { end ≤ (slice_span slice).head + slice_len slice },
 }
 
 impl<'a, R: BitRegister, O: BitOrder<R>> Clone for Iter<'a, R, O> {
@@ -50,7 +53,7 @@ impl<'a, R: BitRegister, O: BitOrder<R>> Clone for Iter<'a, R, O> {
 }
 
 impl<'a, R: BitRegister, O: BitOrder<R>> Iter<'a, R, O> {
-    ghost use Rattle.bitvec_slice.specs.BitSlice.{slice_memory, slice_span, slice_bits};
+    ghost use Rattle.bitvec_slice.specs.BitSlice.{slice_memory, slice_bits};
     ghost use Rattle.bitvec_slice.specs.Iter.{iter_memory, iter_span, iter_left};
 
     /// The bits that are still to come, where they lie. Constant time.
@@ -59,9 +62,10 @@ impl<'a, R: BitRegister, O: BitOrder<R>> Iter<'a, R, O> {
         ensures span { slice_span result ≡ iter_span self.now }
         ensures bits { slice_bits result ≡ iter_left self.now }
     {
+        let head = self.slice.head();
         BitSlice {
             memory: self.slice.memory,
-            span: self.slice.span.range(self.next, self.end),
+            span: self.slice.span.range(self.next - head, self.end - head),
         }
     }
 }
@@ -90,7 +94,7 @@ impl<'a, R: BitRegister, O: BitOrder<R>> Iterator for Iter<'a, R, O> {
         if self.next == self.end {
             return None;
         }
-        let bit = self.slice.get_unchecked(self.next);
+        let bit = self.slice.bit_at_place(self.next);
         self.next += 1;
         Some(bit)
     }
@@ -127,7 +131,7 @@ impl<'a, R: BitRegister, O: BitOrder<R>> DoubleEndedIterator for Iter<'a, R, O> 
             return None;
         }
         self.end -= 1;
-        Some(self.slice.get_unchecked(self.end))
+        Some(self.slice.bit_at_place(self.end))
     }
 }
 
@@ -142,7 +146,7 @@ impl<'a, R: BitRegister, O: BitOrder<R>> ExactSizeIterator for Iter<'a, R, O> {
 impl<'a, R: BitRegister, O: BitOrder<R>> FusedIterator for Iter<'a, R, O> {}
 
 impl<'a, R: BitRegister, O: BitOrder<R>> BitSlice<'a, R, O> {
-    ghost use Rattle.bitvec_slice.specs.BitSlice.{slice_memory, slice_span, slice_bits};
+    ghost use Rattle.bitvec_slice.specs.BitSlice.{slice_memory, slice_bits};
     ghost use Rattle.bitvec_slice.specs.Iter.{iter_memory, iter_span, iter_left};
     ghost use Rattle.bitvec_slice.specs.Iter.{GivesBitsInOrder, GivesBitsInReverse};
 
@@ -161,10 +165,11 @@ impl<'a, R: BitRegister, O: BitOrder<R>> BitSlice<'a, R, O> {
         ensures runs { GivesBitsInOrder result }
         ensures runs_back { GivesBitsInReverse result }
     {
+        let head = self.head();
         Iter {
             slice: *self,
-            next: 0,
-            end: self.len(),
+            next: head,
+            end: head + self.len(),
         }
     }
 }
@@ -174,7 +179,7 @@ impl<'a, R: BitRegister, O: BitOrder<R>> IntoIterator for BitSlice<'a, R, O> {
 
     type IntoIter = Iter<'a, R, O>;
 
-    ghost use Rattle.bitvec_slice.specs.BitSlice.{slice_memory, slice_span, slice_bits};
+    ghost use Rattle.bitvec_slice.specs.BitSlice.{slice_memory, slice_bits};
     ghost use Rattle.bitvec_slice.specs.Iter.{iter_memory, iter_span, iter_left};
     ghost use Rattle.bitvec_slice.specs.Iter.{GivesBitsInOrder, GivesBitsInReverse};
 

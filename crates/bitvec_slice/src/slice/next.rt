@@ -28,6 +28,7 @@ impl<'a, R: BitRegister, O: BitOrder<R>> BitSlice<'a, R, O> {
     /// assert_eq!(rt; slice.previous_one(5), Some(3));
     /// assert_eq!(rt; slice.previous_one(2), None);
     /// ```
+    #[inline(always)]
     pub fn next_one(&self, from: usize) -> Option<usize>
         ensures { let xs = slice_bits self.now
             in MatchOption result (AllBetween false xs from (length xs))
@@ -39,6 +40,7 @@ impl<'a, R: BitRegister, O: BitOrder<R>> BitSlice<'a, R, O> {
     /// The index of the first bit that is zero, from index `from` on, and `None` where none is:
     /// also where there are no bits from `from` on. Costs as [`next_one`](BitSlice::next_one) does.
     /// Not in the Rust crate.
+    #[inline(always)]
     pub fn next_zero(&self, from: usize) -> Option<usize>
         ensures { let xs = slice_bits self.now
             in MatchOption result (AllBetween true xs from (length xs))

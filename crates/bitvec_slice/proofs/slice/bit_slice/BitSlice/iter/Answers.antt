@@ -1,5 +1,5 @@
-use Rattle.std.proofs.Common.{length, map, ap, arith}
-use Rattle.bitvec.specs.Span.{Span, list_of}
+use Rattle.std.proofs.Common.{◌≡◌, ◌+◌, ◌-◌, length, map, ap, subst, arith}
+use Rattle.bitvec.specs.Span.{Span, list_of, span_range}
 use Rattle.bitvec.proofs.PartLemmas.{length-list_of}
 use Rattle.bitvec_slice.specs.BitSlice.{slice_memory, slice_span}
 use Rattle.bitvec_slice.specs.Iter.{iter_left}
@@ -9,7 +9,13 @@ use Rattle.bitvec_slice.proofs.slice.bit_slice.BitSlice.iter.Goals as goal
 pub returns-clause-span : goal.returns-clause-span
 returns-clause-span g c =
     let slice = c.args.self.now in
-    range_whole g.R.BitRegister.BITS (slice_span slice) c.len.result (omega (arith, slice.span.in_word, g.met.R.BitRegister.width_at_least_8)) c.len.ensures.value
+    let span = slice_span slice in
+    let bits = g.R.BitRegister.BITS in
+    let start = c.head-head.result in
+    let to = start + c.len.result - span.head in
+    let none : 0 ≡ start - span.head = omega (arith, c.head-head.ensures) in
+    subst (λ n. span_range bits span n to ≡ span) none
+    (range_whole bits span to (omega (arith, slice.span.in_word, g.met.R.BitRegister.width_at_least_8)) (omega (arith, c.head-head.ensures, c.len.ensures.value)))
 
 pub returns-clause-rest : goal.returns-clause-rest
 returns-clause-rest g c = ap (λ (s : Span). list_of g.R.BitRegister.BITS g.O.BitAt.at_of s (map g.R.BitRegister.number (slice_memory c.args.self.now))) (returns-clause-span g c)

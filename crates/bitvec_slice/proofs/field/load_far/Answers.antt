@@ -5,7 +5,7 @@ use Rattle.bitvec.specs.Span.{element, list_of}
 use Rattle.bitvec.proofs.PartLemmas.{length-list_of}
 use Rattle.bitvec_slice.specs.Field.{IsPlacedPart}
 use Rattle.bitvec_slice.proofs.FieldLemmas.{one_word}
-use Rattle.bitvec_slice.proofs.field.load.Goals as goal
+use Rattle.bitvec_slice.proofs.field.load_far.Goals as goal
 
 pub returns-then-elements-eq1 : goal.returns-then-elements-eq1
 returns-then-elements-eq1 g c =
