@@ -8,7 +8,7 @@ ghost use Rattle.std.specs.List.{insert, filter};
 ghost use Rattle.bitvec.specs.Memory.{zip_with};
 ghost use Rattle.bitvec.specs.Truths.{ones_in};
 ghost use Rattle.bitvec_slice.specs.Field.{field_number};
-ghost use Rattle.bitvec_vec.specs.BitVec.{vec_bits};
+ghost use Rattle.bitvec_vec.specs.BitVec.{vec_bits, bit_capacity};
 
 use bitvec::mem::BitRegister;
 use bitvec::order::BitOrder;
@@ -132,6 +132,25 @@ pub fn one_number<R: BitRegister, O: BitOrder<R>, A: Allocator>(
     let mut set = BitVec::repeat(alloc, false, count)?;
     set.set(number, true);
     Ok(set)
+}
+
+/// Makes a vector longer, in one of five ways. Where memory is refused, its list and its room stay.
+pub fn made_longer<R: BitRegister, O: BitOrder<R>, A: Allocator>(
+    bits: &mut BitVec<R, O, A>,
+    more: &mut BitVec<R, O, A>,
+    values: &[bool],
+    way: u8,
+) -> Result<(), AllocError>
+    ensures list { OnErr result (vec_bits bits.new ≡ vec_bits bits.old) }
+    ensures room { OnErr result (bit_capacity bits.new ≡ bit_capacity bits.old) }
+{
+    match way {
+        0 => bits.resize(values.len(), false),
+        1 => bits.insert(0, true),
+        2 => bits.append(more),
+        3 => bits.extend_from_bitslice(more.as_bitslice()),
+        _ => bits.extend_from_bools(values),
+    }
 }
 
 /// The number that a vector's bits are, big-endian: they begin with the first bit of a word.

@@ -78,7 +78,8 @@ impl<O: BitOrder<usize>, const N: usize> BitArray<O, N> {
         requires { from + slice_len source ≤ array_len N }
         ensures { let xs = array_bits self.old in let to = from + slice_len source.entry
             in array_bits self.new
-            ≡ with_range xs from to (zip_with C.of (slice_range xs from to) (slice_bits source.entry)) }
+            ≡ with_range xs from to (zip_with C.of (slice_range xs from to)
+            (slice_bits source.entry)) }
     {
         combine_part::<C, O, N, R2, O2>(&mut self.words, from, source);
     }

@@ -49,7 +49,8 @@ impl<O: BitOrder<usize>, const N: usize> Hash for BitArray<O, N> {
 
     ghost hash_input = { λ it. fed.slice fed.bool (array_bits it) };
 
-    ghost respects_eq = { (on_Alike array_bits (items_Alike (same_Alike fed.bool booleans_Decides))).fed };
+    ghost respects_eq = { (on_Alike array_bits
+        (items_Alike (same_Alike fed.bool booleans_Decides))).fed };
 
     fn hash<H: Hasher>(&self, state: &mut H) {
         self.as_bitslice().hash(state);

@@ -75,9 +75,10 @@ impl<R: BitRegister, O: BitOrder<R>, A: Allocator> BitVec<R, O, A> {
 
     /// Puts truth values behind the bits, in their order.
     ///
-    /// Where memory is refused, the list is as it was. Costs by words: a word is made of as many
-    /// values as it has bits, and written once; those before the first whole word and behind the
-    /// last cost as [`push`](BitVec::push) does. In the Rust crate it is `extend` of an iterator.
+    /// Where memory is refused, the list and the room are as they were. Costs by words: a word is
+    /// made of as many values as it has bits, and written once; those before the first whole word
+    /// and behind the last cost as [`push`](BitVec::push) does. In the Rust crate it is `extend` of
+    /// an iterator.
     ///
     /// # Examples
     ///
@@ -92,6 +93,7 @@ impl<R: BitRegister, O: BitOrder<R>, A: Allocator> BitVec<R, O, A> {
         ensures capacity { bit_capacity self.old ≤ bit_capacity self.new }
         ensures full { OnErr result
             (bit_capacity self.old < length (vec_bits self.old) + length bits.now) }
+        ensures refused { OnErr result (bit_capacity self.new ≡ bit_capacity self.old) }
     {
         self.reserve(bits.len())?;
         let mut done = 0;

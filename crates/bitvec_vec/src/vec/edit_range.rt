@@ -85,7 +85,8 @@ impl<R: BitRegister, O: BitOrder<R>, A: Allocator> BitVec<R, O, A> {
         requires { from + slice_len source ≤ length (vec_bits self.old) }
         ensures bits { let xs = vec_bits self.old in let to = from + slice_len source.entry
             in vec_bits self.new
-            ≡ with_range xs from to (zip_with C.of (slice_range xs from to) (slice_bits source.entry)) }
+            ≡ with_range xs from to (zip_with C.of (slice_range xs from to)
+            (slice_bits source.entry)) }
         ensures capacity { bit_capacity self.new ≡ bit_capacity self.old }
     {
         combine_part::<C, R, O, R2, O2>(self.words.as_mut_slice(), self.len, from, source);

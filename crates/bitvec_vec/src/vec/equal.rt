@@ -67,7 +67,8 @@ impl<R: BitRegister, O: BitOrder<R>, A: Allocator> Hash for BitVec<R, O, A> {
 
     ghost hash_input = { λ it. fed.slice fed.bool (vec_bits it) };
 
-    ghost respects_eq = { (on_Alike vec_bits (items_Alike (same_Alike fed.bool booleans_Decides))).fed };
+    ghost respects_eq = { (on_Alike vec_bits
+        (items_Alike (same_Alike fed.bool booleans_Decides))).fed };
 
     fn hash<H: Hasher>(&self, state: &mut H) {
         self.as_bitslice().hash(state);

@@ -53,7 +53,8 @@ pub(crate) fn make_room<R: BitRegister, A: Allocator>(
     }
 }
 
-// Resizes the words to those that `to` bits take. The first `len` bits stay.
+// Resizes the words to those that `to` bits take. The first `len` bits stay. The room is taken
+// first, since it then stays too where memory is refused: `resize` alone does not say so.
 pub(crate) fn fit_words<R: BitRegister, A: Allocator>(
     words: &mut Vec<R, A>,
     len: usize,
@@ -67,6 +68,9 @@ pub(crate) fn fit_words<R: BitRegister, A: Allocator>(
         ≡ front_bits R.BITS at len (map R.number words.old.items) }
     ensures capacity { vec_capacity words.old ≤ vec_capacity words.new }
     ensures full { OnErr result (vec_capacity words.old * R.BITS < to) }
+    ensures refused { OnErr result (vec_capacity words.new ≡ vec_capacity words.old) }
 {
-    words.resize(words_of_bits::<R>(to), R::ZERO)
+    let count = words_of_bits::<R>(to);
+    words.reserve(count - words.len())?;
+    words.resize(count, R::ZERO)
 }

@@ -45,6 +45,7 @@ impl<R: BitRegister, O: BitOrder<R>, A: Allocator> BitVec<R, O, A> {
         ensures capacity { bit_capacity self.old ≤ bit_capacity self.new }
         ensures full { OnErr result
             (bit_capacity self.old < length (vec_bits self.old) + count) }
+        ensures refused { OnErr result (bit_capacity self.new ≡ bit_capacity self.old) }
     {
         if MOST - self.len < count {
             return Err(AllocError);
@@ -58,7 +59,8 @@ impl<R: BitRegister, O: BitOrder<R>, A: Allocator> BitVec<R, O, A> {
     /// Makes the length `len`: takes away the bits behind it, or puts copies of `bit` behind the
     /// others.
     ///
-    /// Where memory is refused, the list is as it was. Costs by the words that are new.
+    /// Where memory is refused, the list and the room are as they were. Costs by the words that are
+    /// new.
     ///
     /// # Examples
     ///
@@ -75,6 +77,7 @@ impl<R: BitRegister, O: BitOrder<R>, A: Allocator> BitVec<R, O, A> {
             ≡ (if is_ok result then take len xs ++ replicate (len - length xs) bit else xs) }
         ensures capacity { bit_capacity self.old ≤ bit_capacity self.new }
         ensures full { OnErr result (bit_capacity self.old < len) }
+        ensures refused { OnErr result (bit_capacity self.new ≡ bit_capacity self.old) }
     {
         let from = self.len;
         if len <= from {
@@ -88,8 +91,8 @@ impl<R: BitRegister, O: BitOrder<R>, A: Allocator> BitVec<R, O, A> {
 
     /// Puts the bits of a slice, of any register and order, behind the others.
     ///
-    /// Where memory is refused, the list is as it was. By words where the positions of both orders
-    /// rise or those of both fall, else by bits.
+    /// Where memory is refused, the list and the room are as they were. By words where the
+    /// positions of both orders rise or those of both fall, else by bits.
     ///
     /// # Examples
     ///
@@ -111,6 +114,7 @@ impl<R: BitRegister, O: BitOrder<R>, A: Allocator> BitVec<R, O, A> {
         ensures capacity { bit_capacity self.old ≤ bit_capacity self.new }
         ensures full { OnErr result (bit_capacity self.old
             < length (vec_bits self.old) + length (slice_bits slice.entry)) }
+        ensures refused { OnErr result (bit_capacity self.new ≡ bit_capacity self.old) }
     {
         let from = self.len;
         self.lengthen(slice.len())?;

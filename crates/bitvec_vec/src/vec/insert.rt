@@ -16,8 +16,8 @@ impl<R: BitRegister, O: BitOrder<R>, A: Allocator> BitVec<R, O, A> {
     /// Puts a bit before bit `i`, or behind all bits where `i` is the length. Requires that `i` is
     /// at most the length: [`len`](BitVec::len) is the test.
     ///
-    /// Where memory is refused, the list is as it was. Costs by the words of the bits behind where
-    /// the order's positions rise or fall, else by these bits.
+    /// Where memory is refused, the list and the room are as they were. Costs by the words of the
+    /// bits behind where the order's positions rise or fall, else by these bits.
     ///
     /// # Examples
     ///
@@ -35,6 +35,7 @@ impl<R: BitRegister, O: BitOrder<R>, A: Allocator> BitVec<R, O, A> {
             then insert (vec_bits self.old) i bit else vec_bits self.old) }
         ensures capacity { bit_capacity self.old ≤ bit_capacity self.new }
         ensures full { OnErr result (bit_capacity self.old ≤ length (vec_bits self.old)) }
+        ensures refused { OnErr result (bit_capacity self.new ≡ bit_capacity self.old) }
     {
         let len = self.len;
         self.lengthen(1)?;
@@ -98,7 +99,7 @@ impl<R: BitRegister, O: BitOrder<R>, A: Allocator> BitVec<R, O, A> {
     /// Puts the bits of another vector, of any register and order, behind the others, and leaves it
     /// with none.
     ///
-    /// Where memory is refused, both lists are as they were. Costs as
+    /// Where memory is refused, both lists and their room are as they were. Costs as
     /// [`extend_from_bitslice`](BitVec::extend_from_bitslice) does.
     ///
     /// # Examples
@@ -122,6 +123,7 @@ impl<R: BitRegister, O: BitOrder<R>, A: Allocator> BitVec<R, O, A> {
         ensures capacity { bit_capacity self.old ≤ bit_capacity self.new }
         ensures full { OnErr result (bit_capacity self.old
             < length (vec_bits self.old) + length (vec_bits other.old)) }
+        ensures refused { OnErr result (bit_capacity self.new ≡ bit_capacity self.old) }
     {
         self.extend_from_bitslice(other.as_bitslice())?;
         other.clear();

@@ -13,6 +13,9 @@ returns-in_err-lengthen-clause-bits g c =
 pub returns-in_err-lengthen-clause-full : goal.returns-in_err-lengthen-clause-full
 returns-in_err-lengthen-clause-full g c = on_err c.from_residual.result (omega (arith, c.in_err-lengthen.ensures.full, c.len.ensures.list))
 
+pub returns-in_err-lengthen-clause-refused : goal.returns-in_err-lengthen-clause-refused
+returns-in_err-lengthen-clause-refused g c = on_err c.from_residual.result c.in_err-lengthen.ensures.refused
+
 pub copy_from_range-requires : goal.copy_from_range-requires
 copy_from_range-requires g c =
     let width = g.R.BitRegister.BITS in

@@ -14,6 +14,9 @@ returns-in_err-lengthen-clause-bits g c =
 pub returns-in_err-lengthen-clause-full : goal.returns-in_err-lengthen-clause-full
 returns-in_err-lengthen-clause-full g c = on_err c.from_residual.result (omega (arith, c.in_err-lengthen.ensures.full))
 
+pub returns-in_err-lengthen-clause-refused : goal.returns-in_err-lengthen-clause-refused
+returns-in_err-lengthen-clause-refused g c = on_err c.from_residual.result c.in_err-lengthen.ensures.refused
+
 pub copy_within-requires-clause-ordered : goal.copy_within-requires-clause-ordered
 copy_within-requires-clause-ordered g c =
     let width = g.R.BitRegister.BITS in

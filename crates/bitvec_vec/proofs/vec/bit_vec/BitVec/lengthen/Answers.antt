@@ -1,5 +1,5 @@
-use Rattle.std.proofs.Common.{◌+◌, ◌∙◌, length, map, take, sym, ap, arith}
-use Rattle.std.specs.Prelude.{vec_capacity}
+use Rattle.std.proofs.Common.{◌+◌, ◌*◌, ◌∙◌, length, map, take, sym, ap, arith}
+use Rattle.std.specs.Prelude.{min, vec_capacity}
 use Rattle.std.proofs.lemmas.List.{take_all}
 use Rattle.bitvec.specs.Place.{region_max_bits}
 use Rattle.bitvec_vec.specs.BitVec.{vec_bits}
@@ -47,6 +47,10 @@ returns-in_err-fit_words-clause-full g c =
     let number = g.R.BitRegister.number in
     let vec = c.args.self.now in
     on_err c.from_residual.result (omega (arith, c.in_err-fit_words.ensures.full, length-front width at vec.len (map number vec.words.items)))
+
+pub returns-in_err-fit_words-clause-refused : goal.returns-in_err-fit_words-clause-refused
+returns-in_err-fit_words-clause-refused g c =
+    on_err c.from_residual.result (ap (λ n. min (n * g.R.BitRegister.BITS) region_max_bits) c.in_err-fit_words.ensures.refused)
 
 pub returns-clause-begins : goal.returns-clause-begins
 returns-clause-begins g c =

@@ -29,6 +29,9 @@ returns-in_err-lengthen-clause-full g c =
     let vec = c.args.self.now in
     on_err c.from_residual.result (omega (arith, c.in_err-lengthen.ensures.full, c.if-len-from.false, length-front width at vec.len (map number vec.words.items)))
 
+pub returns-in_err-lengthen-clause-refused : goal.returns-in_err-lengthen-clause-refused
+returns-in_err-lengthen-clause-refused g c = on_err c.from_residual.result c.in_err-lengthen.ensures.refused
+
 pub fill_range-requires-clause-inside : goal.fill_range-requires-clause-inside
 fill_range-requires-clause-inside g c =
     let width = g.R.BitRegister.BITS in
