@@ -219,9 +219,18 @@ class Maker:
             names, facts = self.records[name]
             if len(given) < len(names):
                 return (name, given)
-            there = dict(zip(names, given))
-            return [(label, self.filled(text, there)) for label, text in facts]
+            return self.facts_of(facts, dict(zip(names, given)))
         raise BadPromise(f"nothing says what `{name}` is")
+
+    def facts_of(self, facts, names):
+        """Returns what a record says, each with its label, where its parameters are these."""
+        made = []
+        for label, text in facts:
+            if label.startswith("let "):
+                names[label.removeprefix("let ")] = self.value(read_term(text), names)
+            else:
+                made.append((label, self.filled(text, names)))
+        return made
 
     # The words that promises, and what is said of the records, are made of.
 
@@ -365,7 +374,7 @@ def is_clear(clause):
 
 
 RECORD = re.compile(r"(?m)^([A-Z]\w*)((?: \w+)*)\n((?:    .*\n?)+)")
-FACT = re.compile(r"    (always )?(\w+): (.*)")
+FACT = re.compile(r"    (always |let )?(\w+): (.*)")
 
 
 def read_records(text):

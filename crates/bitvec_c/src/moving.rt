@@ -151,8 +151,8 @@ pub extern "C" fn bitvec_c_copy_u8_to_u8(
     source_start: usize,
     count: usize,
 ) -> u8
-    ensures { let at = u8_at order target_start in IsPut (u8_at source_order source_start
-        source.now) (at target.old) (at target.new) count result }
+    ensures { IsPut (u8_at source_order source_start source.now) (u8_at order) target_start
+        target.old target.new count result }
 {
     convert::<u8, u8>(
         source_order,
@@ -176,8 +176,8 @@ pub extern "C" fn bitvec_c_copy_u8_to_u16(
     source_start: usize,
     count: usize,
 ) -> u8
-    ensures { let at = u16_at order target_start in IsPut (u8_at source_order source_start
-        source.now) (at target.old) (at target.new) count result }
+    ensures { IsPut (u8_at source_order source_start source.now) (u16_at order) target_start
+        target.old target.new count result }
 {
     convert::<u8, u16>(
         source_order,
@@ -201,8 +201,8 @@ pub extern "C" fn bitvec_c_copy_u8_to_u32(
     source_start: usize,
     count: usize,
 ) -> u8
-    ensures { let at = u32_at order target_start in IsPut (u8_at source_order source_start
-        source.now) (at target.old) (at target.new) count result }
+    ensures { IsPut (u8_at source_order source_start source.now) (u32_at order) target_start
+        target.old target.new count result }
 {
     convert::<u8, u32>(
         source_order,
@@ -226,8 +226,8 @@ pub extern "C" fn bitvec_c_copy_u8_to_u64(
     source_start: usize,
     count: usize,
 ) -> u8
-    ensures { let at = u64_at order target_start in IsPut (u8_at source_order source_start
-        source.now) (at target.old) (at target.new) count result }
+    ensures { IsPut (u8_at source_order source_start source.now) (u64_at order) target_start
+        target.old target.new count result }
 {
     convert::<u8, u64>(
         source_order,
@@ -251,8 +251,8 @@ pub extern "C" fn bitvec_c_copy_u16_to_u8(
     source_start: usize,
     count: usize,
 ) -> u8
-    ensures { let at = u8_at order target_start in IsPut (u16_at source_order source_start
-        source.now) (at target.old) (at target.new) count result }
+    ensures { IsPut (u16_at source_order source_start source.now) (u8_at order) target_start
+        target.old target.new count result }
 {
     convert::<u16, u8>(
         source_order,
@@ -276,8 +276,8 @@ pub extern "C" fn bitvec_c_copy_u16_to_u16(
     source_start: usize,
     count: usize,
 ) -> u8
-    ensures { let at = u16_at order target_start in IsPut (u16_at source_order source_start
-        source.now) (at target.old) (at target.new) count result }
+    ensures { IsPut (u16_at source_order source_start source.now) (u16_at order) target_start
+        target.old target.new count result }
 {
     convert::<u16, u16>(
         source_order,
@@ -301,8 +301,8 @@ pub extern "C" fn bitvec_c_copy_u16_to_u32(
     source_start: usize,
     count: usize,
 ) -> u8
-    ensures { let at = u32_at order target_start in IsPut (u16_at source_order source_start
-        source.now) (at target.old) (at target.new) count result }
+    ensures { IsPut (u16_at source_order source_start source.now) (u32_at order) target_start
+        target.old target.new count result }
 {
     convert::<u16, u32>(
         source_order,
@@ -326,8 +326,8 @@ pub extern "C" fn bitvec_c_copy_u16_to_u64(
     source_start: usize,
     count: usize,
 ) -> u8
-    ensures { let at = u64_at order target_start in IsPut (u16_at source_order source_start
-        source.now) (at target.old) (at target.new) count result }
+    ensures { IsPut (u16_at source_order source_start source.now) (u64_at order) target_start
+        target.old target.new count result }
 {
     convert::<u16, u64>(
         source_order,
@@ -351,8 +351,8 @@ pub extern "C" fn bitvec_c_copy_u32_to_u8(
     source_start: usize,
     count: usize,
 ) -> u8
-    ensures { let at = u8_at order target_start in IsPut (u32_at source_order source_start
-        source.now) (at target.old) (at target.new) count result }
+    ensures { IsPut (u32_at source_order source_start source.now) (u8_at order) target_start
+        target.old target.new count result }
 {
     convert::<u32, u8>(
         source_order,
@@ -376,8 +376,8 @@ pub extern "C" fn bitvec_c_copy_u32_to_u16(
     source_start: usize,
     count: usize,
 ) -> u8
-    ensures { let at = u16_at order target_start in IsPut (u32_at source_order source_start
-        source.now) (at target.old) (at target.new) count result }
+    ensures { IsPut (u32_at source_order source_start source.now) (u16_at order) target_start
+        target.old target.new count result }
 {
     convert::<u32, u16>(
         source_order,
@@ -401,8 +401,8 @@ pub extern "C" fn bitvec_c_copy_u32_to_u32(
     source_start: usize,
     count: usize,
 ) -> u8
-    ensures { let at = u32_at order target_start in IsPut (u32_at source_order source_start
-        source.now) (at target.old) (at target.new) count result }
+    ensures { IsPut (u32_at source_order source_start source.now) (u32_at order) target_start
+        target.old target.new count result }
 {
     convert::<u32, u32>(
         source_order,
@@ -426,8 +426,8 @@ pub extern "C" fn bitvec_c_copy_u32_to_u64(
     source_start: usize,
     count: usize,
 ) -> u8
-    ensures { let at = u64_at order target_start in IsPut (u32_at source_order source_start
-        source.now) (at target.old) (at target.new) count result }
+    ensures { IsPut (u32_at source_order source_start source.now) (u64_at order) target_start
+        target.old target.new count result }
 {
     convert::<u32, u64>(
         source_order,
@@ -451,8 +451,8 @@ pub extern "C" fn bitvec_c_copy_u64_to_u8(
     source_start: usize,
     count: usize,
 ) -> u8
-    ensures { let at = u8_at order target_start in IsPut (u64_at source_order source_start
-        source.now) (at target.old) (at target.new) count result }
+    ensures { IsPut (u64_at source_order source_start source.now) (u8_at order) target_start
+        target.old target.new count result }
 {
     convert::<u64, u8>(
         source_order,
@@ -476,8 +476,8 @@ pub extern "C" fn bitvec_c_copy_u64_to_u16(
     source_start: usize,
     count: usize,
 ) -> u8
-    ensures { let at = u16_at order target_start in IsPut (u64_at source_order source_start
-        source.now) (at target.old) (at target.new) count result }
+    ensures { IsPut (u64_at source_order source_start source.now) (u16_at order) target_start
+        target.old target.new count result }
 {
     convert::<u64, u16>(
         source_order,
@@ -501,8 +501,8 @@ pub extern "C" fn bitvec_c_copy_u64_to_u32(
     source_start: usize,
     count: usize,
 ) -> u8
-    ensures { let at = u32_at order target_start in IsPut (u64_at source_order source_start
-        source.now) (at target.old) (at target.new) count result }
+    ensures { IsPut (u64_at source_order source_start source.now) (u32_at order) target_start
+        target.old target.new count result }
 {
     convert::<u64, u32>(
         source_order,
@@ -526,8 +526,8 @@ pub extern "C" fn bitvec_c_copy_u64_to_u64(
     source_start: usize,
     count: usize,
 ) -> u8
-    ensures { let at = u64_at order target_start in IsPut (u64_at source_order source_start
-        source.now) (at target.old) (at target.new) count result }
+    ensures { IsPut (u64_at source_order source_start source.now) (u64_at order) target_start
+        target.old target.new count result }
 {
     convert::<u64, u64>(
         source_order,

@@ -192,8 +192,8 @@ pub extern "C" fn bitvec_c_run_in_u8(
     replies: &mut [PlainReply],
     room: &mut [usize],
 ) -> u8
-    ensures run { let at = u8_at order 0 in IsRoomyRun (length room.old) spans.now (at memory.old)
-        (at memory.new) requests.now replies.old replies.new result }
+    ensures run { let at = u8_at order 0 in IsRoomyRun room.old spans.now (at memory.old) (at
+        memory.new) requests.now replies.old replies.new result }
     ensures room { IsRoomAfter 8 order spans.now (length memory.old) room.old room.new }
 {
     run_plain_in(order, spans, memory, requests, replies, room)
@@ -209,8 +209,8 @@ pub extern "C" fn bitvec_c_run_in_u16(
     replies: &mut [PlainReply],
     room: &mut [usize],
 ) -> u8
-    ensures run { let at = u16_at order 0 in IsRoomyRun (length room.old) spans.now (at memory.old)
-        (at memory.new) requests.now replies.old replies.new result }
+    ensures run { let at = u16_at order 0 in IsRoomyRun room.old spans.now (at memory.old) (at
+        memory.new) requests.now replies.old replies.new result }
     ensures room { IsRoomAfter 16 order spans.now (length memory.old) room.old room.new }
 {
     run_plain_in(order, spans, memory, requests, replies, room)
@@ -226,8 +226,8 @@ pub extern "C" fn bitvec_c_run_in_u32(
     replies: &mut [PlainReply],
     room: &mut [usize],
 ) -> u8
-    ensures run { let at = u32_at order 0 in IsRoomyRun (length room.old) spans.now (at memory.old)
-        (at memory.new) requests.now replies.old replies.new result }
+    ensures run { let at = u32_at order 0 in IsRoomyRun room.old spans.now (at memory.old) (at
+        memory.new) requests.now replies.old replies.new result }
     ensures room { IsRoomAfter 32 order spans.now (length memory.old) room.old room.new }
 {
     run_plain_in(order, spans, memory, requests, replies, room)
@@ -243,8 +243,8 @@ pub extern "C" fn bitvec_c_run_in_u64(
     replies: &mut [PlainReply],
     room: &mut [usize],
 ) -> u8
-    ensures run { let at = u64_at order 0 in IsRoomyRun (length room.old) spans.now (at memory.old)
-        (at memory.new) requests.now replies.old replies.new result }
+    ensures run { let at = u64_at order 0 in IsRoomyRun room.old spans.now (at memory.old) (at
+        memory.new) requests.now replies.old replies.new result }
     ensures room { IsRoomAfter 64 order spans.now (length memory.old) room.old room.new }
 {
     run_plain_in(order, spans, memory, requests, replies, room)

@@ -2,7 +2,7 @@
 
 ghost use Rattle.std.specs.Prelude.{◌≡◌, false, not};
 ghost use Rattle.bitvec_slice.specs.Bits.{BeginsWith};
-ghost use Rattle.bitvec_call.specs.Call.{u8_at, u16_at, u32_at, u64_at, IsAnswer};
+ghost use Rattle.bitvec_call.specs.Call.{u8_at, u16_at, u32_at, u64_at, IsAnswer, IsSearch};
 ghost use Rattle.bitvec_call.specs.Seek.{IsLastOr, IsNextOr, IsPreviousOr, IsFreeOr, IsFreeFromOr};
 
 use bitvec_call::find::first_one;
@@ -152,8 +152,8 @@ pub extern "C" fn bitvec_c_last_u8(
     bit: bool,
     index: &mut usize,
 ) -> u8
-    ensures { IsAnswer (u8_at order start memory.now) count (λ xs. IsLastOr bit xs count index.new)
-        (index.new ≡ index.old) result }
+    ensures { IsSearch (u8_at order start memory.now) count (IsLastOr bit) index.old index.new
+        result }
 {
     last(order, memory, start, count, bit, index)
 }
@@ -168,8 +168,8 @@ pub extern "C" fn bitvec_c_last_u16(
     bit: bool,
     index: &mut usize,
 ) -> u8
-    ensures { IsAnswer (u16_at order start memory.now) count (λ xs. IsLastOr bit xs count index.new)
-        (index.new ≡ index.old) result }
+    ensures { IsSearch (u16_at order start memory.now) count (IsLastOr bit) index.old index.new
+        result }
 {
     last(order, memory, start, count, bit, index)
 }
@@ -184,8 +184,8 @@ pub extern "C" fn bitvec_c_last_u32(
     bit: bool,
     index: &mut usize,
 ) -> u8
-    ensures { IsAnswer (u32_at order start memory.now) count (λ xs. IsLastOr bit xs count index.new)
-        (index.new ≡ index.old) result }
+    ensures { IsSearch (u32_at order start memory.now) count (IsLastOr bit) index.old index.new
+        result }
 {
     last(order, memory, start, count, bit, index)
 }
@@ -200,8 +200,8 @@ pub extern "C" fn bitvec_c_last_u64(
     bit: bool,
     index: &mut usize,
 ) -> u8
-    ensures { IsAnswer (u64_at order start memory.now) count (λ xs. IsLastOr bit xs count index.new)
-        (index.new ≡ index.old) result }
+    ensures { IsSearch (u64_at order start memory.now) count (IsLastOr bit) index.old index.new
+        result }
 {
     last(order, memory, start, count, bit, index)
 }
@@ -221,8 +221,8 @@ pub extern "C" fn bitvec_c_next_u8(
     bit: bool,
     index: &mut usize,
 ) -> u8
-    ensures { IsAnswer (u8_at order start memory.now) count (λ xs. IsNextOr bit from xs count
-        index.new) (index.new ≡ index.old) result }
+    ensures { IsSearch (u8_at order start memory.now) count (IsNextOr bit from) index.old index.new
+        result }
 {
     next(order, memory, start, count, from, bit, index)
 }
@@ -238,8 +238,8 @@ pub extern "C" fn bitvec_c_next_u16(
     bit: bool,
     index: &mut usize,
 ) -> u8
-    ensures { IsAnswer (u16_at order start memory.now) count (λ xs. IsNextOr bit from xs count
-        index.new) (index.new ≡ index.old) result }
+    ensures { IsSearch (u16_at order start memory.now) count (IsNextOr bit from) index.old index.new
+        result }
 {
     next(order, memory, start, count, from, bit, index)
 }
@@ -255,8 +255,8 @@ pub extern "C" fn bitvec_c_next_u32(
     bit: bool,
     index: &mut usize,
 ) -> u8
-    ensures { IsAnswer (u32_at order start memory.now) count (λ xs. IsNextOr bit from xs count
-        index.new) (index.new ≡ index.old) result }
+    ensures { IsSearch (u32_at order start memory.now) count (IsNextOr bit from) index.old index.new
+        result }
 {
     next(order, memory, start, count, from, bit, index)
 }
@@ -272,8 +272,8 @@ pub extern "C" fn bitvec_c_next_u64(
     bit: bool,
     index: &mut usize,
 ) -> u8
-    ensures { IsAnswer (u64_at order start memory.now) count (λ xs. IsNextOr bit from xs count
-        index.new) (index.new ≡ index.old) result }
+    ensures { IsSearch (u64_at order start memory.now) count (IsNextOr bit from) index.old index.new
+        result }
 {
     next(order, memory, start, count, from, bit, index)
 }
@@ -293,8 +293,8 @@ pub extern "C" fn bitvec_c_previous_u8(
     bit: bool,
     index: &mut usize,
 ) -> u8
-    ensures { IsAnswer (u8_at order start memory.now) count (λ xs. IsPreviousOr bit before xs count
-        index.new) (index.new ≡ index.old) result }
+    ensures { IsSearch (u8_at order start memory.now) count (IsPreviousOr bit before) index.old
+        index.new result }
 {
     previous(order, memory, start, count, before, bit, index)
 }
@@ -310,8 +310,8 @@ pub extern "C" fn bitvec_c_previous_u16(
     bit: bool,
     index: &mut usize,
 ) -> u8
-    ensures { IsAnswer (u16_at order start memory.now) count (λ xs. IsPreviousOr bit before xs count
-        index.new) (index.new ≡ index.old) result }
+    ensures { IsSearch (u16_at order start memory.now) count (IsPreviousOr bit before) index.old
+        index.new result }
 {
     previous(order, memory, start, count, before, bit, index)
 }
@@ -327,8 +327,8 @@ pub extern "C" fn bitvec_c_previous_u32(
     bit: bool,
     index: &mut usize,
 ) -> u8
-    ensures { IsAnswer (u32_at order start memory.now) count (λ xs. IsPreviousOr bit before xs count
-        index.new) (index.new ≡ index.old) result }
+    ensures { IsSearch (u32_at order start memory.now) count (IsPreviousOr bit before) index.old
+        index.new result }
 {
     previous(order, memory, start, count, before, bit, index)
 }
@@ -344,8 +344,8 @@ pub extern "C" fn bitvec_c_previous_u64(
     bit: bool,
     index: &mut usize,
 ) -> u8
-    ensures { IsAnswer (u64_at order start memory.now) count (λ xs. IsPreviousOr bit before xs count
-        index.new) (index.new ≡ index.old) result }
+    ensures { IsSearch (u64_at order start memory.now) count (IsPreviousOr bit before) index.old
+        index.new result }
 {
     previous(order, memory, start, count, before, bit, index)
 }
@@ -364,8 +364,8 @@ pub extern "C" fn bitvec_c_find_zeros_u8(
     zeros: usize,
     index: &mut usize,
 ) -> u8
-    ensures { IsAnswer (u8_at order start memory.now) count (λ xs. IsFreeOr zeros xs count
-        index.new) (index.new ≡ index.old) result }
+    ensures { IsSearch (u8_at order start memory.now) count (IsFreeOr zeros) index.old index.new
+        result }
 {
     find_zeros(order, memory, start, count, zeros, index)
 }
@@ -380,8 +380,8 @@ pub extern "C" fn bitvec_c_find_zeros_u16(
     zeros: usize,
     index: &mut usize,
 ) -> u8
-    ensures { IsAnswer (u16_at order start memory.now) count (λ xs. IsFreeOr zeros xs count
-        index.new) (index.new ≡ index.old) result }
+    ensures { IsSearch (u16_at order start memory.now) count (IsFreeOr zeros) index.old index.new
+        result }
 {
     find_zeros(order, memory, start, count, zeros, index)
 }
@@ -396,8 +396,8 @@ pub extern "C" fn bitvec_c_find_zeros_u32(
     zeros: usize,
     index: &mut usize,
 ) -> u8
-    ensures { IsAnswer (u32_at order start memory.now) count (λ xs. IsFreeOr zeros xs count
-        index.new) (index.new ≡ index.old) result }
+    ensures { IsSearch (u32_at order start memory.now) count (IsFreeOr zeros) index.old index.new
+        result }
 {
     find_zeros(order, memory, start, count, zeros, index)
 }
@@ -412,8 +412,8 @@ pub extern "C" fn bitvec_c_find_zeros_u64(
     zeros: usize,
     index: &mut usize,
 ) -> u8
-    ensures { IsAnswer (u64_at order start memory.now) count (λ xs. IsFreeOr zeros xs count
-        index.new) (index.new ≡ index.old) result }
+    ensures { IsSearch (u64_at order start memory.now) count (IsFreeOr zeros) index.old index.new
+        result }
 {
     find_zeros(order, memory, start, count, zeros, index)
 }
@@ -435,8 +435,8 @@ pub extern "C" fn bitvec_c_find_zeros_from_u8(
     multiple_of: usize,
     index: &mut usize,
 ) -> u8
-    ensures { IsAnswer (u8_at order start memory.now) count (λ xs. IsFreeFromOr from zeros
-        multiple_of xs count index.new) (index.new ≡ index.old) result }
+    ensures { IsSearch (u8_at order start memory.now) count (IsFreeFromOr from zeros multiple_of)
+        index.old index.new result }
 {
     find_zeros_from(order, memory, start, count, from, zeros, multiple_of, index)
 }
@@ -453,8 +453,8 @@ pub extern "C" fn bitvec_c_find_zeros_from_u16(
     multiple_of: usize,
     index: &mut usize,
 ) -> u8
-    ensures { IsAnswer (u16_at order start memory.now) count (λ xs. IsFreeFromOr from zeros
-        multiple_of xs count index.new) (index.new ≡ index.old) result }
+    ensures { IsSearch (u16_at order start memory.now) count (IsFreeFromOr from zeros multiple_of)
+        index.old index.new result }
 {
     find_zeros_from(order, memory, start, count, from, zeros, multiple_of, index)
 }
@@ -471,8 +471,8 @@ pub extern "C" fn bitvec_c_find_zeros_from_u32(
     multiple_of: usize,
     index: &mut usize,
 ) -> u8
-    ensures { IsAnswer (u32_at order start memory.now) count (λ xs. IsFreeFromOr from zeros
-        multiple_of xs count index.new) (index.new ≡ index.old) result }
+    ensures { IsSearch (u32_at order start memory.now) count (IsFreeFromOr from zeros multiple_of)
+        index.old index.new result }
 {
     find_zeros_from(order, memory, start, count, from, zeros, multiple_of, index)
 }
@@ -489,8 +489,8 @@ pub extern "C" fn bitvec_c_find_zeros_from_u64(
     multiple_of: usize,
     index: &mut usize,
 ) -> u8
-    ensures { IsAnswer (u64_at order start memory.now) count (λ xs. IsFreeFromOr from zeros
-        multiple_of xs count index.new) (index.new ≡ index.old) result }
+    ensures { IsSearch (u64_at order start memory.now) count (IsFreeFromOr from zeros multiple_of)
+        index.old index.new result }
 {
     find_zeros_from(order, memory, start, count, from, zeros, multiple_of, index)
 }

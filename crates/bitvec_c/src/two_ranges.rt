@@ -24,8 +24,8 @@ pub extern "C" fn bitvec_c_and_u8(
     source_start: usize,
     count: usize,
 ) -> u8
-    ensures { let at = u8_at order target_start in IsCombination both (u8_at source_order
-        source_start source.now) (at target.old) (at target.new) count result }
+    ensures { IsCombination both (u8_at source_order source_start source.now) (u8_at order)
+        target_start target.old target.new count result }
 {
     combine::<And, u8, u8>(
         source_order,
@@ -49,8 +49,8 @@ pub extern "C" fn bitvec_c_and_u16(
     source_start: usize,
     count: usize,
 ) -> u8
-    ensures { let at = u16_at order target_start in IsCombination both (u16_at source_order
-        source_start source.now) (at target.old) (at target.new) count result }
+    ensures { IsCombination both (u16_at source_order source_start source.now) (u16_at order)
+        target_start target.old target.new count result }
 {
     combine::<And, u16, u16>(
         source_order,
@@ -74,8 +74,8 @@ pub extern "C" fn bitvec_c_and_u32(
     source_start: usize,
     count: usize,
 ) -> u8
-    ensures { let at = u32_at order target_start in IsCombination both (u32_at source_order
-        source_start source.now) (at target.old) (at target.new) count result }
+    ensures { IsCombination both (u32_at source_order source_start source.now) (u32_at order)
+        target_start target.old target.new count result }
 {
     combine::<And, u32, u32>(
         source_order,
@@ -99,8 +99,8 @@ pub extern "C" fn bitvec_c_and_u64(
     source_start: usize,
     count: usize,
 ) -> u8
-    ensures { let at = u64_at order target_start in IsCombination both (u64_at source_order
-        source_start source.now) (at target.old) (at target.new) count result }
+    ensures { IsCombination both (u64_at source_order source_start source.now) (u64_at order)
+        target_start target.old target.new count result }
 {
     combine::<And, u64, u64>(
         source_order,
@@ -127,8 +127,8 @@ pub extern "C" fn bitvec_c_or_u8(
     source_start: usize,
     count: usize,
 ) -> u8
-    ensures { let at = u8_at order target_start in IsCombination either (u8_at source_order
-        source_start source.now) (at target.old) (at target.new) count result }
+    ensures { IsCombination either (u8_at source_order source_start source.now) (u8_at order)
+        target_start target.old target.new count result }
 {
     combine::<Or, u8, u8>(
         source_order,
@@ -152,8 +152,8 @@ pub extern "C" fn bitvec_c_or_u16(
     source_start: usize,
     count: usize,
 ) -> u8
-    ensures { let at = u16_at order target_start in IsCombination either (u16_at source_order
-        source_start source.now) (at target.old) (at target.new) count result }
+    ensures { IsCombination either (u16_at source_order source_start source.now) (u16_at order)
+        target_start target.old target.new count result }
 {
     combine::<Or, u16, u16>(
         source_order,
@@ -177,8 +177,8 @@ pub extern "C" fn bitvec_c_or_u32(
     source_start: usize,
     count: usize,
 ) -> u8
-    ensures { let at = u32_at order target_start in IsCombination either (u32_at source_order
-        source_start source.now) (at target.old) (at target.new) count result }
+    ensures { IsCombination either (u32_at source_order source_start source.now) (u32_at order)
+        target_start target.old target.new count result }
 {
     combine::<Or, u32, u32>(
         source_order,
@@ -202,8 +202,8 @@ pub extern "C" fn bitvec_c_or_u64(
     source_start: usize,
     count: usize,
 ) -> u8
-    ensures { let at = u64_at order target_start in IsCombination either (u64_at source_order
-        source_start source.now) (at target.old) (at target.new) count result }
+    ensures { IsCombination either (u64_at source_order source_start source.now) (u64_at order)
+        target_start target.old target.new count result }
 {
     combine::<Or, u64, u64>(
         source_order,
@@ -230,8 +230,8 @@ pub extern "C" fn bitvec_c_xor_u8(
     source_start: usize,
     count: usize,
 ) -> u8
-    ensures { let at = u8_at order target_start in IsCombination differ (u8_at source_order
-        source_start source.now) (at target.old) (at target.new) count result }
+    ensures { IsCombination differ (u8_at source_order source_start source.now) (u8_at order)
+        target_start target.old target.new count result }
 {
     combine::<Xor, u8, u8>(
         source_order,
@@ -255,8 +255,8 @@ pub extern "C" fn bitvec_c_xor_u16(
     source_start: usize,
     count: usize,
 ) -> u8
-    ensures { let at = u16_at order target_start in IsCombination differ (u16_at source_order
-        source_start source.now) (at target.old) (at target.new) count result }
+    ensures { IsCombination differ (u16_at source_order source_start source.now) (u16_at order)
+        target_start target.old target.new count result }
 {
     combine::<Xor, u16, u16>(
         source_order,
@@ -280,8 +280,8 @@ pub extern "C" fn bitvec_c_xor_u32(
     source_start: usize,
     count: usize,
 ) -> u8
-    ensures { let at = u32_at order target_start in IsCombination differ (u32_at source_order
-        source_start source.now) (at target.old) (at target.new) count result }
+    ensures { IsCombination differ (u32_at source_order source_start source.now) (u32_at order)
+        target_start target.old target.new count result }
 {
     combine::<Xor, u32, u32>(
         source_order,
@@ -305,8 +305,8 @@ pub extern "C" fn bitvec_c_xor_u64(
     source_start: usize,
     count: usize,
 ) -> u8
-    ensures { let at = u64_at order target_start in IsCombination differ (u64_at source_order
-        source_start source.now) (at target.old) (at target.new) count result }
+    ensures { IsCombination differ (u64_at source_order source_start source.now) (u64_at order)
+        target_start target.old target.new count result }
 {
     combine::<Xor, u64, u64>(
         source_order,
@@ -333,8 +333,8 @@ pub extern "C" fn bitvec_c_and_not_u8(
     source_start: usize,
     count: usize,
 ) -> u8
-    ensures { let at = u8_at order target_start in IsCombination but_not (u8_at source_order
-        source_start source.now) (at target.old) (at target.new) count result }
+    ensures { IsCombination but_not (u8_at source_order source_start source.now) (u8_at order)
+        target_start target.old target.new count result }
 {
     combine::<AndNot, u8, u8>(
         source_order,
@@ -358,8 +358,8 @@ pub extern "C" fn bitvec_c_and_not_u16(
     source_start: usize,
     count: usize,
 ) -> u8
-    ensures { let at = u16_at order target_start in IsCombination but_not (u16_at source_order
-        source_start source.now) (at target.old) (at target.new) count result }
+    ensures { IsCombination but_not (u16_at source_order source_start source.now) (u16_at order)
+        target_start target.old target.new count result }
 {
     combine::<AndNot, u16, u16>(
         source_order,
@@ -383,8 +383,8 @@ pub extern "C" fn bitvec_c_and_not_u32(
     source_start: usize,
     count: usize,
 ) -> u8
-    ensures { let at = u32_at order target_start in IsCombination but_not (u32_at source_order
-        source_start source.now) (at target.old) (at target.new) count result }
+    ensures { IsCombination but_not (u32_at source_order source_start source.now) (u32_at order)
+        target_start target.old target.new count result }
 {
     combine::<AndNot, u32, u32>(
         source_order,
@@ -408,8 +408,8 @@ pub extern "C" fn bitvec_c_and_not_u64(
     source_start: usize,
     count: usize,
 ) -> u8
-    ensures { let at = u64_at order target_start in IsCombination but_not (u64_at source_order
-        source_start source.now) (at target.old) (at target.new) count result }
+    ensures { IsCombination but_not (u64_at source_order source_start source.now) (u64_at order)
+        target_start target.old target.new count result }
 {
     combine::<AndNot, u64, u64>(
         source_order,
@@ -434,8 +434,8 @@ pub extern "C" fn bitvec_c_and_within_u8(
     source_start: usize,
     count: usize,
 ) -> u8
-    ensures { let at = u8_at order in IsCombinationWithin both (at source_start memory.old) (at
-        target_start memory.old) (at target_start memory.new) count result }
+    ensures { IsCombinationWithin both (u8_at order) source_start target_start memory.old memory.new
+        count result }
 {
     combine_within::<And, u8>(order, memory, source_start, target_start, count)
 }
@@ -449,8 +449,8 @@ pub extern "C" fn bitvec_c_and_within_u16(
     source_start: usize,
     count: usize,
 ) -> u8
-    ensures { let at = u16_at order in IsCombinationWithin both (at source_start memory.old) (at
-        target_start memory.old) (at target_start memory.new) count result }
+    ensures { IsCombinationWithin both (u16_at order) source_start target_start memory.old
+        memory.new count result }
 {
     combine_within::<And, u16>(order, memory, source_start, target_start, count)
 }
@@ -464,8 +464,8 @@ pub extern "C" fn bitvec_c_and_within_u32(
     source_start: usize,
     count: usize,
 ) -> u8
-    ensures { let at = u32_at order in IsCombinationWithin both (at source_start memory.old) (at
-        target_start memory.old) (at target_start memory.new) count result }
+    ensures { IsCombinationWithin both (u32_at order) source_start target_start memory.old
+        memory.new count result }
 {
     combine_within::<And, u32>(order, memory, source_start, target_start, count)
 }
@@ -479,8 +479,8 @@ pub extern "C" fn bitvec_c_and_within_u64(
     source_start: usize,
     count: usize,
 ) -> u8
-    ensures { let at = u64_at order in IsCombinationWithin both (at source_start memory.old) (at
-        target_start memory.old) (at target_start memory.new) count result }
+    ensures { IsCombinationWithin both (u64_at order) source_start target_start memory.old
+        memory.new count result }
 {
     combine_within::<And, u64>(order, memory, source_start, target_start, count)
 }
@@ -497,8 +497,8 @@ pub extern "C" fn bitvec_c_or_within_u8(
     source_start: usize,
     count: usize,
 ) -> u8
-    ensures { let at = u8_at order in IsCombinationWithin either (at source_start memory.old) (at
-        target_start memory.old) (at target_start memory.new) count result }
+    ensures { IsCombinationWithin either (u8_at order) source_start target_start memory.old
+        memory.new count result }
 {
     combine_within::<Or, u8>(order, memory, source_start, target_start, count)
 }
@@ -512,8 +512,8 @@ pub extern "C" fn bitvec_c_or_within_u16(
     source_start: usize,
     count: usize,
 ) -> u8
-    ensures { let at = u16_at order in IsCombinationWithin either (at source_start memory.old) (at
-        target_start memory.old) (at target_start memory.new) count result }
+    ensures { IsCombinationWithin either (u16_at order) source_start target_start memory.old
+        memory.new count result }
 {
     combine_within::<Or, u16>(order, memory, source_start, target_start, count)
 }
@@ -527,8 +527,8 @@ pub extern "C" fn bitvec_c_or_within_u32(
     source_start: usize,
     count: usize,
 ) -> u8
-    ensures { let at = u32_at order in IsCombinationWithin either (at source_start memory.old) (at
-        target_start memory.old) (at target_start memory.new) count result }
+    ensures { IsCombinationWithin either (u32_at order) source_start target_start memory.old
+        memory.new count result }
 {
     combine_within::<Or, u32>(order, memory, source_start, target_start, count)
 }
@@ -542,8 +542,8 @@ pub extern "C" fn bitvec_c_or_within_u64(
     source_start: usize,
     count: usize,
 ) -> u8
-    ensures { let at = u64_at order in IsCombinationWithin either (at source_start memory.old) (at
-        target_start memory.old) (at target_start memory.new) count result }
+    ensures { IsCombinationWithin either (u64_at order) source_start target_start memory.old
+        memory.new count result }
 {
     combine_within::<Or, u64>(order, memory, source_start, target_start, count)
 }
@@ -560,8 +560,8 @@ pub extern "C" fn bitvec_c_xor_within_u8(
     source_start: usize,
     count: usize,
 ) -> u8
-    ensures { let at = u8_at order in IsCombinationWithin differ (at source_start memory.old) (at
-        target_start memory.old) (at target_start memory.new) count result }
+    ensures { IsCombinationWithin differ (u8_at order) source_start target_start memory.old
+        memory.new count result }
 {
     combine_within::<Xor, u8>(order, memory, source_start, target_start, count)
 }
@@ -575,8 +575,8 @@ pub extern "C" fn bitvec_c_xor_within_u16(
     source_start: usize,
     count: usize,
 ) -> u8
-    ensures { let at = u16_at order in IsCombinationWithin differ (at source_start memory.old) (at
-        target_start memory.old) (at target_start memory.new) count result }
+    ensures { IsCombinationWithin differ (u16_at order) source_start target_start memory.old
+        memory.new count result }
 {
     combine_within::<Xor, u16>(order, memory, source_start, target_start, count)
 }
@@ -590,8 +590,8 @@ pub extern "C" fn bitvec_c_xor_within_u32(
     source_start: usize,
     count: usize,
 ) -> u8
-    ensures { let at = u32_at order in IsCombinationWithin differ (at source_start memory.old) (at
-        target_start memory.old) (at target_start memory.new) count result }
+    ensures { IsCombinationWithin differ (u32_at order) source_start target_start memory.old
+        memory.new count result }
 {
     combine_within::<Xor, u32>(order, memory, source_start, target_start, count)
 }
@@ -605,8 +605,8 @@ pub extern "C" fn bitvec_c_xor_within_u64(
     source_start: usize,
     count: usize,
 ) -> u8
-    ensures { let at = u64_at order in IsCombinationWithin differ (at source_start memory.old) (at
-        target_start memory.old) (at target_start memory.new) count result }
+    ensures { IsCombinationWithin differ (u64_at order) source_start target_start memory.old
+        memory.new count result }
 {
     combine_within::<Xor, u64>(order, memory, source_start, target_start, count)
 }
@@ -623,8 +623,8 @@ pub extern "C" fn bitvec_c_and_not_within_u8(
     source_start: usize,
     count: usize,
 ) -> u8
-    ensures { let at = u8_at order in IsCombinationWithin but_not (at source_start memory.old) (at
-        target_start memory.old) (at target_start memory.new) count result }
+    ensures { IsCombinationWithin but_not (u8_at order) source_start target_start memory.old
+        memory.new count result }
 {
     combine_within::<AndNot, u8>(order, memory, source_start, target_start, count)
 }
@@ -638,8 +638,8 @@ pub extern "C" fn bitvec_c_and_not_within_u16(
     source_start: usize,
     count: usize,
 ) -> u8
-    ensures { let at = u16_at order in IsCombinationWithin but_not (at source_start memory.old) (at
-        target_start memory.old) (at target_start memory.new) count result }
+    ensures { IsCombinationWithin but_not (u16_at order) source_start target_start memory.old
+        memory.new count result }
 {
     combine_within::<AndNot, u16>(order, memory, source_start, target_start, count)
 }
@@ -653,8 +653,8 @@ pub extern "C" fn bitvec_c_and_not_within_u32(
     source_start: usize,
     count: usize,
 ) -> u8
-    ensures { let at = u32_at order in IsCombinationWithin but_not (at source_start memory.old) (at
-        target_start memory.old) (at target_start memory.new) count result }
+    ensures { IsCombinationWithin but_not (u32_at order) source_start target_start memory.old
+        memory.new count result }
 {
     combine_within::<AndNot, u32>(order, memory, source_start, target_start, count)
 }
@@ -668,8 +668,8 @@ pub extern "C" fn bitvec_c_and_not_within_u64(
     source_start: usize,
     count: usize,
 ) -> u8
-    ensures { let at = u64_at order in IsCombinationWithin but_not (at source_start memory.old) (at
-        target_start memory.old) (at target_start memory.new) count result }
+    ensures { IsCombinationWithin but_not (u64_at order) source_start target_start memory.old
+        memory.new count result }
 {
     combine_within::<AndNot, u64>(order, memory, source_start, target_start, count)
 }
@@ -689,9 +689,8 @@ pub extern "C" fn bitvec_c_and_of_u8(
     second_start: usize,
     count: usize,
 ) -> u8
-    ensures { let at = u8_at order in IsCombinationOf both (at first_start first.now) (at
-        second_start second.now) (at target_start target.old) (at target_start target.new) count
-        result }
+    ensures { IsCombinationOf both (u8_at order) first_start first.now second_start second.now
+        target_start target.old target.new count result }
 {
     combine_of::<And, u8>(
         order,
@@ -717,9 +716,8 @@ pub extern "C" fn bitvec_c_and_of_u16(
     second_start: usize,
     count: usize,
 ) -> u8
-    ensures { let at = u16_at order in IsCombinationOf both (at first_start first.now) (at
-        second_start second.now) (at target_start target.old) (at target_start target.new) count
-        result }
+    ensures { IsCombinationOf both (u16_at order) first_start first.now second_start second.now
+        target_start target.old target.new count result }
 {
     combine_of::<And, u16>(
         order,
@@ -745,9 +743,8 @@ pub extern "C" fn bitvec_c_and_of_u32(
     second_start: usize,
     count: usize,
 ) -> u8
-    ensures { let at = u32_at order in IsCombinationOf both (at first_start first.now) (at
-        second_start second.now) (at target_start target.old) (at target_start target.new) count
-        result }
+    ensures { IsCombinationOf both (u32_at order) first_start first.now second_start second.now
+        target_start target.old target.new count result }
 {
     combine_of::<And, u32>(
         order,
@@ -773,9 +770,8 @@ pub extern "C" fn bitvec_c_and_of_u64(
     second_start: usize,
     count: usize,
 ) -> u8
-    ensures { let at = u64_at order in IsCombinationOf both (at first_start first.now) (at
-        second_start second.now) (at target_start target.old) (at target_start target.new) count
-        result }
+    ensures { IsCombinationOf both (u64_at order) first_start first.now second_start second.now
+        target_start target.old target.new count result }
 {
     combine_of::<And, u64>(
         order,
@@ -804,9 +800,8 @@ pub extern "C" fn bitvec_c_or_of_u8(
     second_start: usize,
     count: usize,
 ) -> u8
-    ensures { let at = u8_at order in IsCombinationOf either (at first_start first.now) (at
-        second_start second.now) (at target_start target.old) (at target_start target.new) count
-        result }
+    ensures { IsCombinationOf either (u8_at order) first_start first.now second_start second.now
+        target_start target.old target.new count result }
 {
     combine_of::<Or, u8>(
         order,
@@ -832,9 +827,8 @@ pub extern "C" fn bitvec_c_or_of_u16(
     second_start: usize,
     count: usize,
 ) -> u8
-    ensures { let at = u16_at order in IsCombinationOf either (at first_start first.now) (at
-        second_start second.now) (at target_start target.old) (at target_start target.new) count
-        result }
+    ensures { IsCombinationOf either (u16_at order) first_start first.now second_start second.now
+        target_start target.old target.new count result }
 {
     combine_of::<Or, u16>(
         order,
@@ -860,9 +854,8 @@ pub extern "C" fn bitvec_c_or_of_u32(
     second_start: usize,
     count: usize,
 ) -> u8
-    ensures { let at = u32_at order in IsCombinationOf either (at first_start first.now) (at
-        second_start second.now) (at target_start target.old) (at target_start target.new) count
-        result }
+    ensures { IsCombinationOf either (u32_at order) first_start first.now second_start second.now
+        target_start target.old target.new count result }
 {
     combine_of::<Or, u32>(
         order,
@@ -888,9 +881,8 @@ pub extern "C" fn bitvec_c_or_of_u64(
     second_start: usize,
     count: usize,
 ) -> u8
-    ensures { let at = u64_at order in IsCombinationOf either (at first_start first.now) (at
-        second_start second.now) (at target_start target.old) (at target_start target.new) count
-        result }
+    ensures { IsCombinationOf either (u64_at order) first_start first.now second_start second.now
+        target_start target.old target.new count result }
 {
     combine_of::<Or, u64>(
         order,
@@ -919,9 +911,8 @@ pub extern "C" fn bitvec_c_xor_of_u8(
     second_start: usize,
     count: usize,
 ) -> u8
-    ensures { let at = u8_at order in IsCombinationOf differ (at first_start first.now) (at
-        second_start second.now) (at target_start target.old) (at target_start target.new) count
-        result }
+    ensures { IsCombinationOf differ (u8_at order) first_start first.now second_start second.now
+        target_start target.old target.new count result }
 {
     combine_of::<Xor, u8>(
         order,
@@ -947,9 +938,8 @@ pub extern "C" fn bitvec_c_xor_of_u16(
     second_start: usize,
     count: usize,
 ) -> u8
-    ensures { let at = u16_at order in IsCombinationOf differ (at first_start first.now) (at
-        second_start second.now) (at target_start target.old) (at target_start target.new) count
-        result }
+    ensures { IsCombinationOf differ (u16_at order) first_start first.now second_start second.now
+        target_start target.old target.new count result }
 {
     combine_of::<Xor, u16>(
         order,
@@ -975,9 +965,8 @@ pub extern "C" fn bitvec_c_xor_of_u32(
     second_start: usize,
     count: usize,
 ) -> u8
-    ensures { let at = u32_at order in IsCombinationOf differ (at first_start first.now) (at
-        second_start second.now) (at target_start target.old) (at target_start target.new) count
-        result }
+    ensures { IsCombinationOf differ (u32_at order) first_start first.now second_start second.now
+        target_start target.old target.new count result }
 {
     combine_of::<Xor, u32>(
         order,
@@ -1003,9 +992,8 @@ pub extern "C" fn bitvec_c_xor_of_u64(
     second_start: usize,
     count: usize,
 ) -> u8
-    ensures { let at = u64_at order in IsCombinationOf differ (at first_start first.now) (at
-        second_start second.now) (at target_start target.old) (at target_start target.new) count
-        result }
+    ensures { IsCombinationOf differ (u64_at order) first_start first.now second_start second.now
+        target_start target.old target.new count result }
 {
     combine_of::<Xor, u64>(
         order,
@@ -1034,9 +1022,8 @@ pub extern "C" fn bitvec_c_and_not_of_u8(
     second_start: usize,
     count: usize,
 ) -> u8
-    ensures { let at = u8_at order in IsCombinationOf but_not (at first_start first.now) (at
-        second_start second.now) (at target_start target.old) (at target_start target.new) count
-        result }
+    ensures { IsCombinationOf but_not (u8_at order) first_start first.now second_start second.now
+        target_start target.old target.new count result }
 {
     combine_of::<AndNot, u8>(
         order,
@@ -1062,9 +1049,8 @@ pub extern "C" fn bitvec_c_and_not_of_u16(
     second_start: usize,
     count: usize,
 ) -> u8
-    ensures { let at = u16_at order in IsCombinationOf but_not (at first_start first.now) (at
-        second_start second.now) (at target_start target.old) (at target_start target.new) count
-        result }
+    ensures { IsCombinationOf but_not (u16_at order) first_start first.now second_start second.now
+        target_start target.old target.new count result }
 {
     combine_of::<AndNot, u16>(
         order,
@@ -1090,9 +1076,8 @@ pub extern "C" fn bitvec_c_and_not_of_u32(
     second_start: usize,
     count: usize,
 ) -> u8
-    ensures { let at = u32_at order in IsCombinationOf but_not (at first_start first.now) (at
-        second_start second.now) (at target_start target.old) (at target_start target.new) count
-        result }
+    ensures { IsCombinationOf but_not (u32_at order) first_start first.now second_start second.now
+        target_start target.old target.new count result }
 {
     combine_of::<AndNot, u32>(
         order,
@@ -1118,9 +1103,8 @@ pub extern "C" fn bitvec_c_and_not_of_u64(
     second_start: usize,
     count: usize,
 ) -> u8
-    ensures { let at = u64_at order in IsCombinationOf but_not (at first_start first.now) (at
-        second_start second.now) (at target_start target.old) (at target_start target.new) count
-        result }
+    ensures { IsCombinationOf but_not (u64_at order) first_start first.now second_start second.now
+        target_start target.old target.new count result }
 {
     combine_of::<AndNot, u64>(
         order,

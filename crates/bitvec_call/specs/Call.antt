@@ -1,13 +1,12 @@
 -- What a call promises, and the operands that calls speak of: bits of a memory from a place on.
-use Rattle.std.specs.Prelude.{◌≡◌, ◌≢◌, ◌↔◌, ◌==◌, IsTrue, ℕ, ℤ, Bool, true, ◌&&◌, ◌||◌, not, if◌then◌else◌, List, length, map}
+use Rattle.std.specs.Prelude.{◌≡◌, ◌≢◌, ◌↔◌, ◌==◌, IsTrue, ℕ, ℤ, Bool, ◌&&◌, ◌||◌, not, if◌then◌else◌, List, length, map}
 use Rattle.bitvec.specs.Digit.{exclusive_or}
 use Rattle.bitvec.specs.Memory.{bit_of, zip_with}
-use Rattle.bitvec.specs.Truths.{ones_in}
 use Rattle.bitvec_slice.specs.Signed.{signed_of}
 use Rattle.bitvec_call.specs.Number.{loaded_number, StoresNumber}
 use Rattle.bitvec_call.specs.Order.{order_at, rises}
 use Rattle.bitvec_call.specs.Range.{range_bits, RangeBecomes, WritesBit, ExchangesBits, CopiesBits, CombinesBits}
-use Rattle.bitvec_call.specs.Seek.{IsFirstOr}
+use Rattle.bitvec_call.specs.Seek.{pair_count, IsFirstPair}
 use Rattle.bitvec_call.specs.Status.{ok, range_status, ranges_status, number_status, moved_status, pair_status}
 
 -- the call returns the status `wanted`; it has `Done` its work where that is `ok`, and else all is `Kept` as it was
@@ -73,6 +72,10 @@ three_operands_status it other third count = let first = operands_status it othe
 abbrev pub IsAnswer : Operand → ℕ → (List Bool → Type 0) → Type 0 → ℕ → Type 0
 IsAnswer it count Done Kept result = IsCall (operand_status it count) (Done (operand_bits it count)) Kept result
 
+-- a call that answers where something is in the first `count` bits of an operand, as `Found` says, and `count` where it is nowhere
+abbrev pub IsSearch : Operand → ℕ → (List Bool → ℕ → ℕ → Type 0) → ℕ → ℕ → ℕ → Type 0
+IsSearch it count Found old new result = IsAnswer it count (λ xs. Found xs count new) (new ≡ old) result
+
 -- a call that answers the first bit of an operand
 abbrev pub IsBitRead : Operand → Bool → Bool → ℕ → Type 0
 IsBitRead it old new result = IsCall (operand_status it 1) (new ≡ bit_of it.bits (order_of it) it.memory it.start) (new ≡ old) result
@@ -109,9 +112,11 @@ abbrev pub IsCopy : Operand → Operand → Operand → ℕ → ℕ → Type 0
 IsCopy source old new count result =
     IsCall (operands_status source old count) (CopiesBits old.bits (order_of old) source.memory source.start old.memory old.start count new.memory) (new.memory ≡ old.memory) result
 
--- the same where the orders and the words of the two may differ
-abbrev pub IsPut : Operand → Operand → Operand → ℕ → ℕ → Type 0
-IsPut source old new count result = IsCall (operands_status source old count) (OperandBecomes old new count (operand_bits source count)) (new.memory ≡ old.memory) result
+-- The same where the orders and the words of the two may differ. The target is what `at` makes of place `to` and of the words
+-- of its memory, as `u8_at order` does; these are `old` before the call, and `new` after it.
+abbrev pub IsPut : {W : Type 0} → Operand → (ℕ → List W → Operand) → ℕ → List W → List W → ℕ → ℕ → Type 0
+IsPut source at to old new count result =
+    IsCall (operands_status source (at to old) count) (OperandBecomes (at to old) (at to new) count (operand_bits source count)) ((at to new).memory ≡ (at to old).memory) result
 
 -- whether two bits are one
 abbrev pub both : Bool → Bool → Bool
@@ -129,20 +134,30 @@ differ = exclusive_or
 abbrev pub but_not : Bool → Bool → Bool
 but_not = λ x y. x && not y
 
--- a call that makes each of the first `count` bits of an operand what `f` makes of it and of the source's
-abbrev pub IsCombination : (Bool → Bool → Bool) → Operand → Operand → Operand → ℕ → ℕ → Type 0
-IsCombination f source old new count result =
-    IsCall (operands_status source old count) (OperandBecomes old new count (zip_with f (operand_bits old count) (operand_bits source count))) (new.memory ≡ old.memory) result
+-- a call that makes each of the first `count` bits of a target, named as in `IsPut`, what `f` makes of it and of the source's
+abbrev pub IsCombination : {W : Type 0} → (Bool → Bool → Bool) → Operand → (ℕ → List W → Operand) → ℕ → List W → List W → ℕ → ℕ → Type 0
+IsCombination f source at to old new count result =
+    let target = at to old in
+    IsCall (operands_status source target count) (OperandBecomes target (at to new) count (zip_with f (operand_bits target count) (operand_bits source count))) ((at to new).memory ≡ target.memory) result
 
--- the same under one order, of a source that may be a range of the same memory: each of its bits is what it was before
-abbrev pub IsCombinationWithin : (Bool → Bool → Bool) → Operand → Operand → Operand → ℕ → ℕ → Type 0
-IsCombinationWithin f source old new count result =
-    IsCall (operands_status source old count) (CombinesBits f old.bits (order_of old) source.memory source.start old.memory old.start count new.memory) (new.memory ≡ old.memory) result
+-- the same under one order, where the source is place `from` of the same memory: each of its bits is what it was before
+abbrev pub IsCombinationWithin : {W : Type 0} → (Bool → Bool → Bool) → (ℕ → List W → Operand) → ℕ → ℕ → List W → List W → ℕ → ℕ → Type 0
+IsCombinationWithin f at from to old new count result =
+    let source = at from old in
+    let target = at to old in
+    IsCall (operands_status source target count) (CombinesBits f target.bits (order_of target) source.memory source.start target.memory target.start count (at to new).memory) ((at to new).memory ≡ target.memory) result
 
--- a call that makes each of the first `count` bits of an operand what `f` makes of those of two others
-abbrev pub IsCombinationOf : (Bool → Bool → Bool) → Operand → Operand → Operand → Operand → ℕ → ℕ → Type 0
-IsCombinationOf f first second old new count result =
-    IsCall (three_operands_status first second old count) (OperandBecomes old new count (zip_with f (operand_bits first count) (operand_bits second count))) (new.memory ≡ old.memory) result
+-- the first `count` bits of a target become what `f` makes of those of two sources, each a place and a memory, and all else stays
+abbrev pub CombinesSources : {W : Type 0} → (Bool → Bool → Bool) → (ℕ → List W → Operand) → ℕ → List W → ℕ → List W → ℕ → List W → List W → ℕ → Type 0
+CombinesSources f at first_from first second_from second to old new count =
+    OperandBecomes (at to old) (at to new) count (zip_with f (operand_bits (at first_from first) count) (operand_bits (at second_from second) count))
+
+-- a call that makes them so
+abbrev pub IsCombinationOf : {W : Type 0} → (Bool → Bool → Bool) → (ℕ → List W → Operand) → ℕ → List W → ℕ → List W → ℕ → List W → List W → ℕ → ℕ → Type 0
+IsCombinationOf f at first_from first second_from second to old new count result =
+    IsCall (three_operands_status (at first_from first) (at second_from second) (at to old) count)
+    (CombinesSources f at first_from first second_from second to old new count)
+    ((at to new).memory ≡ (at to old).memory) result
 
 -- a call that answers whether the first `count` bits of two operands are the same
 abbrev pub IsComparison : Operand → Operand → ℕ → Bool → Bool → ℕ → Type 0
@@ -151,12 +166,12 @@ IsComparison it other count old new result = IsCall (operands_status it other co
 -- a call that answers how many of the pairs of the first `count` bits of two operands `f` makes one
 abbrev pub CountsPairs : (Bool → Bool → Bool) → Operand → Operand → ℕ → ℕ → ℕ → ℕ → Type 0
 CountsPairs f it other count old new result =
-    IsCall (operands_status it other count) (new ≡ ones_in (zip_with f (operand_bits it count) (operand_bits other count))) (new ≡ old) result
+    IsCall (operands_status it other count) (new ≡ pair_count f (operand_bits it) (operand_bits other) count) (new ≡ old) result
 
 -- a call that answers the index of the first pair that `f` makes one, and `count` where it makes none
 abbrev pub FindsPair : (Bool → Bool → Bool) → Operand → Operand → ℕ → ℕ → ℕ → ℕ → Type 0
 FindsPair f it other count old new result =
-    IsCall (operands_status it other count) (IsFirstOr true (zip_with f (operand_bits it count) (operand_bits other count)) count new) (new ≡ old) result
+    IsCall (operands_status it other count) (IsFirstPair f (operand_bits it) (operand_bits other) count new) (new ≡ old) result
 
 -- the number that the first `count` bits of an operand are
 abbrev pub operand_number : Bool → Operand → ℕ → ℕ
@@ -170,6 +185,11 @@ IsLoad big it count old new result = IsCall (number_status it.bits it.order it.w
 abbrev pub IsSignedLoad : Bool → Operand → ℕ → ℤ → ℤ → ℕ → Type 0
 IsSignedLoad big it count old new result =
     IsCall (number_status it.bits it.order it.words it.start count) (new ≡ signed_of count (operand_number big it count)) (new ≡ old) result
+
+-- the bits of a range of words, each of which has a number, become the lowest digits of one under the order of a code
+abbrev pub MemoryStores : {W : Type 0} → Bool → (W → ℕ) → ℕ → ℕ → ℕ → ℕ → ℕ → List W → List W → Type 0
+MemoryStores big number bits order start count value old new =
+    StoresNumber big bits (rises order) (order_at bits order) start count value (map number old) (map number new)
 
 -- the first `count` bits of an operand become the lowest digits of a number, and all else stays
 abbrev pub OperandStores : Bool → Operand → Operand → ℕ → ℕ → Type 0

@@ -19,13 +19,13 @@ range_bits bits at start count words = list_of bits at (span_at bits start count
 abbrev pub RangeBecomes : ℕ → (ℕ → ℕ) → ℕ → ℕ → List Bool → List ℕ → List ℕ → Type 0
 RangeBecomes bits at start count xs old new = BecomesList bits at (span_at bits start count) old new xs
 
--- the same of a memory of words, each of which has a number
-abbrev pub bits_in : {W : Type 0} → (W → ℕ) → ℕ → (ℕ → ℕ) → ℕ → ℕ → List W → List Bool
-bits_in number bits at start count memory = range_bits bits at start count (map number memory)
+-- the bits from place `start` on in a memory of words, each of which has a number: as many as are asked for
+abbrev pub bits_in : {W : Type 0} → (W → ℕ) → ℕ → (ℕ → ℕ) → ℕ → List W → ℕ → List Bool
+bits_in number bits at start memory count = range_bits bits at start count (map number memory)
 
 -- the same under the order of a code
-abbrev pub coded_bits : {W : Type 0} → (W → ℕ) → ℕ → ℕ → ℕ → ℕ → List W → List Bool
-coded_bits number bits order start count memory = bits_in number bits (order_at bits order) start count memory
+abbrev pub coded_bits : {W : Type 0} → (W → ℕ) → ℕ → ℕ → ℕ → List W → ℕ → List Bool
+coded_bits number bits order start memory count = bits_in number bits (order_at bits order) start memory count
 
 -- the bits of a range of a memory of words become those of a list, and all else stays
 abbrev pub MemoryBecomes : {W : Type 0} → (W → ℕ) → ℕ → (ℕ → ℕ) → ℕ → ℕ → List Bool → List W → List W → Type 0
@@ -33,11 +33,15 @@ MemoryBecomes number bits at start count xs old new = RangeBecomes bits at start
 
 -- they become what `f` makes of their list
 abbrev pub MemoryEdits : {W : Type 0} → (List Bool → List Bool) → (W → ℕ) → ℕ → (ℕ → ℕ) → ℕ → ℕ → List W → List W → Type 0
-MemoryEdits f number bits at start count old new = MemoryBecomes number bits at start count (f (bits_in number bits at start count old)) old new
+MemoryEdits f number bits at start count old new = MemoryBecomes number bits at start count (f (bits_in number bits at start old count)) old new
 
 -- they become what `f` makes of them and of those of a list
 abbrev pub MemoryCombines : {W : Type 0} → (Bool → Bool → Bool) → (W → ℕ) → ℕ → (ℕ → ℕ) → ℕ → ℕ → List Bool → List W → List W → Type 0
 MemoryCombines f number bits at start count xs old new = MemoryEdits (λ ys. zip_with f ys xs) number bits at start count old new
+
+-- the same under the order of a code
+abbrev pub CodedCombines : {W : Type 0} → (Bool → Bool → Bool) → (W → ℕ) → ℕ → ℕ → ℕ → ℕ → List Bool → List W → List W → Type 0
+CodedCombines f number bits order start count xs old new = MemoryCombines f number bits (order_at bits order) start count xs old new
 
 -- two ranges of as many bits, each in a memory of its own, have the same bits
 abbrev pub HaveSameBits : ℕ → (ℕ → ℕ) → ℕ → List ℕ → ℕ → List ℕ → ℕ → Type 0

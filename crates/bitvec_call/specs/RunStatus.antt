@@ -64,9 +64,9 @@ IsRunOf spans old new requests replies_old replies_new result =
     IsRunCall (spans_conditions old.bits old.order spans old.words ++ requests_conditions requests (length replies_old)) spans old new requests replies_old replies_new result
 
 -- such a call with room for the numbers of the spans
-abbrev pub IsRoomyRun : ℕ → List PlainSpan → Operand → Operand → List PlainRequest → List PlainReply → List PlainReply → ℕ → Type 0
+abbrev pub IsRoomyRun : List ℕ → List PlainSpan → Operand → Operand → List PlainRequest → List PlainReply → List PlainReply → ℕ → Type 0
 IsRoomyRun room spans old new requests replies_old replies_new result =
-    IsRunCall (roomy_conditions old.bits old.order spans old.words room ++ requests_conditions requests (length replies_old)) spans old new requests replies_old replies_new result
+    IsRunCall (roomy_conditions old.bits old.order spans old.words (length room) ++ requests_conditions requests (length replies_old)) spans old new requests replies_old replies_new result
 
 -- What becomes of the room: where the order is one of the two, there is just room for the number of each span, and each is
 -- short enough and lies in a memory of `words` words, it holds the numbers in an order in which the spans start; else it is as

@@ -1,6 +1,7 @@
 -- What is looked for among the bits of a range, and `end` where there is no such thing.
-use Rattle.std.specs.Prelude.{◌≡◌, ◌⊎◌, ℕ, ◌<◌, Bool, not, List, length, min, max}
-use Rattle.bitvec.specs.Truths.{AllAre, IsFirst}
+use Rattle.std.specs.Prelude.{◌≡◌, ◌⊎◌, ℕ, ◌<◌, Bool, true, not, List, length, min, max}
+use Rattle.bitvec.specs.Memory.{zip_with}
+use Rattle.bitvec.specs.Truths.{AllAre, IsFirst, ones_in}
 use Rattle.bitvec_slice.specs.Bits.{IsLast, AreFree, AllBetween, IsFirstBetween, IsLastBetween}
 use Rattle.bitvec_slice.specs.Patterns.{AreFreeFrom, IsLeast}
 
@@ -29,3 +30,11 @@ IsPreviousOr bit before xs end i = IsLastBetween bit xs 0 (min before (length xs
 abbrev pub IsFreeFromOr : ℕ → ℕ → ℕ → List Bool → ℕ → ℕ → Type 0
 IsFreeFromOr from zeros multiple_of xs end i =
     let IsRun = AreFreeFrom xs from zeros (max multiple_of 1) in IsLeast IsRun i ⊎ (((k : ℕ) → ¬ IsRun k) × (i ≡ end))
+
+-- how many of the pairs of the first `count` bits of two ranges `f` makes one
+abbrev pub pair_count : (Bool → Bool → Bool) → (ℕ → List Bool) → (ℕ → List Bool) → ℕ → ℕ
+pair_count f xs ys count = ones_in (zip_with f (xs count) (ys count))
+
+-- the index of the first of these pairs that `f` makes one, and `count` where it makes none
+abbrev pub IsFirstPair : (Bool → Bool → Bool) → (ℕ → List Bool) → (ℕ → List Bool) → ℕ → ℕ → Type 0
+IsFirstPair f xs ys count i = IsFirstOr true (zip_with f (xs count) (ys count)) count i

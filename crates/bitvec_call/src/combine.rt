@@ -2,13 +2,12 @@
 //! with one of the same memory, and one that is made of two others.
 
 ghost use Rattle.std.specs.Prelude.{◌+◌, ◌*◌, ◌≤◌, length, map};
-ghost use Rattle.bitvec.specs.Memory.{zip_with};
 ghost use Rattle.bitvec.specs.Place.{region_max_bits};
-ghost use Rattle.bitvec_call.specs.Call.{operand, IsCombination, IsCombinationOf};
-ghost use Rattle.bitvec_call.specs.Call.{IsCombinationWithin};
+ghost use Rattle.bitvec_call.specs.Call.{operand, IsCombination, IsCombinationWithin};
+ghost use Rattle.bitvec_call.specs.Call.{CombinesSources, IsCombinationOf};
 ghost use Rattle.bitvec_call.specs.Order.{order_at};
-ghost use Rattle.bitvec_call.specs.Range.{bits_in, coded_bits, CombinesBits, MemoryBecomes};
-ghost use Rattle.bitvec_call.specs.Range.{MemoryCombines};
+ghost use Rattle.bitvec_call.specs.Range.{bits_in, coded_bits, CombinesBits, MemoryCombines};
+ghost use Rattle.bitvec_call.specs.Range.{CodedCombines};
 
 use crate::convert::convert_range;
 use crate::range::{pointer, span};
@@ -29,7 +28,7 @@ fn combine_in<C: Combine, R2: BitRegister, O2: BitOrder<R2>, R: BitRegister, O: 
     requires source_inside { from + count ≤ length source.now * R2.BITS }
     requires target_inside { to + count ≤ length target.old * R.BITS }
     ensures { MemoryCombines C.of R.number R.BITS O.at_of to count (bits_in R2.number R2.BITS
-        O2.at_of from count source.now) target.old target.new }
+        O2.at_of from source.now count) target.old target.new }
 {
     let here = span::<R, O>(to, count);
     let there = span::<R2, O2>(from, count);
@@ -49,7 +48,7 @@ fn combine_from<C: Combine, R2: BitRegister, R: BitRegister, O: BitOrder<R>>(
     requires source_inside { from + count ≤ length source.now * R2.BITS }
     requires target_inside { to + count ≤ length target.old * R.BITS }
     ensures { MemoryCombines C.of R.number R.BITS O.at_of to count (coded_bits R2.number R2.BITS
-        source_order from count source.now) target.old target.new }
+        source_order from source.now count) target.old target.new }
 {
     if source_order == LSB0 {
         combine_in::<C, R2, Lsb0, R, O>(source, from, target, to, count);
@@ -71,8 +70,8 @@ fn combine_range<C: Combine, R2: BitRegister, R: BitRegister>(
     requires short { count ≤ region_max_bits }
     requires source_inside { from + count ≤ length source.now * R2.BITS }
     requires target_inside { to + count ≤ length target.old * R.BITS }
-    ensures { MemoryCombines C.of R.number R.BITS (order_at R.BITS order) to count (coded_bits
-        R2.number R2.BITS source_order from count source.now) target.old target.new }
+    ensures { CodedCombines C.of R.number R.BITS order to count (coded_bits R2.number R2.BITS
+        source_order from source.now count) target.old target.new }
 {
     if order == LSB0 {
         combine_from::<C, R2, R, Lsb0>(source_order, source, from, target, to, count);
@@ -95,8 +94,8 @@ pub fn combine<C: Combine, R2: BitRegister, R: BitRegister>(
     to: usize,
     count: usize,
 ) -> u8
-    ensures { let at = operand R.number R.BITS order to in IsCombination C.of (operand R2.number
-        R2.BITS source_order from source.now) (at target.old) (at target.new) count result }
+    ensures { IsCombination C.of (operand R2.number R2.BITS source_order from source.now)
+        (operand R.number R.BITS order) to target.old target.new count result }
 {
     let words = target.len();
     let status = test_pair::<R2, R>(source_order, source.len(), from, order, words, to, count);
@@ -155,8 +154,8 @@ pub fn combine_within<C: Combine, R: BitRegister>(
     to: usize,
     count: usize,
 ) -> u8
-    ensures { let at = operand R.number R.BITS order in IsCombinationWithin C.of (at from
-        memory.old) (at to memory.old) (at to memory.new) count result }
+    ensures { IsCombinationWithin C.of (operand R.number R.BITS order) from to memory.old memory.new
+        count result }
 {
     let words = memory.len();
     let status = test_ranges::<R>(order, words, from, words, to, count);
@@ -181,9 +180,8 @@ fn range_of<C: Combine, R: BitRegister>(
     requires first_inside { first_from + count ≤ length first.now * R.BITS }
     requires second_inside { second_from + count ≤ length second.now * R.BITS }
     requires target_inside { to + count ≤ length target.old * R.BITS }
-    ensures { MemoryBecomes R.number R.BITS (order_at R.BITS order) to count (zip_with C.of
-        (coded_bits R.number R.BITS order first_from count first.now) (coded_bits R.number R.BITS
-        order second_from count second.now)) target.old target.new }
+    ensures { CombinesSources C.of (operand R.number R.BITS order) first_from first.now second_from
+        second.now to target.old target.new count }
 {
     convert_range::<R, R>(order, first, first_from, order, target, to, count);
     combine_range::<C, R, R>(order, second, second_from, order, target, to, count);
@@ -204,8 +202,8 @@ pub fn combine_of<C: Combine, R: BitRegister>(
     to: usize,
     count: usize,
 ) -> u8
-    ensures { let at = operand R.number R.BITS order in IsCombinationOf C.of (at first_from
-        first.now) (at second_from second.now) (at to target.old) (at to target.new) count result }
+    ensures { IsCombinationOf C.of (operand R.number R.BITS order) first_from first.now second_from
+        second.now to target.old target.new count result }
 {
     let (here, there, words) = (first.len(), second.len(), target.len());
     let status = test_three::<R>(

@@ -23,7 +23,7 @@ fn convert_in<R2: BitRegister, O2: BitOrder<R2>, R: BitRegister, O: BitOrder<R>>
     requires source_inside { from + count ≤ length source.now * R2.BITS }
     requires target_inside { to + count ≤ length target.old * R.BITS }
     ensures { MemoryBecomes R.number R.BITS O.at_of to count (bits_in R2.number R2.BITS O2.at_of
-        from count source.now) target.old target.new }
+        from source.now count) target.old target.new }
 {
     let here = span::<R, O>(to, count);
     let there = span::<R2, O2>(from, count);
@@ -43,7 +43,7 @@ fn convert_from<R2: BitRegister, R: BitRegister, O: BitOrder<R>>(
     requires source_inside { from + count ≤ length source.now * R2.BITS }
     requires target_inside { to + count ≤ length target.old * R.BITS }
     ensures { MemoryBecomes R.number R.BITS O.at_of to count (coded_bits R2.number R2.BITS
-        source_order from count source.now) target.old target.new }
+        source_order from source.now count) target.old target.new }
 {
     if source_order == LSB0 {
         convert_in::<R2, Lsb0, R, O>(source, from, target, to, count);
@@ -67,7 +67,7 @@ pub(crate) fn convert_range<R2: BitRegister, R: BitRegister>(
     requires source_inside { from + count ≤ length source.now * R2.BITS }
     requires target_inside { to + count ≤ length target.old * R.BITS }
     ensures { MemoryBecomes R.number R.BITS (order_at R.BITS order) to count (coded_bits R2.number
-        R2.BITS source_order from count source.now) target.old target.new }
+        R2.BITS source_order from source.now count) target.old target.new }
 {
     if order == LSB0 {
         convert_from::<R2, R, Lsb0>(source_order, source, from, target, to, count);
@@ -90,8 +90,8 @@ pub fn convert<R2: BitRegister, R: BitRegister>(
     to: usize,
     count: usize,
 ) -> u8
-    ensures { let at = operand R.number R.BITS order to in IsPut (operand R2.number R2.BITS
-        source_order from source.now) (at target.old) (at target.new) count result }
+    ensures { IsPut (operand R2.number R2.BITS source_order from source.now)
+        (operand R.number R.BITS order) to target.old target.new count result }
 {
     let words = target.len();
     let status = test_pair::<R2, R>(source_order, source.len(), from, order, words, to, count);

@@ -1,9 +1,9 @@
 //! What is looked for from an index of a range on: the next and the previous bit of a kind, and
 //! free runs from a multiple of a number on.
 
-ghost use Rattle.std.specs.Prelude.{◌≡◌, ◌+◌, ◌*◌, ◌≤◌, length, map};
+ghost use Rattle.std.specs.Prelude.{◌+◌, ◌*◌, ◌≤◌, length, map};
 ghost use Rattle.bitvec.specs.Place.{region_max_bits};
-ghost use Rattle.bitvec_call.specs.Call.{operand, IsAnswer};
+ghost use Rattle.bitvec_call.specs.Call.{operand, IsSearch};
 ghost use Rattle.bitvec_call.specs.Order.{order_at};
 ghost use Rattle.bitvec_call.specs.Range.{range_bits};
 ghost use Rattle.bitvec_call.specs.Seek.{IsNextOr, IsPreviousOr, IsFreeFromOr};
@@ -75,8 +75,8 @@ pub fn next<R: BitRegister>(
     bit: bool,
     index: &mut usize,
 ) -> u8
-    ensures { IsAnswer (operand R.number R.BITS order start memory.now) count
-        (λ xs. IsNextOr bit from xs count index.new) (index.new ≡ index.old) result }
+    ensures { IsSearch (operand R.number R.BITS order start memory.now) count (IsNextOr bit from)
+        index.old index.new result }
 {
     let status = test_range::<R>(order, memory.len(), start, count);
     if status == OK {
@@ -147,8 +147,8 @@ pub fn previous<R: BitRegister>(
     bit: bool,
     index: &mut usize,
 ) -> u8
-    ensures { IsAnswer (operand R.number R.BITS order start memory.now) count
-        (λ xs. IsPreviousOr bit before xs count index.new) (index.new ≡ index.old) result }
+    ensures { IsSearch (operand R.number R.BITS order start memory.now) count
+        (IsPreviousOr bit before) index.old index.new result }
 {
     let status = test_range::<R>(order, memory.len(), start, count);
     if status == OK {
@@ -217,8 +217,8 @@ pub fn find_zeros_from<R: BitRegister>(
     multiple_of: usize,
     index: &mut usize,
 ) -> u8
-    ensures { IsAnswer (operand R.number R.BITS order start memory.now) count (λ xs. IsFreeFromOr
-        from zeros multiple_of xs count index.new) (index.new ≡ index.old) result }
+    ensures { IsSearch (operand R.number R.BITS order start memory.now) count
+        (IsFreeFromOr from zeros multiple_of) index.old index.new result }
 {
     let status = test_range::<R>(order, memory.len(), start, count);
     if status == OK {

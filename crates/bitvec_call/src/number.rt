@@ -2,7 +2,7 @@
 
 ghost use Rattle.std.specs.Prelude.{◌≡◌, ◌+◌, ◌*◌, ◌≤◌, length, map};
 ghost use Rattle.bitvec_call.specs.Number.{loaded_number, StoresNumber};
-ghost use Rattle.bitvec_call.specs.Call.{operand, IsLoad, IsStore};
+ghost use Rattle.bitvec_call.specs.Call.{operand, IsLoad, IsStore, MemoryStores};
 ghost use Rattle.bitvec_call.specs.Order.{order_at, rises};
 
 use crate::range::{bits, bits_mut};
@@ -105,8 +105,7 @@ fn put_number<R: BitRegister>(
 )
     requires small { count ≤ 64 }
     requires inside { start + count ≤ length memory.old * R.BITS }
-    ensures { StoresNumber big R.BITS (rises order) (order_at R.BITS order) start count number
-        (map R.number memory.old) (map R.number memory.new) }
+    ensures { MemoryStores big R.number R.BITS order start count number memory.old memory.new }
 {
     if order == LSB0 {
         store_in::<R, Lsb0>(big, memory, start, count, number);

@@ -1,12 +1,10 @@
 //! Questions of two ranges of bits, whose words and orders may differ.
 
-ghost use Rattle.std.specs.Prelude.{◌≡◌, ◌+◌, ◌*◌, ◌≤◌, true, length};
-ghost use Rattle.bitvec.specs.Memory.{zip_with};
+ghost use Rattle.std.specs.Prelude.{◌≡◌, ◌+◌, ◌*◌, ◌≤◌, length};
 ghost use Rattle.bitvec.specs.Place.{region_max_bits};
-ghost use Rattle.bitvec.specs.Truths.{ones_in};
 ghost use Rattle.bitvec_call.specs.Call.{operand, CountsPairs, FindsPair};
 ghost use Rattle.bitvec_call.specs.Range.{bits_in, coded_bits};
-ghost use Rattle.bitvec_call.specs.Seek.{IsFirstOr};
+ghost use Rattle.bitvec_call.specs.Seek.{pair_count, IsFirstPair};
 
 use crate::range::span;
 use crate::status::{LSB0, OK, test_pair};
@@ -25,8 +23,8 @@ fn count_in<C: Combine, R: BitRegister, O: BitOrder<R>, R2: BitRegister, O2: Bit
     requires short { count ≤ region_max_bits }
     requires inside { start + count ≤ length memory.now * R.BITS }
     requires other_inside { other_start + count ≤ length other.now * R2.BITS }
-    ensures { result ≡ ones_in (zip_with C.of (bits_in R.number R.BITS O.at_of start count
-        memory.now) (bits_in R2.number R2.BITS O2.at_of other_start count other.now)) }
+    ensures { result ≡ pair_count C.of (bits_in R.number R.BITS O.at_of start memory.now)
+        (bits_in R2.number R2.BITS O2.at_of other_start other.now) count }
 {
     let here = span::<R, O>(start, count);
     let there = span::<R2, O2>(other_start, count);
@@ -45,8 +43,8 @@ fn count_from<C: Combine, R: BitRegister, O: BitOrder<R>, R2: BitRegister>(
     requires short { count ≤ region_max_bits }
     requires inside { start + count ≤ length memory.now * R.BITS }
     requires other_inside { other_start + count ≤ length other.now * R2.BITS }
-    ensures { result ≡ ones_in (zip_with C.of (bits_in R.number R.BITS O.at_of start count
-        memory.now) (coded_bits R2.number R2.BITS other_order other_start count other.now)) }
+    ensures { result ≡ pair_count C.of (bits_in R.number R.BITS O.at_of start memory.now)
+        (coded_bits R2.number R2.BITS other_order other_start other.now) count }
 {
     if other_order == LSB0 {
         count_in::<C, R, O, R2, Lsb0>(memory, start, other, other_start, count)
@@ -68,8 +66,8 @@ fn count_of<C: Combine, R: BitRegister, R2: BitRegister>(
     requires short { count ≤ region_max_bits }
     requires inside { start + count ≤ length memory.now * R.BITS }
     requires other_inside { other_start + count ≤ length other.now * R2.BITS }
-    ensures { result ≡ ones_in (zip_with C.of (coded_bits R.number R.BITS order start count
-        memory.now) (coded_bits R2.number R2.BITS other_order other_start count other.now)) }
+    ensures { result ≡ pair_count C.of (coded_bits R.number R.BITS order start memory.now)
+        (coded_bits R2.number R2.BITS other_order other_start other.now) count }
 {
     if order == LSB0 {
         count_from::<C, R, Lsb0, R2>(memory, start, other_order, other, other_start, count)
@@ -124,8 +122,8 @@ fn first_in<C: Combine, R: BitRegister, O: BitOrder<R>, R2: BitRegister, O2: Bit
     requires short { count ≤ region_max_bits }
     requires inside { start + count ≤ length memory.now * R.BITS }
     requires other_inside { other_start + count ≤ length other.now * R2.BITS }
-    ensures { IsFirstOr true (zip_with C.of (bits_in R.number R.BITS O.at_of start count memory.now)
-        (bits_in R2.number R2.BITS O2.at_of other_start count other.now)) count result }
+    ensures { IsFirstPair C.of (bits_in R.number R.BITS O.at_of start memory.now)
+        (bits_in R2.number R2.BITS O2.at_of other_start other.now) count result }
 {
     let here = span::<R, O>(start, count);
     let there = span::<R2, O2>(other_start, count);
@@ -147,8 +145,8 @@ fn first_from<C: Combine, R: BitRegister, O: BitOrder<R>, R2: BitRegister>(
     requires short { count ≤ region_max_bits }
     requires inside { start + count ≤ length memory.now * R.BITS }
     requires other_inside { other_start + count ≤ length other.now * R2.BITS }
-    ensures { IsFirstOr true (zip_with C.of (bits_in R.number R.BITS O.at_of start count memory.now)
-        (coded_bits R2.number R2.BITS other_order other_start count other.now)) count result }
+    ensures { IsFirstPair C.of (bits_in R.number R.BITS O.at_of start memory.now)
+        (coded_bits R2.number R2.BITS other_order other_start other.now) count result }
 {
     if other_order == LSB0 {
         first_in::<C, R, O, R2, Lsb0>(memory, start, other, other_start, count)
@@ -170,9 +168,8 @@ fn first_of<C: Combine, R: BitRegister, R2: BitRegister>(
     requires short { count ≤ region_max_bits }
     requires inside { start + count ≤ length memory.now * R.BITS }
     requires other_inside { other_start + count ≤ length other.now * R2.BITS }
-    ensures { IsFirstOr true (zip_with C.of (coded_bits R.number R.BITS order start count
-        memory.now) (coded_bits R2.number R2.BITS other_order other_start count other.now)) count
-        result }
+    ensures { IsFirstPair C.of (coded_bits R.number R.BITS order start memory.now)
+        (coded_bits R2.number R2.BITS other_order other_start other.now) count result }
 {
     if order == LSB0 {
         first_from::<C, R, Lsb0, R2>(memory, start, other_order, other, other_start, count)

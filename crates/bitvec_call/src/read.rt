@@ -153,8 +153,8 @@ pub fn read_signed<R: BitRegister>(
     count: usize,
     number: &mut i64,
 ) -> u8
-    ensures { IsSignedRead big (operand R.number R.BITS order place.old memory.now) end place.new count
-        number.old number.new result }
+    ensures { IsSignedRead big (operand R.number R.BITS order place.old memory.now) end place.new
+        count number.old number.new result }
 {
     let status = test_left::<R>(order, memory.len(), *place, end);
     if status != OK {

@@ -112,8 +112,8 @@ pub fn read_exp_golomb<R: BitRegister>(
     end: usize,
     number: &mut u64,
 ) -> u8
-    ensures { IsCodeRead (operand R.number R.BITS order place.old memory.now) end place.new number.old
-        number.new result }
+    ensures { IsCodeRead (operand R.number R.BITS order place.old memory.now) end place.new
+        number.old number.new result }
 {
     let status = test_left::<R>(order, memory.len(), *place, end);
     if status != OK {

@@ -53,7 +53,7 @@ pub fn run_plain_in<R: BitRegister>(
     room: &mut [usize],
 ) -> u8
     requires narrow { R.BITS ≤ 64 }
-    ensures run { let at = operand R.number R.BITS order 0 in IsRoomyRun (length room.old) spans.now
+    ensures run { let at = operand R.number R.BITS order 0 in IsRoomyRun room.old spans.now
         (at memory.old) (at memory.new) requests.now replies.old replies.new result }
     ensures room { IsRoomAfter R.BITS order spans.now (length memory.old) room.old room.new }
 {

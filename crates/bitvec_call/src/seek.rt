@@ -3,7 +3,7 @@
 ghost use Rattle.std.specs.Prelude.{◌≡◌, ◌+◌, ◌*◌, ◌≤◌, not, length, map};
 ghost use Rattle.bitvec.specs.Place.{region_max_bits};
 ghost use Rattle.bitvec_slice.specs.Bits.{BeginsWith};
-ghost use Rattle.bitvec_call.specs.Call.{operand, IsAnswer};
+ghost use Rattle.bitvec_call.specs.Call.{operand, IsAnswer, IsSearch};
 ghost use Rattle.bitvec_call.specs.Order.{order_at};
 ghost use Rattle.bitvec_call.specs.Range.{range_bits};
 ghost use Rattle.bitvec_call.specs.Seek.{IsLastOr, IsFreeOr};
@@ -121,8 +121,8 @@ pub fn last<R: BitRegister>(
     bit: bool,
     index: &mut usize,
 ) -> u8
-    ensures { IsAnswer (operand R.number R.BITS order start memory.now) count (λ xs. IsLastOr bit
-        xs count index.new) (index.new ≡ index.old) result }
+    ensures { IsSearch (operand R.number R.BITS order start memory.now) count (IsLastOr bit)
+        index.old index.new result }
 {
     let status = test_range::<R>(order, memory.len(), start, count);
     if status == OK {
@@ -184,8 +184,8 @@ pub fn find_zeros<R: BitRegister>(
     zeros: usize,
     index: &mut usize,
 ) -> u8
-    ensures { IsAnswer (operand R.number R.BITS order start memory.now) count (λ xs. IsFreeOr zeros
-        xs count index.new) (index.new ≡ index.old) result }
+    ensures { IsSearch (operand R.number R.BITS order start memory.now) count (IsFreeOr zeros)
+        index.old index.new result }
 {
     let status = test_range::<R>(order, memory.len(), start, count);
     if status == OK {

@@ -2,7 +2,7 @@
 
 ghost use Rattle.std.specs.Prelude.{◌≡◌, ◌+◌, ◌*◌, ◌≤◌, length, map};
 ghost use Rattle.bitvec_slice.specs.Signed.{signed_of, complement_of};
-ghost use Rattle.bitvec_call.specs.Call.{operand, IsSignedLoad, IsStore};
+ghost use Rattle.bitvec_call.specs.Call.{operand, IsSignedLoad, IsStore, MemoryStores};
 ghost use Rattle.bitvec_call.specs.Number.{loaded_number, StoresNumber};
 ghost use Rattle.bitvec_call.specs.Order.{order_at, rises};
 
@@ -106,8 +106,8 @@ fn put_number<R: BitRegister>(
 )
     requires small { count ≤ 64 }
     requires inside { start + count ≤ length memory.old * R.BITS }
-    ensures { StoresNumber big R.BITS (rises order) (order_at R.BITS order) start count
-        (complement_of count number) (map R.number memory.old) (map R.number memory.new) }
+    ensures { MemoryStores big R.number R.BITS order start count (complement_of count number)
+        memory.old memory.new }
 {
     if order == LSB0 {
         store_in::<R, Lsb0>(big, memory, start, count, number);

@@ -17,8 +17,8 @@ returns g c =
     let old = map number c.args.target.now in
     let mid = map number c.convert_range.new.target in
     let new = map number c.combine_range.new.target in
-    let one = coded_bits number width c.args.order c.args.first_from c.args.count c.args.first.now in
-    let other = coded_bits number width c.args.order c.args.second_from c.args.count c.args.second.now in
+    let one = coded_bits number width c.args.order c.args.first_from c.args.first.now c.args.count in
+    let other = coded_bits number width c.args.order c.args.second_from c.args.second.now c.args.count in
     let kept = list_of width at span mid in
     subst (λ (xs : List Bool). BecomesList width at span old new (zip_with f xs other)) {x = kept} {y = one} c.convert_range.ensures.list
     (becomes-then width at span old mid new one (zip_with f kept other) c.convert_range.ensures c.combine_range.ensures)
