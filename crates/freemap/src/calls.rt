@@ -143,7 +143,9 @@ impl<'a, O: BitOrder<u64>> FreeMap<'a, O> {
         None
     }
 
-    // The lowest free block that is not before `block`.
+    // The lowest free block that is not before `block`. A call: what is inlined into the levels'
+    // calls would make the common ones slower.
+    #[inline(never)]
     pub(crate) fn free_from(&self, block: usize) -> Option<usize>
         ensures { IsLowest (λ at. (block ≤ at) × AreFree (in_use self.now) at 1) result }
     {

@@ -301,6 +301,7 @@ impl<'a, O: BitOrder<u64>> FreeMap<'a, O> {
     }
 
     // The lowest free block from block `block` on in its word.
+    #[inline(never)]
     pub(crate) fn free_to_word_end(&self, block: usize) -> Option<usize>
         ensures { MatchOption result (IsFullFrom (in_use self.now) block)
             (λ at. IsLowest (λ b. (block ≤ b) × AreFree (in_use self.now) b 1) (Some at)) }
