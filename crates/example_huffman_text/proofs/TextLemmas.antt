@@ -1,5 +1,5 @@
 -- Texts by their bits.
-use Rattle.std.proofs.Common.{◌≡◌, ◌⊎◌, ℕ, suc, ◌+◌, ◌<◌, ◌≤◌, Bool, List, [], ◌∷◌, ◌++◌, length, take, drop, get_or, refl, sym, ap, subst, ◌∙◌, inl, inr, arith, append_assoc, length-append, length-drop}
+use Rattle.std.proofs.Common.{◌≡◌, ◌⊎◌, ℕ, suc, ◌+◌, ◌<◌, ◌≤◌, Bool, List, [], ◌∷◌, ◌++◌, length, take, drop, get_or, refl, sym, ap, subst, ◌∙◌, inl, inr, arith, append_assoc, add-one, drop-cons, length-append, length-drop}
 use Rattle.std.specs.List.{All}
 use Rattle.std.specs.Prelude.{slice_set}
 use Rattle.std.proofs.lemmas.List.{length-set, length-take-le, take_at, drop_at, append-nil, take_more, take_more_set, take_all, drop-drop, drop-set-lt, take-append-drop}
@@ -11,7 +11,7 @@ use Rattle.example_huffman_text.proofs.SymbolLemmas.{code_long, one_begins}
 
 -- a list with a code before it begins with the code
 pub code_first : (lengths : List ℕ) (s : ℕ) (xs ys : List Bool) → HasCode lengths s → xs ≡ code_bits lengths s ++ ys → BeginsWithSymbol lengths xs s
-code_first lengths s xs ys some is = (some, ap (take (length (code_bits lengths s))) is ∙ take_at (code_bits lengths s) ys (length (code_bits lengths s)) refl)
+code_first lengths s xs ys some is = record { code = some; bits = ap (take (length (code_bits lengths s))) is ∙ take_at (code_bits lengths s) ys (length (code_bits lengths s)) refl }
 
 -- two codes before two lists that are one are one code, and the lists are one
 code_once : (lengths : List ℕ) (s t : ℕ) (xs ys : List Bool) → IsComplete lengths → HasCode lengths s → HasCode lengths t → code_bits lengths s ++ xs ≡ code_bits lengths t ++ ys → (s ≡ t) × (xs ≡ ys)
@@ -53,50 +53,48 @@ text_part lengths symbols n =
 pub text_all : (lengths symbols : List ℕ) → text_bits lengths (take (length symbols) symbols) ≡ text_bits lengths symbols
 text_all lengths symbols = ap (text_bits lengths) (take_all (length symbols) symbols (omega arith))
 
--- there is room for a symbol's code where there was room for all and the codes before it were written
-pub text_inside : (lengths symbols : List ℕ) (k : ℕ) (old mid : List Bool) → k < length symbols → length (text_bits lengths symbols) ≤ length old → mid ≡ drop (length (text_bits lengths (take k symbols))) old → get_or lengths (get_or symbols k 0) 0 ≤ length mid
-text_inside lengths symbols k old mid h inside is =
-    let more = long_more lengths symbols k h in
-    let part = text_part lengths symbols (k + 1) in
-    omega (arith, more, part, inside, ap length is, length-drop (length (text_bits lengths (take k symbols))) old)
+-- the symbols from a place on have the bits of the one there, and then those of the others
+pub text_left : (lengths symbols : List ℕ) (k : ℕ) → k < length symbols → length (text_bits lengths (drop k symbols)) ≡ get_or lengths (get_or symbols k 0) 0 + length (text_bits lengths (drop (k + 1) symbols))
+text_left lengths symbols k h =
+    let s = get_or symbols k 0 in
+    ap (λ us. length (text_bits lengths us)) (drop-cons symbols k 0 h ∙ ap (λ n. s ∷ drop n symbols) (sym (add-one k)))
+    ∙ length-append (code_bits lengths s) (text_bits lengths (drop (k + 1) symbols))
+    ∙ ap (λ n. n + length (text_bits lengths (drop (k + 1) symbols))) (code_long lengths s)
 
 -- Symbols stand in the first `k` places of a list, and all other places are as they were. The symbols' bits are those that
--- stood before what is left.
-pub record AreRead (lengths was out : List ℕ) (k : ℕ) (old left : List Bool) : Type 0 where
+-- stood before what is left: as many as there are between two places.
+pub record AreRead (lengths was out : List ℕ) (k : ℕ) (old left : List Bool) (before now : ℕ) : Type 0 where
   pub size : length out ≡ length was
   pub codes : All (HasCode lengths) (take k out)
   pub bits : old ≡ text_bits lengths (take k out) ++ left
   pub moved : left ≡ drop (length (text_bits lengths (take k out))) old
+  pub place : now ≡ before + length (text_bits lengths (take k out))
   pub others : drop k out ≡ drop k was
 
 -- one symbol more is read into place k
-module _ (lengths was out : List ℕ) (k s : ℕ) (inside : k < length out) where
-  text_next : text_bits lengths (take (k + 1) (slice_set out k s)) ≡ text_bits lengths (take k out) ++ code_bits lengths s
-  text_next = ap (text_bits lengths) (take_more_set out k s inside) ∙ text_push lengths (take k out) s
-
-  pub long_next : length (text_bits lengths (take (k + 1) (slice_set out k s))) ≡ length (text_bits lengths (take k out)) + get_or lengths s 0
-  long_next =
-      ap length text_next
-      ∙ length-append (text_bits lengths (take k out)) (code_bits lengths s)
-      ∙ ap (λ n. length (text_bits lengths (take k out)) + n) (code_long lengths s)
-
-  pub read_next : (old mid left : List Bool) → AreRead lengths was out k old mid → HasCode lengths s → mid ≡ code_bits lengths s ++ left → AreRead lengths was (slice_set out k s) (k + 1) old left
-  read_next old mid left are some then =
-      let on : k + 1 ≡ suc k = omega arith in
-      let text = text_bits lengths (take (k + 1) (slice_set out k s)) in
-      let shown : old ≡ text ++ left =
-      are.bits ∙ ap (λ us. text_bits lengths (take k out) ++ us) then
-      ∙ sym (append_assoc (text_bits lengths (take k out)) (code_bits lengths s) left)
-      ∙ ap (λ us. us ++ left) (sym text_next) in
-      record {
-        size = length-set out k s ∙ are.size;
-        codes = subst (All (HasCode lengths)) (sym (take_more_set out k s inside)) (All-push (HasCode lengths) (take k out) s are.codes some);
-        bits = shown;
-        moved = sym (ap (drop (length text)) shown ∙ drop_at text left (length text) refl);
-        others =
-            ap (λ n. drop n (slice_set out k s)) on ∙ drop-set-lt (suc k) out k s (omega arith) ∙ ap (λ n. drop n out) (sym on)
-            ∙ sym (drop-drop 1 k out) ∙ ap (drop 1) are.others ∙ drop-drop 1 k was;
-      }
+pub read_next : {lengths was out : List ℕ} {k : ℕ} {old mid : List Bool} {before now : ℕ} → AreRead lengths was out k old mid before now
+    → (s : ℕ) (left : List Bool) (next : ℕ) → k < length out → HasCode lengths s → mid ≡ code_bits lengths s ++ left → next ≡ now + get_or lengths s 0 → AreRead lengths was (slice_set out k s) (k + 1) old left before next
+read_next {lengths} {was} {out} {k} {old} {mid} are s left next inside some then place =
+    let on : k + 1 ≡ suc k = omega arith in
+    let one : text_bits lengths (take (k + 1) (slice_set out k s)) ≡ text_bits lengths (take k out) ++ code_bits lengths s =
+    ap (text_bits lengths) (take_more_set out k s inside) ∙ text_push lengths (take k out) s in
+    let long : length (text_bits lengths (take (k + 1) (slice_set out k s))) ≡ length (text_bits lengths (take k out)) + get_or lengths s 0 =
+    ap length one ∙ length-append (text_bits lengths (take k out)) (code_bits lengths s) ∙ ap (λ n. length (text_bits lengths (take k out)) + n) (code_long lengths s) in
+    let text = text_bits lengths (take (k + 1) (slice_set out k s)) in
+    let shown : old ≡ text ++ left =
+    are.bits ∙ ap (λ us. text_bits lengths (take k out) ++ us) then
+    ∙ sym (append_assoc (text_bits lengths (take k out)) (code_bits lengths s) left)
+    ∙ ap (λ us. us ++ left) (sym one) in
+    record {
+      size = length-set out k s ∙ are.size;
+      codes = subst (All (HasCode lengths)) (sym (take_more_set out k s inside)) (All-push (HasCode lengths) (take k out) s are.codes some);
+      bits = shown;
+      moved = sym (ap (drop (length text)) shown ∙ drop_at text left (length text) refl);
+      place = omega (arith, place, are.place, long);
+      others =
+          ap (λ n. drop n (slice_set out k s)) on ∙ drop-set-lt (suc k) out k s (omega arith) ∙ ap (λ n. drop n out) (sym on)
+          ∙ sym (drop-drop 1 k out) ∙ ap (drop 1) are.others ∙ drop-drop 1 k was;
+    }
 
 -- what the search takes for how many bits a text has
 pub ruleset sizes = (long_more, text_part, text_all)

@@ -1,5 +1,5 @@
 -- A text of symbols: their codes, one behind the other.
-use Rattle.std.specs.Prelude.{◌≡◌, ◌≤◌, ℕ, Bool, List, ◌++◌, length, slice_index}
+use Rattle.std.specs.Prelude.{◌≡◌, ◌≤◌, ℕ, Bool, List, ◌++◌, length, take, slice_index}
 use Rattle.std.specs.List.{All, flat_map}
 use Rattle.bitvec_stream.specs.Golomb.{StartsWith}
 use Rattle.bitvec_stream.specs.Numbers.{digits_be}
@@ -10,12 +10,21 @@ abbrev pub code_bits : List ℕ → ℕ → List Bool
 code_bits lengths symbol = digits_be (slice_index lengths symbol) (code_of lengths symbol)
 
 -- a list begins with a symbol's code
-abbrev pub BeginsWithSymbol : List ℕ → List Bool → ℕ → Type 0
-BeginsWithSymbol lengths xs symbol = HasCode lengths symbol × StartsWith xs (code_bits lengths symbol)
+pub record BeginsWithSymbol (lengths : List ℕ) (xs : List Bool) (symbol : ℕ) : Type 0 where
+  pub code : HasCode lengths symbol
+  pub bits : StartsWith xs (code_bits lengths symbol)
 
 -- the bits of symbols, one code behind the other
 abbrev pub text_bits : List ℕ → List ℕ → List Bool
 text_bits lengths symbols = flat_map (code_bits lengths) symbols
+
+-- a list is the text of some symbols, which have codes
+abbrev pub IsText : List ℕ → List ℕ → List Bool → Type 0
+IsText lengths symbols xs = All (HasCode lengths) symbols × (xs ≡ text_bits lengths symbols)
+
+-- symbols are the first `count` of a list
+abbrev pub AreFirst : List ℕ → List ℕ → ℕ → Type 0
+AreFirst symbols out count = (count ≡ length symbols) × (take count out ≡ symbols)
 
 -- symbols have codes, and there is room for the bits of these
 abbrev pub CanBeEncoded : List ℕ → List ℕ → ℕ → Type 0

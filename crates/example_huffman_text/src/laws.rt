@@ -1,15 +1,18 @@
 //! What was written is read.
 
-ghost use Rattle.std.specs.Prelude.{◌≡◌, ◌↔◌, ◌≤◌, Err, IsOk, IfOk, IfErr, length, take, drop};
+ghost use Rattle.std.specs.Prelude.{◌≡◌, ◌↔◌, ◌≤◌, ℕ, List, Err, IsOk, IfOk, IfErr};
+ghost use Rattle.std.specs.Prelude.{length, drop};
 ghost use Rattle.std.specs.List.{All};
+ghost use Rattle.bitvec_slice.specs.BitSlice.{slice_bits};
 ghost use Rattle.bitvec_stream.specs.Writer.{room, Writes};
 ghost use Rattle.example_huffman.specs.Codes.{HasCode};
 ghost use Rattle.example_huffman.specs.Huffman.{lengths_of};
-ghost use Rattle.example_huffman_text.specs.Text.{text_bits, OneText, CanBeEncoded};
+ghost use Rattle.example_huffman_text.specs.Text.{text_bits, IsText, AreFirst, OneText};
+ghost use Rattle.example_huffman_text.specs.Text.{CanBeEncoded};
 
 use crate::error::EncodeError;
 use crate::text::{decode_into, encode};
-use bitvec_stream::prelude::{BitOrder, BitReader, BitRegister, BitWriter};
+use bitvec_stream::prelude::{BitOrder, BitReader, BitRegister, BitSlice, BitWriter};
 use example_huffman::code::Code;
 
 /// Bits begin with one text of a number of symbols and no other, and what stands behind it is left.
@@ -17,6 +20,21 @@ use example_huffman::code::Code;
 pub fn one_text()
     ensures { OneText }
 {}
+
+// Reads the symbols whose text some bits are into the front of `back`, and returns how many.
+fn read_text<R: BitRegister, O: BitOrder<R>>(
+    code: &Code<'_>,
+    text: BitSlice<'_, R, O>,
+    back: &mut [usize],
+) -> usize
+    ensures value { (symbols : List ℕ)
+        → IsText (lengths_of code.now) symbols (slice_bits text.entry)
+        → length symbols ≤ length back.old → AreFirst symbols back.new result }
+    ensures others { drop result back.new ≡ drop result back.old }
+{
+    let mut reader = BitReader::new(text);
+    decode_into(code, &mut reader, back)
+}
 
 /// Writes symbols, and reads what was written into the front of `back`: they are those symbols,
 /// whatever the writer's memory is, and it returns how many. It refuses as [`encode`], and then the
@@ -34,8 +52,7 @@ pub fn there_and_back<R: BitRegister, O: BitOrder<R>>(
         ↔ CanBeEncoded (lengths_of code.now) symbols.now (length (room writer.old)) }
     ensures no_code { (result ≡ Err EncodeError.NoCode)
         ↔ ¬ All (HasCode (lengths_of code.now)) symbols.now }
-    ensures value { IfOk result (λ count.
-        (count ≡ length symbols.now) × (take count back.new ≡ symbols.now)) }
+    ensures value { IfOk result (AreFirst symbols.now back.new) }
     ensures others { IfOk result (λ count. drop count back.new ≡ drop count back.old) }
     ensures written { IfOk result
         (λ _. Writes writer.old writer.new (text_bits (lengths_of code.now) symbols.now)) }
@@ -43,6 +60,5 @@ pub fn there_and_back<R: BitRegister, O: BitOrder<R>>(
 {
     let before = writer.position();
     encode(code, symbols, writer)?;
-    let mut reader = BitReader::new(writer.written_from(before));
-    Ok(decode_into(code, &mut reader, back))
+    Ok(read_text(code, writer.written_from(before), back))
 }

@@ -1,6 +1,7 @@
 //! One symbol's code, written and read.
 
-ghost use Rattle.std.specs.Prelude.{◌≡◌, ◌↔◌, ℕ, ◌<◌, ◌≤◌, ◌++◌, Err, IsOk, IfOk, IsNone, IfSome};
+ghost use Rattle.std.specs.Prelude.{◌≡◌, ◌≢◌, ◌↔◌, ℕ, ◌<◌, ◌≤◌, ◌++◌, Err, IsOk, IfOk};
+ghost use Rattle.std.specs.Prelude.{IsNone, IfSome};
 ghost use Rattle.std.specs.Prelude.{MatchResult, length, slice_index};
 ghost use Rattle.bitvec_stream.specs.Reader.{unread, Passes};
 ghost use Rattle.bitvec_stream.specs.Writer.{room, Writes};
@@ -55,7 +56,29 @@ pub fn put_symbol<R: BitRegister, O: BitOrder<R>>(
     Ok(())
 }
 
+// The symbol with whose code of `len` bits a reader's bits begin, and `None` where they begin with
+// no code of so many.
+#[tactic(auto, using(crate::proofs::SymbolLemmas::by_numbers))]
+fn symbol_of<R: BitRegister, O: BitOrder<R>>(
+    code: &Code<'_>,
+    reader: &BitReader<'_, R, O>,
+    len: usize,
+) -> Option<usize>
+    requires some { 0 < len }
+    requires few { len ≤ 15 }
+    requires inside { len ≤ length (unread reader.now) }
+    ensures some { IfSome result (BeginsWithSymbol (lengths_of code.now) (unread reader.now)) }
+    ensures none { IsNone result → (symbol : ℕ)
+        → BeginsWithSymbol (lengths_of code.now) (unread reader.now) symbol
+        → slice_index (lengths_of code.now) symbol ≢ len }
+{
+    let number = reader.peek_be::<usize>(len).unwrap();
+    let symbol = code.symbol_at(len, number)?;
+    Some(symbol)
+}
+
 // The symbol with whose code a reader's bits begin, and `None` where they begin with none.
+#[tactic(auto, using(crate::proofs::SymbolLemmas::code_inside))]
 fn symbol_before<R: BitRegister, O: BitOrder<R>>(
     code: &Code<'_>,
     reader: &BitReader<'_, R, O>,
@@ -66,10 +89,10 @@ fn symbol_before<R: BitRegister, O: BitOrder<R>>(
     ensures short { IsNone result → length (unread reader.now) < 15 }
 {
     for shorter in 0..15usize {
-        let Ok(number) = reader.peek_be::<usize>(shorter + 1) else {
+        if reader.remaining() == shorter {
             return None;
-        };
-        if let Some(symbol) = code.symbol_at(shorter + 1, number) {
+        }
+        if let Some(symbol) = symbol_of(code, reader, shorter + 1) {
             return Some(symbol);
         }
     }
@@ -94,6 +117,7 @@ fn symbol_before<R: BitRegister, O: BitOrder<R>>(
 /// assert_eq!(rt; next_symbol(&code, &mut reader), Err(DecodeError::Truncated));
 /// assert_eq!(rt; reader.remaining(), 1);
 /// ```
+#[tactic(auto, using(crate::proofs::SymbolLemmas::next_codes))]
 pub fn next_symbol<R: BitRegister, O: BitOrder<R>>(
     code: &Code<'_>,
     reader: &mut BitReader<'_, R, O>,

@@ -38,6 +38,7 @@ fn fits(code: &Code<'_>, symbols: &[usize], room: usize) -> bool
 }
 
 // Writes the codes of symbols, for which there is room.
+#[tactic(auto, using(crate::proofs::TextWrites::writes))]
 fn put_symbols<R: BitRegister, O: BitOrder<R>>(
     code: &Code<'_>,
     symbols: &[usize],

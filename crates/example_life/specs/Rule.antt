@@ -33,8 +33,12 @@ next_cell above row below j = lives (element row j) (around above j + beside row
 abbrev pub row_of : List (List Bool) → ℕ → List Bool
 row_of grid i = slice_index_or grid i []
 
+-- cell j of a grid's row i in the next generation, where the last row is above the first
+abbrev pub cell_after : List (List Bool) → ℕ → ℕ → Bool
+cell_after grid i j =
+    next_cell (row_of grid (place_before (length grid) i)) (row_of grid i) (row_of grid (place_behind (length grid) i)) j
+
 -- a grid's next generation: the rule at each cell
 abbrev pub IsNext : List (List Bool) → List (List Bool) → Type 0
 IsNext old new =
-    (length new ≡ length old) × ((i j : ℕ) → i < length old → j < length (row_of old i)
-    → element (row_of new i) j ≡ next_cell (row_of old (place_before (length old) i)) (row_of old i) (row_of old (place_behind (length old) i)) j)
+    (length new ≡ length old) × ((i j : ℕ) → i < length old → j < length (row_of old i) → element (row_of new i) j ≡ cell_after old i j)

@@ -5,7 +5,7 @@ ghost use Rattle.bitvec.specs.Span.{element};
 ghost use Rattle.bitvec_array.specs.BitArray.{array_bits};
 ghost use Rattle.example_life.specs.Rule.{one_if, lives};
 
-use crate::rows::{both, either, one_alone, turned};
+use crate::rows::{both, either, none, one_alone, turned};
 use bitvec_array::prelude::{BitArray, BitOrder};
 
 /// A row of 64 cells, under any order.
@@ -27,9 +27,9 @@ impl<O: BitOrder<usize>> Counts<O> {
         ensures { (j : ℕ) → j < 64 → CountsTo result j 0 }
     {
         Counts {
-            ones: BitArray::zeros(),
-            twos: BitArray::zeros(),
-            fours: BitArray::zeros(),
+            ones: none(),
+            twos: none(),
+            fours: none(),
         }
     }
 

@@ -2,6 +2,9 @@
 use Rattle.std.proofs.Common.{arith, ◌≡◌, ℕ, ◌<◌, ◌≤◌, ◌^◌, Bool, List, [], ◌++◌, length, take, get_or, refl, sym, ap, subst, ◌∙◌, length-append}
 use Rattle.std.proofs.lemmas.List.{length-take-le, append-nil}
 use Rattle.bitvec_stream.specs.Numbers.{number_be}
+use Rattle.bitvec_stream.specs.Writer.{Writes}
+use Rattle.bitvec_stream.specs.declared.writer.BitWriter.{BitWriter}
+use Rattle.bitvec_stream.proofs.WriterLemmas.{writes-both}
 use Rattle.std.proofs.lemmas.List.Elements.{All-from_recursion}
 use Rattle.example_tcp.specs.Header.{header_row, header_bits, HeaderFits, OneHeader}
 use Rattle.example_tcp.specs.declared.header.Header.{Header}
@@ -41,3 +44,10 @@ header_few h fits = (fits 4 (0, 0) (omega arith), fits 5 (0, 0) (omega arith))
 
 -- what the search takes where it is asked whether a header fits
 pub ruleset fits = (header_fits, header_few)
+
+-- four writes, one behind the other, are one of four lists
+pub writes-four : {R O : Type 0} {a b c d e f g h i : _} → (old one two three new : BitWriter R O a b c d e f g h i) (ws xs ys zs : List Bool) → Writes old one ws → Writes one two xs → Writes two three ys → Writes three new zs
+    → Writes old new (ws ++ xs ++ ys ++ zs)
+writes-four old one two three new ws xs ys zs first second third fourth =
+    let both = writes-both old one two ws xs first second in
+    writes-both old three new (ws ++ xs ++ ys) zs (writes-both old two three (ws ++ xs) ys both third) fourth

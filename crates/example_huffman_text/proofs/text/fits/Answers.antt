@@ -8,4 +8,5 @@ returns-then-left-len c =
     let symbols = c.args.symbols.now in
     let place = c.loop-place.place in
     let more = long_more (lengths_of c.args.code.now) symbols place c.loop-place-test.true in
-    (λ h. cc, λ h. absurd (omega (arith, h, more, text_part (lengths_of c.args.code.now) symbols (place + 1))))
+    let part = text_part (lengths_of c.args.code.now) symbols (place + 1) in
+    (λ h. cc, λ h. absurd (omega (arith, h, more, part)))
