@@ -1,2 +1,3 @@
+mod EditLemmas
 mod SliceRunLemmas
 mod SubsetLemmas

@@ -8,7 +8,8 @@ ghost use Rattle.bitvec.specs.Place.{region_max_bits};
 ghost use Rattle.bitvec.specs.Span.{Fits, KeepsOthers, element, span_from};
 ghost use Rattle.bitvec.specs.Truths.{ones_in};
 ghost use Rattle.bitvec_slice.specs.BitSlice.{slice_memory, slice_span, slice_bits};
-ghost use Rattle.bitvec_slice.specs.BitSliceMut.{lent_memory, lent_span, lent_bits};
+ghost use Rattle.bitvec_slice.specs.BitSliceMut.{lent_memory, lent_span, lent_len, lent_bits};
+ghost use Rattle.bitvec_slice.specs.BitSliceMut.{BecomesBits};
 ghost use Rattle.bitvec_slice.specs.Orders.{lsb0_at, msb0_at};
 ghost use Rattle.tests_slice.specs.SpanRuns.{IsRunFromReplace};
 
@@ -36,6 +37,16 @@ fn set_two<R: BitRegister, O: BitOrder<R>>(span: BitSpan<R, O>, memory: &mut [R]
     slice.set(0, true);
     slice.set(1, false);
     true
+}
+
+/// One bit, and then the first: two edits are one, which says what lies beside both.
+fn mark_and_clear<'a, R: BitRegister, O: BitOrder<R>>(bits: &mut BitSliceMut<'a, R, O>, i: usize)
+    requires { i < lent_len bits.old }
+    ensures { let marked = slice_set (lent_bits bits.old) i true
+        in BecomesBits bits.old bits.new (slice_set marked 0 false) }
+{
+    bits.set(i, true);
+    bits.set(0, false);
 }
 
 /// The first bit of bytes in an order that the contract names.
