@@ -392,6 +392,27 @@ impl<'a, T: Register, O: Order, const FLIP: bool> Indices<'a, T, O, FLIP> {
         take_last(&mut self.back)
     }
 
+    /// By words, of which the indices are counted.
+    fn nth(&mut self, n: usize) -> Option<usize> {
+        let mut left = drop_first(&mut self.front, n);
+        while left > 0 && self.from < self.to {
+            (self.front, self.from) = ahead::<T, O, FLIP>(self.bits, self.from, self.to);
+            left = drop_first(&mut self.front, left);
+        }
+        drop_first(&mut self.back, left);
+        self.next()
+    }
+
+    fn nth_back(&mut self, n: usize) -> Option<usize> {
+        let mut left = drop_last(&mut self.back, n);
+        while left > 0 && self.from < self.to {
+            (self.back, self.to) = behind::<T, O, FLIP>(self.bits, self.from, self.to);
+            left = drop_last(&mut self.back, left);
+        }
+        drop_last(&mut self.front, left);
+        self.next_back()
+    }
+
     fn fold<B, F: FnMut(B, usize) -> B>(self, init: B, mut f: F) -> B {
         let mut each = |acc, mut held: (u64, usize)| {
             let mut acc = acc;
@@ -523,6 +544,20 @@ fn take_first((digits, at): &mut (u64, usize)) -> Option<usize> {
     Some(*at + digit)
 }
 
+/// Drops `count` of the lowest digits that are one, and returns how many of so many there are not.
+fn drop_first((digits, _): &mut (u64, usize), count: usize) -> usize {
+    let ones = digits.count_ones() as usize;
+    (0..count.min(ones)).for_each(|_| *digits &= *digits - 1);
+    count.saturating_sub(ones)
+}
+
+/// Drops the highest so.
+fn drop_last((digits, _): &mut (u64, usize), count: usize) -> usize {
+    let ones = digits.count_ones() as usize;
+    (0..count.min(ones)).for_each(|_| *digits &= !(1 << digits.ilog2()));
+    count.saturating_sub(ones)
+}
+
 /// Takes the highest digit that is one, and returns its index.
 #[inline]
 fn take_last((digits, at): &mut (u64, usize)) -> Option<usize> {
@@ -553,6 +588,10 @@ macro_rules! indices {
                 self.0.size_hint()
             }
 
+            fn nth(&mut self, n: usize) -> Option<usize> {
+                self.0.nth(n)
+            }
+
             fn count(self) -> usize {
                 self.0.count()
             }
@@ -570,6 +609,10 @@ macro_rules! indices {
             #[inline]
             fn next_back(&mut self) -> Option<usize> {
                 self.0.next_back()
+            }
+
+            fn nth_back(&mut self, n: usize) -> Option<usize> {
+                self.0.nth_back(n)
             }
         }
 

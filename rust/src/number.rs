@@ -1,8 +1,12 @@
 //! The types of numbers that stand in ranges of bits.
 
+use crate::proved::bitvec::mem::BitRegister;
+use crate::proved::bitvec_slice::field::Sequential;
+use crate::proved::bitvec_slice::slice::BitSlice;
 use crate::refusal::Refusal;
 use crate::sys::Exports;
 use core::fmt::Debug;
+use core::num::NonZero;
 
 /// A number of at most 64 bits: `u8` to `u64`, `usize`, `i8` to `i64`, `isize`, and no other.
 ///
@@ -30,8 +34,12 @@ use core::fmt::Debug;
 pub trait Number: digits::Digits + Copy + Debug {}
 
 pub(crate) mod digits {
+    use crate::proved::bitvec::mem::BitRegister;
+    use crate::proved::bitvec_slice::field::Sequential;
+    use crate::proved::bitvec_slice::slice::BitSlice;
     use crate::refusal::Refusal;
     use crate::sys::Exports;
+    use core::num::NonZero;
 
     /// A number, and the exports that take one of its kind: those of signed numbers where it is
     /// signed. Nothing outside this crate can name it.
@@ -69,14 +77,8 @@ pub(crate) mod digits {
         #[cfg(feature = "std")]
         fn of_wide(number: i128) -> Result<Self, Refusal>;
 
-        /// The number of `count` bits, at most its width.
-        fn load<T: Exports>(
-            order: u8,
-            big: bool,
-            words: &[T],
-            start: usize,
-            count: usize,
-        ) -> Result<Self, Refusal>;
+        /// The number of bits, at most its width, those of the first word highest where `big`.
+        fn load<R: BitRegister, O: Sequential<R>>(bits: &BitSlice<R, O>, big: bool) -> Self;
 
         /// Makes `count` bits its lowest digits.
         fn store<T: Exports>(
@@ -87,6 +89,13 @@ pub(crate) mod digits {
             start: usize,
             count: usize,
         ) -> Result<(), Refusal>;
+
+        /// The number whose Exp-Golomb code has these digits behind its zeros, at most 32, where the type
+        /// has it.
+        fn of_code(digits: u64) -> Option<Self>;
+
+        /// The digits of its Exp-Golomb code, where these are at most 32.
+        fn code(self) -> Option<NonZero<u32>>;
 
         /// The number of the Exp-Golomb code that stands there.
         fn read_code<T: Exports>(
@@ -109,7 +118,7 @@ pub(crate) mod digits {
 
 macro_rules! numbers {
     ($(
-        $t:ident: $wide:ident by $load:ident, $store:ident, $read_code:ident,
+        $t:ident: $wide:ident by $load_be:ident, $load_le:ident, $store:ident, $read_code:ident,
             $write_code:ident;
     )*) => { $(
         impl Number for $t {}
@@ -170,9 +179,37 @@ macro_rules! numbers {
             }
 
             #[inline]
-            fn load<T: Exports>(order: u8, big: bool, words: &[T], start: usize, count: usize) -> Result<Self, Refusal> {
-                let wide = T::$load(order, big, words, start, count)?;
-                Ok(wide as Self)
+            #[allow(clippy::cast_possible_wrap)] // (of so few digits)
+            fn of_code(digits: u64) -> Option<Self> {
+                let half = digits as $wide / 2;
+                Self::try_from(match (Self::HAS_SIGN, digits % 2) {
+                    (false, _) => digits as $wide - 1,
+                    (true, 0) => half,
+                    (true, _) => half.wrapping_neg(),
+                })
+                .ok()
+            }
+
+            #[inline]
+            #[allow(clippy::cast_sign_loss)] // (it is not negative)
+            fn code(self) -> Option<NonZero<u32>> {
+                let wide = self as $wide;
+                let digits = match (Self::HAS_SIGN, wide > 0) {
+                    (false, _) => wide.checked_add(1)?,
+                    (true, true) => wide.checked_mul(2)?,
+                    (true, false) => (1 as $wide).checked_sub(wide.checked_mul(2)?)?,
+                };
+                NonZero::new(u32::try_from(digits).ok()?)
+            }
+
+            #[inline]
+            fn load<R: BitRegister, O: Sequential<R>>(bits: &BitSlice<R, O>, big: bool) -> Self {
+                let wide: $wide = if big {
+                    bits.$load_be()
+                } else {
+                    bits.$load_le()
+                };
+                wide as Self
             }
 
             #[inline]
@@ -204,14 +241,19 @@ macro_rules! numbers {
 }
 
 numbers! {
-    u8: u64 by load, store, read_exp_golomb, write_exp_golomb;
-    u16: u64 by load, store, read_exp_golomb, write_exp_golomb;
-    u32: u64 by load, store, read_exp_golomb, write_exp_golomb;
-    u64: u64 by load, store, read_exp_golomb, write_exp_golomb;
-    usize: u64 by load, store, read_exp_golomb, write_exp_golomb;
-    i8: i64 by load_signed, store_signed, read_signed_exp_golomb, write_signed_exp_golomb;
-    i16: i64 by load_signed, store_signed, read_signed_exp_golomb, write_signed_exp_golomb;
-    i32: i64 by load_signed, store_signed, read_signed_exp_golomb, write_signed_exp_golomb;
-    i64: i64 by load_signed, store_signed, read_signed_exp_golomb, write_signed_exp_golomb;
-    isize: i64 by load_signed, store_signed, read_signed_exp_golomb, write_signed_exp_golomb;
+    u8: u64 by load_be, load_le, store, read_exp_golomb, write_exp_golomb;
+    u16: u64 by load_be, load_le, store, read_exp_golomb, write_exp_golomb;
+    u32: u64 by load_be, load_le, store, read_exp_golomb, write_exp_golomb;
+    u64: u64 by load_be, load_le, store, read_exp_golomb, write_exp_golomb;
+    usize: u64 by load_be, load_le, store, read_exp_golomb, write_exp_golomb;
+    i8: i64 by load_signed_be, load_signed_le, store_signed, read_signed_exp_golomb,
+        write_signed_exp_golomb;
+    i16: i64 by load_signed_be, load_signed_le, store_signed, read_signed_exp_golomb,
+        write_signed_exp_golomb;
+    i32: i64 by load_signed_be, load_signed_le, store_signed, read_signed_exp_golomb,
+        write_signed_exp_golomb;
+    i64: i64 by load_signed_be, load_signed_le, store_signed, read_signed_exp_golomb,
+        write_signed_exp_golomb;
+    isize: i64 by load_signed_be, load_signed_le, store_signed, read_signed_exp_golomb,
+        write_signed_exp_golomb;
 }

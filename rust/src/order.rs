@@ -100,7 +100,7 @@ impl code::Code for Msb0 {
 
 pub(crate) mod code {
     use crate::proved::bitvec::mem::BitRegister;
-    use crate::proved::bitvec::order::BitOrder;
+    use crate::proved::bitvec_slice::field::Sequential;
 
     /// The number by which the library knows an order. Nothing outside this crate can name it.
     pub trait Code {
@@ -108,7 +108,7 @@ pub(crate) mod code {
         const CODE: u8;
 
         /// The order as the library has it.
-        type In<R: BitRegister>: BitOrder<R>;
+        type In<R: BitRegister>: Sequential<R>;
 
         /// Whether a number has the bits in this order, or in the opposite one, where the part of
         /// its first word is highest.

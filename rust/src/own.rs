@@ -191,6 +191,15 @@ impl<'a, T: Register, O: Order> BitSlice<'a, T, O> {
         span.and_then(|span| slice::BitSlice::new(span, T::words(words)))
             .expect("a slice lies in its words")
     }
+
+    /// The same, with no test: that its range lies in its words was tested when it was made.
+    #[inline]
+    pub(crate) fn tested(&self) -> Proved<'a, T, O> {
+        let (words, start) = self.place();
+        let span = BitSpan::at_unchecked(start, self.len());
+        debug_assert!(span.fits(words.len()), "a slice lies in its words");
+        slice::BitSlice::new_unchecked(span, T::words(words))
+    }
 }
 
 /// What has bits: a slice, an array, a vector or a box of them, and a reference to one. What takes

@@ -2,6 +2,7 @@
 
 use crate::index::BitIndex;
 use crate::number::Number;
+use crate::number::digits::Digits;
 use crate::order::Order;
 use crate::proxy::{BitRef, Const};
 use crate::range::{MAX_BITS, bits_of, within};
@@ -212,6 +213,12 @@ impl<'a, T: Register, O: Order> BitSlice<'a, T, O> {
     #[inline]
     pub(crate) fn seen(&self) -> Words<'a> {
         T::seen(self.words)
+    }
+
+    /// The bits, at most 64, as digits: the first is the highest where the order is `BIG`, else the lowest.
+    #[inline]
+    pub(crate) fn digits(&self) -> u64 {
+        u64::load(&self.tested(), O::BIG)
     }
 
     /// At most 64 bits from an index on, as digits, the first lowest.
@@ -462,7 +469,11 @@ impl<'a, T: Register, O: Order> BitSlice<'a, T, O> {
         if self.len > N::WIDTH {
             return Err(Refusal::TooWide);
         }
-        N::load(O::CODE, big, self.words, self.start, self.len)
+        // (no bits; asked here, so that of the first word's place the compiler need not ask twice)
+        if self.start / T::BITS >= self.words.len() {
+            return Ok(N::of_digits(0, 0));
+        }
+        Ok(N::load(&self.tested(), big))
     }
 }
 

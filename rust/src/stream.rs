@@ -4,7 +4,7 @@ use crate::number::Number;
 use crate::order::Order;
 use crate::refusal::Refusal;
 use crate::register::Register;
-use crate::slice::{BitSlice, granted, to_boundary};
+use crate::slice::{BitSlice, to_boundary};
 
 /// The bits of a slice, and the place among them behind those that were read.
 ///
@@ -70,7 +70,7 @@ impl<'a, T: Register> At<'a, T> {
 /// `count` bits from a place on, at most 64, as the window of a reader has them.
 #[inline]
 fn bits_at<T: Register, O: Order>(words: &[T], place: usize, count: usize) -> u64 {
-    let digits = granted(T::load(O::CODE, O::BIG, words, place, count));
+    let digits = BitSlice::<T, O>::of(words, place, count).digits();
     if O::BIG && count > 0 {
         digits << (64 - count)
     } else {
@@ -207,6 +207,29 @@ fn behind<O: Order>(window: u64, count: usize) -> u64 {
     } else {
         window >> count
     }
+}
+
+/// How many of the first bits of a window are zero.
+#[inline]
+fn run_of_zeros<O: Order>(window: u64) -> usize {
+    let zeros = if O::BIG {
+        window.leading_zeros()
+    } else {
+        window.trailing_zeros()
+    };
+    zeros as usize
+}
+
+/// The number whose Exp-Golomb code stands next, by the library, and where a reader stands behind it.
+#[cold]
+#[inline(never)]
+fn code_on<'a, T: Register, O: Order, N: Number>(
+    bits: BitSlice<'a, T, O>,
+    at: At<'a, T>,
+) -> Result<(N, At<'a, T>), Refusal> {
+    let mut reader = BitReader { bits, at };
+    let number = reader.ask(|words, place, end| N::read_code(O::CODE, words, place, end))?;
+    Ok((number, reader.at))
 }
 
 impl<'a, T: Register, O: Order> BitReader<'a, T, O> {
@@ -637,12 +660,7 @@ impl<'a, T: Register, O: Order> BitReader<'a, T, O> {
     #[inline]
     pub fn read_unary(&mut self, bit: bool) -> Result<usize, Refusal> {
         let At { window, held, .. } = self.at;
-        let zeros = if bit { !window } else { window };
-        let run = if O::BIG {
-            zeros.leading_zeros()
-        } else {
-            zeros.trailing_zeros()
-        } as usize;
+        let run = run_of_zeros::<O>(if bit { !window } else { window });
         if run < held {
             self.pass(run + 1);
             return Ok(run);
@@ -680,6 +698,34 @@ impl<'a, T: Register, O: Order> BitReader<'a, T, O> {
     /// ```
     #[inline]
     pub fn read_exp_golomb<N: Number>(&mut self) -> Result<N, Refusal> {
-        self.ask(|words, place, end| N::read_code(O::CODE, words, place, end))
+        let at = self.at;
+        let Some(count) = self.code_length() else {
+            let (number, behind_it) = code_on::<T, O, N>(self.bits, at)?;
+            self.at = behind_it;
+            return Ok(number);
+        };
+        let number = N::of_code(self.number(true, count)?);
+        if number.is_none() {
+            self.at = at;
+        }
+        number.ok_or(Refusal::TooLarge)
+    }
+
+    /// How many bits the Exp-Golomb code has that stands next, where they are fewer than 64, and what is
+    /// held, or the next 64 bits of whole words behind it, shows that.
+    #[inline]
+    fn code_length(&self) -> Option<usize> {
+        let At {
+            words,
+            window,
+            held,
+            ..
+        } = self.at;
+        let mut zeros = run_of_zeros::<O>(window);
+        if zeros >= held {
+            let (next, _) = T::split_joined(words, O::BIG)?;
+            zeros = run_of_zeros::<O>(window | behind_held::<O>(next, held));
+        }
+        (zeros < 32).then_some(2 * zeros + 1)
     }
 }

@@ -2,9 +2,10 @@
 //! exports for C are made.
 //!
 //! Each is proved for all arguments, with no condition on their values: it tests them, and answers a
-//! status. The calls that this crate makes besides, of vectors (`vec`), free maps (`freemap`) and the
-//! search for a pattern (`own`, `pieces`), have no condition either, or it is tested before. So a call
-//! of the library that has one is reached by calls of the library, which a proof says meet it.
+//! status. The calls that this crate makes besides, of vectors (`vec`), free maps (`freemap`), the
+//! search for a pattern and the numbers of slices (`own`, `pieces`, `number`), have no condition
+//! either, or it is tested before. So a call of the library that has one is reached by calls of the
+//! library, which a proof says meet it.
 
 use crate::proved::bitvec::mem::BitRegister;
 use crate::proved::bitvec::ptr::combine::{And, AndNot, Or, Xor};
@@ -418,20 +419,6 @@ pub trait Exports: Copy {
     #[inline]
     fn swap(order: u8, memory: &mut [Self], place: usize, other: usize) -> Result<(), Refusal> {
         Refusal::check(exchange::swap(order, Self::words_mut(memory), place, other))
-    }
-
-    /// Reads `count` bits from a place on as a signed number.
-    #[inline]
-    fn load_signed(
-        order: u8,
-        big_endian: bool,
-        memory: &[Self],
-        start: usize,
-        count: usize,
-    ) -> Result<i64, Refusal> {
-        asked(|answer| {
-            signed::load_signed(order, big_endian, Self::words(memory), start, count, answer)
-        })
     }
 
     /// Writes a signed number to `count` bits from a place on.

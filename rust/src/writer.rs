@@ -814,6 +814,10 @@ impl<'a, T: Register, O: Order> BitWriter<'a, T, O> {
     /// ```
     #[inline]
     pub fn write_exp_golomb<N: Number>(&mut self, number: N) -> Result<(), Refusal> {
+        if let Some(code) = number.code() {
+            let zeros = code.ilog2() as usize;
+            return self.number::<u64>(true, 2 * zeros + 1, code.get().into());
+        }
         self.ask(|words, place, end| number.write_code(O::CODE, words, place, end))
     }
 }

@@ -23,6 +23,7 @@ for_all_memories!(copy_from_copies_all_bits, 13);
 for_all_memories!(copy_within_moves_bits, 14);
 for_all_memories!(copy_bits_copies_a_range, 15);
 for_all_edges!(all_ones_and_zeros_are_listed, 16);
+for_all_edges!(numbers_are_loaded_from_each_place, 17);
 
 mod cases {
     use crate::common::{Layout, Random, Word, bits_of, checked, moved, word_and_digit};
@@ -149,6 +150,43 @@ mod cases {
         });
         assert_eq!(answer, expected);
         assert_eq!(bits_of::<T, O>(&words), model);
+    }
+
+    /// The number of places, of as many digits as the type has at most.
+    fn loaded<T: Word, O: Layout>(
+        model: &[bool],
+        range: Range<usize>,
+        big: bool,
+        width: usize,
+    ) -> Result<u64, Refusal> {
+        if range.len() > width {
+            return Err(Refusal::TooWide);
+        }
+        let places = by_digit::<T, O>(range, big).into_iter().rev();
+        let bits = places.map(|place| u64::from(model[place]));
+        Ok(bits.fold(0, |number, bit| number << 1 | bit))
+    }
+
+    pub fn numbers_are_loaded_from_each_place<T: Word, O: Layout>(
+        random: &mut Random,
+        range: Range<usize>,
+    ) {
+        let count = range.end.div_ceil(T::BITS) + random.below(3);
+        let words: Vec<T> = (0..count).map(|_| T::of(random.number())).collect();
+        let model = bits_of::<T, O>(&words);
+        let bits = BitSlice::<T, O>::new(&words, range.clone()).unwrap();
+        let number = |big, width| loaded::<T, O>(&model, range.clone(), big, width);
+        assert_eq!(bits.try_load_be::<u64>(), number(true, 64));
+        assert_eq!(bits.try_load_le::<u64>(), number(false, 64));
+        assert_eq!(bits.try_load_be::<u8>().map(u64::from), number(true, 8));
+        assert_eq!(bits.try_load_le::<u32>().map(u64::from), number(false, 32));
+        let above = 64 - range.len().clamp(1, 64);
+        let signed = |number: u64| (number << above).cast_signed() >> above;
+        assert_eq!(bits.try_load_be::<i64>(), number(true, 64).map(signed));
+        assert_eq!(
+            bits.try_load_le::<i16>().map(i64::from),
+            number(false, 16).map(signed)
+        );
     }
 
     pub fn load_le_reads_a_number<T: Word, O: Layout>(random: &mut Random) {

@@ -17,6 +17,8 @@ for_all_memories!(writes_take_turns, 48);
 for_all_edges!(rows_are_read, 49);
 for_all_edges!(rows_are_written, 50);
 for_all_edges!(rows_are_held, 51);
+for_all_edges!(rows_of_codes_are_read, 52);
+for_all_edges!(rows_of_codes_are_written, 53);
 
 mod cases {
     use crate::common::{Layout, Random, Word, bits_of, checked, with_any_other};
@@ -327,6 +329,44 @@ mod cases {
         assert_eq!(reader.rest().iter().collect::<Vec<_>>(), model[place..]);
     }
 
+    /// A read of a code: how many bits are passed over.
+    fn takes_code<T: Word, O: Layout, N: Plain>(
+        reader: &mut BitReader<'_, T, O>,
+        left: &[bool],
+    ) -> usize {
+        let expected = code_in::<N>(left);
+        let number = expected.map(|(number, _)| number);
+        assert_eq!(reader.read_exp_golomb::<N>(), number);
+        expected.map_or(0, |(_, len)| len)
+    }
+
+    pub fn rows_of_codes_are_read<T: Word, O: Layout>(random: &mut Random, range: Range<usize>) {
+        // (with more zeros than ones, mostly)
+        let (mut words, _) = words_around::<T, O>(random, &range);
+        for _ in 0..random.below(4) {
+            let mask = random.number();
+            let thin = |word: &mut T| *word = T::of(word.number() & mask);
+            words.iter_mut().for_each(thin);
+        }
+        let bits = bits_of::<T, O>(&words);
+        let model = &bits[range.clone()];
+        let mut reader = BitReader::new(BitSlice::<T, O>::new(&words, range).unwrap());
+        let mut place = 0;
+        for _ in 0..5 {
+            let count = random.below(40).min(model.len() - place);
+            assert_eq!(reader.skip(count), Ok(()));
+            place += count;
+            let left = &model[place..];
+            place += match random.below(8) {
+                0 => takes_code::<T, O, u8>(&mut reader, left),
+                1 => takes_code::<T, O, i16>(&mut reader, left),
+                2 => takes_code::<T, O, i64>(&mut reader, left),
+                _ => takes_code::<T, O, u64>(&mut reader, left),
+            };
+            assert_eq!(reader.position(), place);
+        }
+    }
+
     /// A number of any count of digits.
     fn any_number<N: Plain>(random: &mut Random) -> N {
         let digits = random.below(N::DIGITS + 1);
@@ -563,6 +603,37 @@ mod cases {
             if !is_written {
                 break;
             }
+        }
+        assert_eq!(bits_of::<T, O>(&words), target.bits);
+    }
+
+    /// A write of a code; whether there was room for it.
+    fn puts_code<T: Word, O: Layout, N: Plain>(
+        random: &mut Random,
+        writer: &mut BitWriter<'_, T, O>,
+        target: &mut Target,
+    ) -> bool {
+        let number = any_number::<N>(random);
+        let answer = writer.write_exp_golomb(number);
+        assert_eq!(answer, target.put(&code_of(number)));
+        answer.is_ok()
+    }
+
+    pub fn rows_of_codes_are_written<T: Word, O: Layout>(random: &mut Random, range: Range<usize>) {
+        let (mut words, bits) = words_around::<T, O>(random, &range);
+        let slice = BitSliceMut::<T, O>::new(&mut words, range.clone()).unwrap();
+        let (mut writer, len) = (BitWriter::new(slice), 0);
+        let mut target = Target { bits, range, len };
+        let mut is_written = true;
+        while is_written {
+            is_written = match random.below(6) {
+                0 => puts_code::<T, O, u8>(random, &mut writer, &mut target),
+                1 => puts_code::<T, O, i8>(random, &mut writer, &mut target),
+                2 => puts_code::<T, O, i32>(random, &mut writer, &mut target),
+                3 => puts_code::<T, O, i64>(random, &mut writer, &mut target),
+                _ => puts_code::<T, O, u64>(random, &mut writer, &mut target),
+            };
+            target.check(&writer);
         }
         assert_eq!(bits_of::<T, O>(&words), target.bits);
     }

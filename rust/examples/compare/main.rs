@@ -12,7 +12,9 @@ mod timing;
 
 use std::cell::RefCell;
 use std::hint::black_box;
-use worghulen::{BitReader, BitSlice, BitSliceMut, BitVec, BitWriter, Lsb0, Msb0, copy_bits};
+use worghulen::{
+    BitReader, BitSlice, BitSliceMut, BitVec, BitView, BitWriter, Lsb0, Msb0, copy_bits,
+};
 
 const WORDS: usize = 65536;
 /// All bits of the words but those of four.
@@ -121,6 +123,21 @@ fn compare_bits(source: &[u64]) {
         READS,
         || {
             let bits = black_box(ours);
+            let is_one = |place: &usize| bits.get(black_box(*place)).is_some_and(|bit| *bit);
+            black_box(places().filter(is_one).count());
+        },
+        || {
+            let words = black_box(source);
+            let is_one = |place: &usize| by_hand::get(words, black_box(*place)) == Some(true);
+            black_box(places().filter(is_one).count());
+        },
+    );
+    // (of words as both have them, so that where the bits start, and how many they are, is known)
+    compare(
+        "bit-get-view",
+        READS,
+        || {
+            let bits = black_box(source).view_bits::<Lsb0>();
             let is_one = |place: &usize| bits.get(black_box(*place)).is_some_and(|bit| *bit);
             black_box(places().filter(is_one).count());
         },
