@@ -33,6 +33,24 @@ use core::num::NonZero;
 )]
 pub trait Number: digits::Digits + Copy + Debug {}
 
+/// The numbers of so many ones: of more than 64 as of 64. (A look here costs less than a shift by a
+/// count that is not known, and needs no test, since there are as many as a mask lets pass.)
+const ONES: &[u64; 128] = &{
+    let mut ones = [u64::MAX; 128];
+    let mut count = 0;
+    while count < 64 {
+        ones[count] = !(u64::MAX << count);
+        count += 1;
+    }
+    ones
+};
+
+/// The number whose lowest digits are ones, `count` of them and at most 64, and whose others are zeros.
+#[inline]
+pub(crate) fn ones(count: usize) -> u64 {
+    ONES[count % ONES.len()]
+}
+
 pub(crate) mod digits {
     use crate::proved::bitvec::mem::BitRegister;
     use crate::proved::bitvec_slice::field::Sequential;
@@ -55,9 +73,6 @@ pub(crate) mod digits {
 
         /// Its lowest digits, `count` of them and at most its width, where it is the number of these.
         fn digits(self, count: usize) -> Option<u64>;
-
-        /// The same of fewer digits than 64.
-        fn few_digits(self, count: usize) -> Option<u64>;
 
         /// Its lowest digits, `count` of them, where a number of its type has as many and it has no
         /// more.
@@ -146,7 +161,7 @@ macro_rules! numbers {
             fn digits(self, count: usize) -> Option<u64> {
                 let wide = self as u64;
                 if !Self::HAS_SIGN {
-                    return (count > 63 || wide >> count == 0).then_some(wide);
+                    return (wide <= ones(count)).then_some(wide);
                 }
                 let digits = if count == 0 {
                     0
@@ -154,16 +169,6 @@ macro_rules! numbers {
                     wide << (64 - count) >> (64 - count)
                 };
                 (Self::of_digits(digits, count) == self).then_some(digits)
-            }
-
-            #[inline]
-            #[allow(clippy::cast_sign_loss)] // (none has a sign here)
-            fn few_digits(self, count: usize) -> Option<u64> {
-                if Self::HAS_SIGN {
-                    return self.digits(count);
-                }
-                let wide = self as u64;
-                (wide.wrapping_shr(count as u32) == 0).then_some(wide)
             }
 
             #[cfg(feature = "std")]

@@ -33,8 +33,15 @@ pub trait Owned: Exports + Eq {
     /// Puts 64 bits in place of those that `joined` has, where there are that many.
     fn put(words: &mut [Self], from: usize, big: bool, digits: u64) -> Option<()>;
 
-    /// The same, and returns the 64 behind them, where there are these too.
-    fn put_before(words: &mut [Self], from: usize, big: bool, digits: u64) -> Option<u64>;
+    /// The same, and has those of a call in place of the 64 behind them, which it is told and which are
+    /// returned, where there are these too.
+    fn put_both(
+        words: &mut [Self],
+        from: usize,
+        big: bool,
+        digits: u64,
+        behind: impl FnOnce(u64) -> u64,
+    ) -> Option<u64>;
 
     /// A vector, as the library is to have it.
     #[cfg(feature = "alloc")]
@@ -94,17 +101,12 @@ macro_rules! put_number {
     }};
 }
 
-/// `N` words from one on, where there are that many. (By one test of its index, where the words do
-/// not change: this is asked of each number that is written.)
+/// `N` words from one on, where there are that many. (By one test, since no memory has so many words
+/// that their number has the highest digit: this is asked of each number that is written.)
 #[inline]
 fn some_of<T, const N: usize>(words: &mut [T], from: usize) -> Option<&mut [T; N]> {
-    if N == 1 {
-        return words.get_mut(from..)?.first_chunk_mut();
-    }
-    if from > words.len().checked_sub(N)? {
-        return None;
-    }
-    words[from..].first_chunk_mut()
+    let from = from & (usize::MAX >> 1);
+    words.get_mut(from..from + N)?.first_chunk_mut()
 }
 
 macro_rules! owned {
@@ -144,18 +146,22 @@ macro_rules! owned {
             }
 
             #[inline]
-            fn put_before(
+            fn put_both(
                 words: &mut [Self],
                 from: usize,
                 big: bool,
                 digits: u64,
+                behind: impl FnOnce(u64) -> u64,
             ) -> Option<u64> {
                 const COUNT: usize = 64 / $word::BITS as usize;
                 let both = some_of::<Self, { 2 * COUNT }>(words, from)?;
-                let (words, behind) = both.split_first_chunk_mut::<COUNT>()?;
-                let behind: &[Self; COUNT] = behind.first_chunk()?;
+                let (words, rest) = both.split_first_chunk_mut::<COUNT>()?;
+                let rest: &mut [Self; COUNT] = rest.first_chunk_mut()?;
                 put_number!($word in words, big, digits);
-                Some(number!($word of behind, big))
+                let stood = number!($word of rest, big);
+                let digits = behind(stood);
+                put_number!($word in rest, big, digits);
+                Some(stood)
             }
 
             #[cfg(feature = "alloc")]

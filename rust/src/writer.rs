@@ -1,6 +1,6 @@
 //! Numbers that are written one behind the other.
 
-use crate::number::Number;
+use crate::number::{Number, ones};
 use crate::order::Order;
 use crate::refusal::Refusal;
 use crate::register::Register;
@@ -34,77 +34,108 @@ use crate::slice_mut::BitSliceMut;
 #[derive(Debug)]
 pub struct BitWriter<'a, T: Register, O: Order> {
     bits: BitSliceMut<'a, T, O>,
-    /// 64 bits of the slice, those of its words from one on, so that these need not be read again, of
-    /// which the last `free` are still to be written. These stand before the others, as `turned_by`
-    /// has them. Where `free` is 0 there are none, and the word is past all words.
-    window: u64,
+    at: Window,
+}
+
+/// Where a writer stands. (What is seldom called is handed its numbers and not itself, so that it can
+/// stay in registers.)
+#[derive(Debug)]
+struct Window {
+    /// 64 bits of the slice, those of its words from one on, of which the last `free` are still to be
+    /// written: these are zeros here. Where `free` is 0 there are none, and the word is past all words.
+    written: u64,
+    /// The same bits as they stood in the words, which the last `free` still do: not of a writer that
+    /// holds them.
+    stood: u64,
     word: usize,
     free: usize,
     /// How many bits of the slice are behind those that are free.
     left: usize,
 }
 
-/// Puts digits, their number before them, from a place on, which end before that of an end. Returns the
-/// window behind them, the word that it begins with, and how many of its bits are free: 0 where the
-/// words have not 64 before the end. (What a writer holds is not lent, so that it can stay in
-/// registers.)
-#[inline(never)]
-fn begun<T: Register, O: Order>(
-    words: &mut [T],
-    place: usize,
-    end: usize,
-    (count, digits): (usize, u64),
-) -> (u64, usize, usize) {
-    granted(T::store(O::CODE, O::BIG, words, place, count, digits));
-    let (word, into) = ((place + count) / T::BITS, (place + count) % T::BITS);
-    match T::joined(words, word, O::BIG) {
-        Some(window) if word * T::BITS + 64 <= end => {
-            (turned_by::<O>(window, into), word, 64 - into)
+impl Window {
+    /// No bits are known, and so many are left.
+    #[inline]
+    fn none(left: usize) -> Self {
+        Self {
+            written: 0,
+            stood: 0,
+            word: usize::MAX,
+            free: 0,
+            left,
         }
-        _ => (0, usize::MAX, 0),
+    }
+
+    /// The bits of words from a place on, which end before that of an end: none where the words have not
+    /// 64 before it.
+    #[inline]
+    fn at<T: Register, O: Order>(words: &[T], place: usize, end: usize) -> Self {
+        let (word, into) = (place / T::BITS, place % T::BITS);
+        match T::joined(words, word, O::BIG) {
+            Some(stood) if word * T::BITS + 64 <= end => Self {
+                written: stood ^ last::<O>(stood, 64 - into),
+                stood,
+                word,
+                free: 64 - into,
+                left: end - word * T::BITS - 64,
+            },
+            _ => Self::none(end - place),
+        }
+    }
+
+    /// Becomes another. (Of a copy of all at once the compiler would have each in memory.)
+    #[inline]
+    fn set(&mut self, other: &Self) {
+        self.written = other.written;
+        self.stood = other.stood;
+        self.word = other.word;
+        self.free = other.free;
+        self.left = other.left;
+    }
+
+    /// For how many bits there is room.
+    #[inline]
+    fn remaining(&self) -> usize {
+        self.free + self.left
+    }
+
+    /// The 64 bits, of which those that are free are as they stood.
+    #[inline]
+    fn all<O: Order>(&self) -> u64 {
+        self.written | last::<O>(self.stood, self.free)
+    }
+
+    /// Takes digits, the first by the order, fewer than are free.
+    #[inline]
+    #[allow(clippy::cast_possible_truncation)] // (of a place in a window)
+    fn take<O: Order>(&mut self, count: usize, digits: u64) {
+        let free = self.free - count;
+        self.written |= if O::BIG {
+            digits.wrapping_shl(free as u32)
+        } else {
+            digits.wrapping_shl(64 - self.free as u32)
+        };
+        self.free = free;
     }
 }
 
-/// 64 bits, of which the first `count` stand behind the others.
+/// Puts the bits of a window that a writer held in place of those of words from one on, of which the
+/// last, `free` of them, stay. Where the words have none there, it does nothing.
+#[inline(never)]
+fn put_held<T: Register, O: Order>(words: &mut [T], word: usize, written: u64, free: usize) {
+    if let Some(stood) = T::joined(words, word, O::BIG) {
+        T::put(words, word, O::BIG, written | last::<O>(stood, free));
+    }
+}
+
+/// The last of 64 bits, `count` of them and at most as many, and zeros in place of the others.
 #[inline]
-#[allow(clippy::cast_possible_truncation)] // (by 64 bits is by none)
-fn turned_by<O: Order>(window: u64, count: usize) -> u64 {
+fn last<O: Order>(bits: u64, count: usize) -> u64 {
     if O::BIG {
-        window.rotate_left(count as u32)
+        bits & ones(count)
     } else {
-        window.rotate_right(count as u32)
+        bits & !ones(64 - count)
     }
-}
-
-/// 64 bits without the first, fewer than 64, and as many digits behind the others.
-#[inline]
-#[allow(clippy::cast_possible_truncation)] // (no digits are none, wherever they stand)
-fn passed_on<O: Order>(window: u64, count: usize, digits: u64) -> u64 {
-    let count = count as u32;
-    if O::BIG {
-        window.wrapping_shl(count) | digits
-    } else {
-        window.wrapping_shr(count) | digits.wrapping_shl(64 - count)
-    }
-}
-
-/// Puts the first of 64 digits, those that a window has room for, behind its others, and returns the
-/// next window with the rest; `None` where there is none.
-#[inline]
-fn passed_64<T: Register, O: Order>(
-    words: &mut [T],
-    word: usize,
-    (window, free): (u64, usize),
-    digits: u64,
-) -> Option<u64> {
-    let (less, rest) = (free.checked_sub(1)?, 64 - free);
-    let (full, digits) = if O::BIG {
-        (window << less << 1 | digits >> rest, digits & !(!0 << rest))
-    } else {
-        (window >> less >> 1 | digits << rest, digits >> less >> 1)
-    };
-    let next = T::put_before(words, word, O::BIG, full)?;
-    Some(passed_on::<O>(next, rest, digits))
 }
 
 /// Digits, at most 64, as they stand in 64 bits behind others, where the first is the highest or not.
@@ -116,6 +147,50 @@ fn in_order<O: Order>(digits: u64, big: bool, count: usize) -> u64 {
     } else {
         digits.reverse_bits().wrapping_shr(64 - count as u32)
     }
+}
+
+/// Digits, the first by the order, as they stand in the last bits of a window, those that are free, and
+/// the rest of them in the first bits of the next. (These are shifted twice, since by 64
+/// at once they would be by none.)
+#[inline]
+#[allow(clippy::cast_possible_truncation)] // (of a place in a window)
+fn parted<O: Order>(digits: u64, free: usize, rest: usize) -> (u64, u64) {
+    let (free, rest) = (free as u32, rest as u32);
+    if O::BIG {
+        let behind = (digits << 1).wrapping_shl(63 ^ rest);
+        (digits.wrapping_shr(rest), behind)
+    } else {
+        let behind = (digits >> 1).wrapping_shr(free.wrapping_sub(1));
+        (digits.wrapping_shl(64 - free), behind)
+    }
+}
+
+/// Puts a number in the next of the bits that are left before an end, or says why it is refused. Returns
+/// the window behind it, too. (Cold: of many numbers in a row it has the first and the last.)
+#[cold]
+#[inline(never)]
+fn put_any<T: Register, O: Order, N: Number>(
+    words: &mut [T],
+    end: usize,
+    left: usize,
+    (big, count, number): (bool, usize, N),
+) -> (Window, Result<(), Refusal>) {
+    let mut place = end - left;
+    let answer = if count > N::WIDTH {
+        Err(Refusal::TooWide)
+    } else if count > left {
+        Err(Refusal::TooFew)
+    } else {
+        number.digits(count).ok_or(Refusal::TooLarge)
+    };
+    let answer = answer.map(|digits| {
+        if count > 0 {
+            let digits = in_order::<O>(digits, big, count);
+            granted(T::store(O::CODE, O::BIG, words, place, count, digits));
+        }
+        place += count;
+    });
+    (Window::at::<T, O>(words, place, end), answer)
 }
 
 /// A [`BitWriter`] that holds up to 64 bits back: what [`BitWriter::held`] returns.
@@ -254,7 +329,7 @@ impl<T: Register, O: Order> Drop for HeldWriter<'_, T, O> {
     /// Puts what is held in the words, whose bits behind it stay.
     #[inline]
     fn drop(&mut self) {
-        self.own.put_window();
+        self.own.put_held();
         *self.left = self.own.remaining();
     }
 }
@@ -273,13 +348,8 @@ impl<'a, T: Register, O: Order> BitWriter<'a, T, O> {
     #[inline]
     #[must_use]
     pub fn new(bits: BitSliceMut<'a, T, O>) -> Self {
-        Self {
-            left: bits.len(),
-            bits,
-            window: 0,
-            word: usize::MAX,
-            free: 0,
-        }
+        let at = Window::none(bits.len());
+        Self { bits, at }
     }
 
     /// How many bits were written or passed over. Constant time.
@@ -314,7 +384,7 @@ impl<'a, T: Register, O: Order> BitWriter<'a, T, O> {
     #[inline]
     #[must_use]
     pub fn remaining(&self) -> usize {
-        self.free + self.left
+        self.at.remaining()
     }
 
     /// What was written or passed over, for reading. Constant time.
@@ -379,8 +449,8 @@ impl<'a, T: Register, O: Order> BitWriter<'a, T, O> {
     pub fn held(&mut self) -> HeldWriter<'_, T, O> {
         self.stand_at(self.position());
         let mut own = BitWriter::new(self.bits.lend());
-        own.left = self.left;
-        let left = &mut self.left;
+        own.at.left = self.at.left;
+        let left = &mut self.at.left;
         HeldWriter { own, left }
     }
 
@@ -401,8 +471,7 @@ impl<'a, T: Register, O: Order> BitWriter<'a, T, O> {
     /// Stands at an index. No bits are known there.
     #[inline]
     fn stand_at(&mut self, index: usize) {
-        self.left = self.bits.len() - index;
-        (self.word, self.free) = (usize::MAX, 0);
+        self.at = Window::none(self.bits.len() - index);
     }
 
     /// Passes over `count` bits, which stay as they are. Constant time.
@@ -429,9 +498,10 @@ impl<'a, T: Register, O: Order> BitWriter<'a, T, O> {
         if count > self.remaining() {
             return Err(Refusal::TooFew);
         }
-        if count < self.free {
-            self.window = turned_by::<O>(self.window, count);
-            self.free -= count;
+        if count < self.at.free {
+            let all = self.at.all::<O>();
+            self.at.free -= count;
+            self.at.written = all ^ last::<O>(all, self.at.free);
         } else {
             self.stand_at(self.position() + count);
         }
@@ -641,125 +711,64 @@ impl<'a, T: Register, O: Order> BitWriter<'a, T, O> {
         count: usize,
         number: N,
     ) -> Result<(), Refusal> {
-        // (the window has more room, so that these are fewer than 64)
-        if count < self.free && (N::WIDTH == 64 || count <= N::WIDTH) {
-            let digits = number.few_digits(count).ok_or(Refusal::TooLarge)?;
-            self.window = passed_on::<O>(self.window, count, in_order::<O>(digits, big, count));
-            self.free -= count;
-            if !HOLDS {
-                self.put_window();
-            }
-            return Ok(());
-        }
-        if count.wrapping_sub(1) < N::WIDTH.min(63) {
-            let Some(digits) = number.few_digits(count) else {
-                return Err(self.too_large(count));
-            };
-            let digits = in_order::<O>(digits, big, count);
-            if self.pass_on::<HOLDS>(count, digits).is_some() {
+        if count < self.at.free && (N::WIDTH == 64 || count <= N::WIDTH) {
+            if let Some(digits) = number.digits(count) {
+                self.at.take::<O>(count, in_order::<O>(digits, big, count));
+                if !HOLDS {
+                    let (words, _) = self.bits.place_mut();
+                    T::put(words, self.at.word, O::BIG, self.at.all::<O>());
+                }
                 return Ok(());
             }
-        }
-        self.put_any::<N, HOLDS>(big, count, number)
-    }
-
-    /// The same of a number of no bits, or of 64, or where no window has room for it.
-    #[inline(always)]
-    #[allow(clippy::inline_always)]
-    fn put_any<N: Number, const HOLDS: bool>(
-        &mut self,
-        big: bool,
-        count: usize,
-        number: N,
-    ) -> Result<(), Refusal> {
-        if count > N::WIDTH {
-            return Err(Refusal::TooWide);
-        }
-        if count > self.remaining() {
-            return Err(Refusal::TooFew);
-        }
-        let digits = number.digits(count).ok_or(Refusal::TooLarge)?;
-        let digits = in_order::<O>(digits, big, count);
-        if count == 64 && self.pass_64::<HOLDS>(digits).is_some() {
-            return Ok(());
+        } else if count <= N::WIDTH {
+            if let Some(digits) = number.digits(count) {
+                let digits = in_order::<O>(digits, big, count);
+                if self.pass_on::<HOLDS>(count, digits).is_some() {
+                    return Ok(());
+                }
+            }
         }
         if HOLDS {
-            self.put_window();
+            self.put_held();
         }
-        if count > 0 {
-            self.begin(count, digits);
-        }
-        Ok(())
-    }
-
-    /// Why a number is refused that has more than `count` digits.
-    #[inline]
-    fn too_large(&self, count: usize) -> Refusal {
-        if count > self.remaining() {
-            Refusal::TooFew
-        } else {
-            Refusal::TooLarge
-        }
-    }
-
-    /// Puts digits, the first by the order, fewer than 64, in the bits of the window that are free, at
-    /// most as many, and in the next window, which then is this one: where there is one.
-    #[inline]
-    #[allow(clippy::cast_possible_truncation)] // (of a place in a window)
-    fn pass_on<const HOLDS: bool>(&mut self, count: usize, digits: u64) -> Option<()> {
-        if self.left < 64 {
-            return None;
-        }
-        let (free, rest) = (self.free, count - self.free);
-        let (full, digits) = if O::BIG {
-            (self.window << free | digits >> rest, digits & !(!0 << rest))
-        } else {
-            let last = digits.wrapping_shl(64 - free as u32);
-            (self.window >> free | last, digits >> free)
-        };
-        let next = T::put_before(self.bits.place_mut().0, self.word, O::BIG, full)?;
-        self.window = passed_on::<O>(next, rest, digits);
-        self.word += 64 / T::BITS;
-        self.left -= 64;
-        self.free = 64 - rest;
-        if !HOLDS {
-            self.put_window();
-        }
-        Some(())
-    }
-
-    /// The same of 64 digits, behind which as many bits are free as before.
-    #[inline]
-    fn pass_64<const HOLDS: bool>(&mut self, digits: u64) -> Option<()> {
-        if self.left < 64 {
-            return None;
-        }
-        let (word, free) = (self.word, self.free);
-        self.window =
-            passed_64::<T, O>(self.bits.place_mut().0, word, (self.window, free), digits)?;
-        self.word += 64 / T::BITS;
-        self.left -= 64;
-        if !HOLDS {
-            self.put_window();
-        }
-        Some(())
-    }
-
-    /// Puts the window in place of the bits that it stands for, where there are any.
-    #[inline]
-    fn put_window(&mut self) {
-        let window = turned_by::<O>(self.window, self.free);
-        T::put(self.bits.place_mut().0, self.word, O::BIG, window);
-    }
-
-    /// Puts digits, the first by the order, in the next bits, which are there.
-    #[inline]
-    fn begin(&mut self, count: usize, digits: u64) {
-        let (position, len) = (self.position(), self.bits.len());
+        let (len, left) = (self.bits.len(), self.remaining());
         let (words, start) = self.bits.place_mut();
-        let (place, end) = (start + position, start + len);
-        (self.window, self.word, self.free) = begun::<T, O>(words, place, end, (count, digits));
-        self.left = len - position - count - self.free;
+        let asked = (big, count, number);
+        let (at, answer) = put_any::<T, O, N>(words, start + len, left, asked);
+        self.at.set(&at);
+        answer
+    }
+
+    /// Puts what is held in the words.
+    #[inline]
+    fn put_held(&mut self) {
+        let (at, (words, _)) = (&self.at, self.bits.place_mut());
+        put_held::<T, O>(words, at.word, at.written, at.free);
+    }
+
+    /// Puts digits, the first by the order, in the bits of the window that are free, at most as many,
+    /// and in the next window, which then is this one: where there is one.
+    #[inline]
+    fn pass_on<const HOLDS: bool>(&mut self, count: usize, digits: u64) -> Option<()> {
+        let left = self.at.left.checked_sub(64)?;
+        let (word, rest) = (self.at.word, count - self.at.free);
+        let (first, written) = parted::<O>(digits, self.at.free, rest);
+        let (full, free) = (self.at.written | first, 64 - rest);
+        let (words, _) = self.bits.place_mut();
+        let stood = if HOLDS {
+            T::put(words, word, O::BIG, full).map(|()| 0)
+        } else {
+            let next = |stood| written | last::<O>(stood, free);
+            T::put_both(words, word, O::BIG, full, next)
+        }?;
+        self.at = Window {
+            written,
+            stood,
+            word: word + 64 / T::BITS,
+            free,
+            left,
+        };
+        Some(())
     }
 
     /// Writes `count` bits that are `bit`, and one that is not. Costs by words.
