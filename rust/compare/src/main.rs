@@ -50,6 +50,13 @@ fn bit(i: usize) -> bool {
     (i as u64).wrapping_mul(0x9e37_79b9_7f4a_7c15) >> 63 == 1
 }
 
+/// The same of a list that a processor cannot foretell.
+fn random(i: usize) -> bool {
+    let word = (i as u64 + 1).wrapping_mul(0x9e37_79b9_7f4a_7c15);
+    let word = (word ^ word >> 30).wrapping_mul(0xbf58_476d_1ce4_e5b9);
+    word >> 40 & 1 == 1
+}
+
 /// Places all over a memory, one for each read.
 fn places() -> impl Iterator<Item = usize> {
     (0..READS).map(|i| i * 7919 % BITS)
@@ -80,10 +87,10 @@ impl All {
     }
 }
 
-fn compare_growth() {
-    let bit = |i: usize| i & 5 == 4;
+/// Bits that are pushed one by one.
+fn compare_pushes(name: &str, bit: impl Fn(usize) -> bool) {
     compare(
-        "push",
+        name,
         BITS,
         [
             Some(&mut || {
@@ -109,24 +116,30 @@ fn compare_growth() {
             }),
         ],
     );
+}
+
+fn compare_growth() {
+    let regular = |i: usize| i & 5 == 4;
+    compare_pushes("push", regular);
+    compare_pushes("push-random", random);
     compare(
         "collect",
         BITS,
         [
             Some(&mut || {
-                black_box((0..BITS).map(bit).collect::<BitVec<u64, Lsb0>>());
+                black_box((0..BITS).map(regular).collect::<BitVec<u64, Lsb0>>());
             }),
             Some(&mut || {
                 let mut bits = by_hand::Bits::default();
-                bits.extend((0..BITS).map(bit));
+                bits.extend((0..BITS).map(regular));
                 black_box(bits);
             }),
             Some(&mut || {
-                black_box((0..BITS).map(bit).collect::<bit_vec::BitVec>());
+                black_box((0..BITS).map(regular).collect::<bit_vec::BitVec>());
             }),
             None,
             Some(&mut || {
-                black_box((0..BITS).map(bit).collect::<SmallBitVec>());
+                black_box((0..BITS).map(regular).collect::<SmallBitVec>());
             }),
         ],
     );
