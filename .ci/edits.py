@@ -2,7 +2,7 @@
 import collections, os, re
 
 PUB = r"(?:pub(?:\([\w:]+\))? )?"
-FUNCTION = re.compile(rf"( *){PUB}(?:(?:const|unsafe|extern \"C\") )*fn (\w+)")
+FUNCTION = re.compile(rf"( *){PUB}(?:(?:const|final|unsafe|extern \"C\") )*fn (\w+)")
 CONSTANT = re.compile(rf"( *){PUB}const (\w+): ")
 # A function of a crate, or a constant, which has no body: its file, its path as a check prints it, and the lines of its
 # head, its body and its end.
@@ -143,7 +143,7 @@ def blocks_at(lines, at, blocks, homes):
     is_more = line[depth:].startswith(("//", "#", "where", "{", "}", ">")) and line[depth:] != "}"
     if line.strip() and not is_more:
         blocks = {it: path for it, path in blocks.items() if it < depth}
-    head = re.match(r"(?:unsafe )?(impl|trait)\b", line[depth:])
+    head = re.match(rf"{PUB}(?:unsafe )?(impl|trait)\b", line[depth:])
     inner = re.match(rf"{PUB}mod (\w+) \{{", line[depth:])
     if head:
         whole = " ".join(it.strip() for it in lines[at : at + 12]).split("{")[0]
