@@ -265,7 +265,9 @@ fn sentences_of_the_sources_are_kept() {
         );
         let (mut here, mut there) = (BTreeMap::new(), BTreeMap::new());
         sentences(&top.join("rust/src"), of, &mut here);
-        sentences(&top.join("crates").join(folder), of, &mut there);
+        // (beside the sources lies what the kit makes)
+        let sources = top.join("crates").join(folder).join("src");
+        sentences(&sources, of, &mut there);
         // (a package has not each crate)
         for call in names.filter(|_| !there.is_empty()) {
             let source = there.get(call.trim_start_matches("try_"));
