@@ -12,7 +12,7 @@ use bitvec_array::prelude::*;
 use bitvec_slice::slice;
 use std::marker::PhantomData;
 use tests_names::names::{
-    Commands, Indices, Iterators, Parts, PartsMut, Places, Slices, have_traits,
+    Commands, Indices, Iterators, Parts, PartsMut, Places, Slices, have_constants, have_traits,
 };
 
 fn position_in_lsb0<R: BitRegister>(index: BitIdx<R>) -> BitPos<R>
@@ -168,6 +168,16 @@ fn traits<
     H: ReadBits<R, C>,
 >() {
     have_traits::<R, A, B, C, D, N, F, H>()
+}
+
+fn constants<A: Limits, B: MaskLimits, C: Dangling, D: EmptyRange, E: SpanLimits>() {
+    have_constants::<A, B, C, D, E>()
+}
+
+fn has_zeros<Z: array::ZeroArray>() {}
+
+fn zeros<Z: ZeroArray>() {
+    has_zeros::<Z>()
 }
 
 // The traits of constants are those by which the constants are read.
