@@ -190,7 +190,7 @@ BITVEC_ENUM(bitvec_command) {
     BITVEC_READ = 5,    /* a: the bit */
     BITVEC_REPLACE = 6, /* a, number: makes the bit the number's least digit */
     BITVEC_SWAP = 7,    /* a, b: exchanges two bits */
-    BITVEC_COPY = 8,    /* a, b, count: copies so many bits from a to b, which may overlap */
+    BITVEC_COPY = 8,    /* a, b, count: copies `count` bits from a to b, which may overlap */
     BITVEC_FILL = 9     /* a, b, number: makes the bits from a to before b its least digit */
 };
 
