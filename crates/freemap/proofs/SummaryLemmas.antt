@@ -1,12 +1,11 @@
 -- What a map of words says of the blocks in them.
-use Rattle.std.proofs.Common.{◌≡◌, ◌⊎◌, inl, inr, ◌↔◌, ℕ, ◌+◌, ◌-◌, ◌*◌, ◌/◌, ◌<◌, ◌≤◌, Bool, true, false, true≢false, List, length, replicate, refl, sym, ap, ◌∙◌, subst, arith}
+use Rattle.std.proofs.Common.{◌≡◌, ◌⊎◌, inl, inr, ◌↔◌, ℕ, ◌+◌, ◌-◌, ◌*◌, ◌/◌, ◌<◌, ◌≤◌, Bool, true, false, true≢false, List, length, refl, sym, ap, ◌∙◌, subst, arith}
 use Rattle.std.specs.Prelude.{Option, None, Some, MatchOption, min, slice_range}
 use Rattle.std.proofs.lemmas.Bool.{cases_lt}
 use Rattle.bitvec.specs.Span.{element, with_filled}
 use Rattle.bitvec.specs.Truths.{AllAre, IsFirst}
 use Rattle.bitvec_slice.specs.Bits.{AreFree}
 use Rattle.bitvec_slice.specs.Patterns.{IsLeast}
-use Rattle.std.proofs.lemmas.List.{length-replicate}
 use Rattle.bitvec_slice.proofs.EditRangeLemmas.{filled_new, filled_kept, range_long}
 use Rattle.freemap.specs.Blocks.{IsLowest, word_count}
 use Rattle.freemap.proofs.SearchLemmas.{range_element}
@@ -290,16 +289,3 @@ module _ (used full : List Bool) (sum : Summarises used full) (w : ℕ) where
       → IsLowest (λ b. (from ≤ b) × AreFree used b 1) o
   after_word from here least None is_full = absurd (not_full_there used full sum w least.0.1 is_full)
   after_word from here least (Some b) first = lowest_after used full sum from w b here least.1 least.0.0 first
-
--- a map of words that says nothing yet
-pub fresh : (used full : List Bool) (n : ℕ) → n ≡ word_count (length used) → full ≡ replicate n false → SummarisesBeside used full 0 n
-fresh used full n many is =
-    let long : length full ≡ n = ap length is ∙ length-replicate n false in
-    record {
-      words = long ∙ many;
-      inside = omega (arith, long);
-      says = λ w beside there. absurd (none w beside (omega (arith, there, long)));
-    } where
-      none : (w : ℕ) → (w < 0) ⊎ (n ≤ w) → w < n → ⊥
-      none w (inl before) there = omega (arith, before)
-      none w (inr behind) there = omega (arith, behind, there)
