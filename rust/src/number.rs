@@ -34,9 +34,9 @@ use core::num::NonZero;
 pub trait Number: digits::Digits + Copy + Debug {}
 
 /// The numbers of so many ones: of more than 64 as of 64. (A look here costs less than a shift by a
-/// count that is not known, and needs no test, since there are as many as a mask lets pass.)
-const ONES: &[u64; 128] = &{
-    let mut ones = [u64::MAX; 128];
+/// count that is not known, and needs no test, since there are as many as a byte has numbers.)
+const ONES: &[u64; 256] = &{
+    let mut ones = [u64::MAX; 256];
     let mut count = 0;
     while count < 64 {
         ones[count] = !(u64::MAX << count);

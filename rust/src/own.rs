@@ -101,12 +101,11 @@ macro_rules! put_number {
     }};
 }
 
-/// `N` words from one on, where there are that many. (By one test, since no memory has so many words
-/// that their number has the highest digit: this is asked of each number that is written.)
+/// `N` words from one on, where there are that many. (By two tests of differences: a sum of both numbers
+/// would have to be tested for its own sake.)
 #[inline]
 fn some_of<T, const N: usize>(words: &mut [T], from: usize) -> Option<&mut [T; N]> {
-    let from = from & (usize::MAX >> 1);
-    words.get_mut(from..from + N)?.first_chunk_mut()
+    words.get_mut(from..)?.first_chunk_mut()
 }
 
 macro_rules! owned {

@@ -99,23 +99,20 @@ impl Window {
         self.free + self.left
     }
 
-    /// The 64 bits, of which those that are free are as they stood.
+    /// 64 bits of which the last, those that are free, are as they stood.
     #[inline]
-    fn all<O: Order>(&self) -> u64 {
-        self.written | last::<O>(self.stood, self.free)
+    fn all<O: Order>(&self, written: u64, free: usize) -> u64 {
+        written | last::<O>(self.stood, free)
     }
 
-    /// Takes digits, the first by the order, fewer than are free.
+    /// What is written, and how many bits are free, behind digits, the first by the order, fewer than
+    /// are free.
     #[inline]
     #[allow(clippy::cast_possible_truncation)] // (of a place in a window)
-    fn take<O: Order>(&mut self, count: usize, digits: u64) {
+    fn with<O: Order>(&self, count: usize, digits: u64) -> (u64, usize) {
         let free = self.free - count;
-        self.written |= if O::BIG {
-            digits.wrapping_shl(free as u32)
-        } else {
-            digits.wrapping_shl(64 - self.free as u32)
-        };
-        self.free = free;
+        let up = if O::BIG { free } else { 64 - self.free };
+        (self.written | digits.wrapping_shl(up as u32), free)
     }
 }
 
@@ -499,7 +496,7 @@ impl<'a, T: Register, O: Order> BitWriter<'a, T, O> {
             return Err(Refusal::TooFew);
         }
         if count < self.at.free {
-            let all = self.at.all::<O>();
+            let all = self.at.all::<O>(self.at.written, self.at.free);
             self.at.free -= count;
             self.at.written = all ^ last::<O>(all, self.at.free);
         } else {
@@ -713,12 +710,10 @@ impl<'a, T: Register, O: Order> BitWriter<'a, T, O> {
     ) -> Result<(), Refusal> {
         if count < self.at.free && (N::WIDTH == 64 || count <= N::WIDTH) {
             if let Some(digits) = number.digits(count) {
-                self.at.take::<O>(count, in_order::<O>(digits, big, count));
-                if !HOLDS {
-                    let (words, _) = self.bits.place_mut();
-                    T::put(words, self.at.word, O::BIG, self.at.all::<O>());
+                let digits = in_order::<O>(digits, big, count);
+                if self.put_behind::<HOLDS>(count, digits).is_some() {
+                    return Ok(());
                 }
-                return Ok(());
             }
         } else if count <= N::WIDTH {
             if let Some(digits) = number.digits(count) {
@@ -744,6 +739,20 @@ impl<'a, T: Register, O: Order> BitWriter<'a, T, O> {
     fn put_held(&mut self) {
         let (at, (words, _)) = (&self.at, self.bits.place_mut());
         put_held::<T, O>(words, at.word, at.written, at.free);
+    }
+
+    /// Puts digits, the first by the order, in the bits of the window that are free, which are more.
+    #[inline]
+    fn put_behind<const HOLDS: bool>(&mut self, count: usize, digits: u64) -> Option<()> {
+        let (written, free) = self.at.with::<O>(count, digits);
+        if !HOLDS {
+            let all = self.at.all::<O>(written, free);
+            let (words, _) = self.bits.place_mut();
+            T::put(words, self.at.word, O::BIG, all)?;
+        }
+        self.at.written = written;
+        self.at.free = free;
+        Some(())
     }
 
     /// Puts digits, the first by the order, in the bits of the window that are free, at most as many,
