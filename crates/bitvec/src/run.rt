@@ -224,6 +224,29 @@ fn sorted_apart<R: BitRegister, O>(spans: &[BitSpan<R, O>], order: &[usize]) -> 
     true
 }
 
+// The same of spans in few words.
+fn near_apart<R: BitRegister, O>(spans: &[BitSpan<R, O>], order: &[usize]) -> bool
+    requires rising { IsRising R.BITS span_of spans.now order.now }
+    requires fit { All (λ span. pos 0 ≤ℤ (span_of span).word) spans.now }
+    requires near { All (λ span. nat_abs (span_of span).word ≤ 36028797018963968) spans.now }
+    ensures { IsTrue result ↔ AllPairs (λ a b. AreDisjoint R.BITS (span_of a) (span_of b))
+        spans.now }
+{
+    let mut upto = 0;
+    for i in 0..order.len() {
+        let index = order[i];
+        let span = spans[index];
+        if !span.is_empty() {
+            let start = first_bit(span);
+            if start < upto {
+                return false;
+            }
+            upto = start + span.len();
+        }
+    }
+    true
+}
+
 /// The answer of [`can_run`], found in time n log n for n spans whatever their order, with room for
 /// a number for each.
 ///
@@ -259,9 +282,9 @@ pub fn can_run_in<R: BitRegister, O>(
     }
     if words <= FEW_WORDS {
         sort_near_places(spans, order);
-    } else {
-        sort_places(spans, order);
+        return near_apart(spans, order);
     }
+    sort_places(spans, order);
     sorted_apart(spans, order)
 }
 
