@@ -1,6 +1,6 @@
 -- Numbers stored with their digits in order, in one word or in two. `bits` is the width of a word.
-use Rattle.std.proofs.Common.{◌≡◌, ℕ, ◌+◌, ◌-◌, ◌*◌, ◌/◌, ◌%◌, ◌^◌, ◌<◌, ◌≤◌, ◌&&◌, Bool, true, false, not, nat_le, nat_lt, refl, sym, ap, ◌∙◌, inl, inr, arith}
-use Rattle.std.proofs.lemmas.Bool.{cases_lt, lt-ltb, le-ltb, le-leb, lt-leb}
+use Rattle.std.proofs.Common.{◌≡◌, ℕ, ◌+◌, ◌-◌, ◌*◌, ◌/◌, ◌%◌, ◌^◌, ◌<◌, ◌≤◌, ◌&&◌, Bool, true, false, not, ◌||◌, if◌then◌else◌, nat_le, nat_lt, refl, sym, ap, ◌∙◌, inl, inr, arith}
+use Rattle.std.proofs.lemmas.Bool.{false≢true, cases_lt, lt-ltb, le-ltb, le-leb, lt-leb}
 use Rattle.std.proofs.lemmas.Nat.{div-add-mod', mod_below}
 use Rattle.bitvec.specs.Digit.{digit}
 use Rattle.std.proofs.Math.Nat.{div-eq_of_lt}
@@ -97,15 +97,49 @@ near_digit bits head len at rises w r k some is j h word =
     there true = rw (le-leb head (head + j) (omega arith)) (ap (digit w) (let e : head + j - head ≡ j = omega arith in e))
     there false = rw (lt-ltb (head + j) (head + len) (omega (arith, h))) (ap (digit w) (let e : head + len - 1 - (head + j) ≡ len - 1 - j = omega arith in e))
 
--- and so are elements of a number's list, where w has the number's low digits
-pub near_stored : (bits head len : ℕ) (at : ℕ → ℕ) (rises : Bool) (v w r k : ℕ) → 0 < bits → head < bits → len ≤ bits → ((p : ℕ) → p < bits → digit w p ≡ digit v p)
+-- and so are elements of a number's list, where w has as many of the number's low digits
+pub near_stored : (bits head len : ℕ) (at : ℕ → ℕ) (rises : Bool) (v w r k : ℕ) → 0 < bits → head < bits → ((p : ℕ) → p < len → digit w p ≡ digit v p)
     → ((i : ℕ) → i < bits → digit r (at i) ≡ digit_from rises head len w (k * bits + i))
     → (j : ℕ) → j < len → (head + j) / bits ≡ k → digit r (at ((head + j) % bits)) ≡ element (field_list (not rises) bits rises head len v) j
-near_stored bits head len at rises v w r k some in_head near low is j h word =
+near_stored bits head len at rises v w r k some in_head low is j h word =
     let law = digit_places bits head len some in_head (not rises) rises in
     near_digit bits head len at rises w r k some is j h word
-    ∙ low (digit_place (not rises) bits rises head len j) (omega (arith, law.below j h, near))
+    ∙ low (digit_place (not rises) bits rises head len j) (law.below j h)
     ∙ sym (get_or-tabulate len (λ i. digit v (digit_place (not rises) bits rises head len i)) j false h)
+
+-- the digits d of w that are digits of `ones`, which has `len` ones
+pub near_low : (bits len v w ones d : ℕ) → len ≤ bits → ((p : ℕ) → p < bits → digit w p ≡ digit v p) → ((p : ℕ) → p < bits → digit ones p ≡ nat_lt p len)
+    → ((p : ℕ) → p < bits → digit d p ≡ (digit w p && digit ones p)) → (p : ℕ) → p < len → digit d p ≡ digit v p
+near_low bits len v w ones d near low some both p h =
+    let inside : p < bits = omega (arith, h, near) in
+    both p inside ∙ rw (some p inside, lt-ltb p len h) (and_true (digit w p)) ∙ low p inside
+  where
+    and_true : (x : Bool) → (x && true) ≡ x
+    and_true true = refl
+    and_true false = refl
+
+-- moved as these are, they lie beside none of them
+pub near_within : (bits head len : ℕ) (rises : Bool) (w ones d m : ℕ) → d < 2 ^ bits → ((p : ℕ) → p < bits → digit d p ≡ (digit w p && digit ones p))
+    → digit_from rises head len ones m ≡ false → digit_from rises head len d m ≡ false
+near_within bits head len rises w ones d m small both none = there rises none
+  where
+    and_false : (x : Bool) → (x && false) ≡ false
+    and_false true = refl
+    and_false false = refl
+
+    neither : (a b c : Bool) → (b ≡ false → c ≡ false) → (a && b) ≡ false → (a && c) ≡ false
+    neither true b c only e = only e
+    neither false b c only e = refl
+
+    only : (p : ℕ) → digit ones p ≡ false → digit d p ≡ false
+    only p e = elim (cases_lt p bits) [
+      | inl inside ↦ (both p inside ∙ rw e (and_false (digit w p)))
+      | inr past ↦ digit_above d bits p small past
+    ]
+
+    there : (rises : Bool) → digit_from rises head len ones m ≡ false → digit_from rises head len d m ≡ false
+    there true e = neither (nat_le head m) (digit ones (m - head)) (digit d (m - head)) (only (m - head)) e
+    there false e = neither (nat_lt m (head + len)) (digit ones (head + len - 1 - m)) (digit d (head + len - 1 - m)) (only (head + len - 1 - m)) e
 
 -- a span of at most a word's bits that passes its first word meets two
 pub met_two : (bits head len : ℕ) → head < bits → len ≤ bits → bits < head + len → 2 ≡ words_met bits head len
@@ -140,3 +174,20 @@ near_mask bits head len at rises w r k near small ones is i h = is i h ∙ there
       ])
       | inr past ↦ rw (le-ltb m (head + len) past, le-leb head m (omega (arith, past))) refl
     ]
+
+-- ---- a word put in its places
+
+-- a word whose ones are all a mask's, in place of what another has there
+pub mixed_within : (old word mask keep new : Bool) (test : Bool) → mask ≡ test → (mask ≡ false → word ≡ false) → keep ≡ (old && not mask) → new ≡ (keep || word)
+    → new ≡ (if test then word else old)
+mixed_within old word mask keep new test e only k n = n ∙ rw (k, e) (both old word test (λ f. only (e ∙ f)))
+  where
+    both : (old word test : Bool) → (test ≡ false → word ≡ false) → ((old && not test) || word) ≡ (if test then word else old)
+    both true true true only = refl
+    both true true false only = refl
+    both true false true only = refl
+    both true false false only = refl
+    both false true true only = refl
+    both false true false only = absurd (false≢true (sym (only refl)))
+    both false false true only = refl
+    both false false false only = refl

@@ -485,6 +485,29 @@ pub(crate) fn put_word<R: BitRegister, O: BitOrder<R>>(
     memory[place] = old.and(mask.not()).or(word.and(mask));
 }
 
+// The same of a word that has no digit of one beside the mask's.
+#[inline(always)]
+fn put_digits<R: BitRegister, O: BitOrder<R>>(
+    span: BitSpan<R, O>,
+    memory: &mut [R],
+    k: usize,
+    word: R,
+    mask: R,
+)
+    requires fits { Fits R.BITS (span_of span) (length memory.old) }
+    requires met { k < words_met R.BITS (span_of span).head (span_of span).len }
+    requires mask { IsPartMask R.BITS O.at_of (span_of span) k (R.number mask) }
+    requires within { (i : ℕ) → i < R.BITS → digit (R.number mask) (O.at_of i) ≡ false
+        → digit (R.number word) (O.at_of i) ≡ false }
+    ensures { (f : ℕ → Bool) → HasElements R.BITS O.at_of (span_of span) k (R.number word) f →
+        Becomes span O.at_of memory.old memory.new (with_word R.BITS (span_of span).head (list_by
+        span O.at_of memory.old) k f) }
+{
+    let place = span.address() as usize + k;
+    let old = memory[place];
+    memory[place] = old.and(mask.not()).or(word);
+}
+
 // Makes the bits that the `k`-th word has of a span digits of a number, and changes no other bit.
 #[inline(always)]
 fn store_part<R: BitRegister, O: Sequential<R>, N: BitRegister>(
@@ -524,13 +547,12 @@ fn store_words<R: BitRegister, O: Sequential<R>, N: BitRegister>(
     }
 }
 
-// The lowest digits of a word in their order, one for each bit of a span of at most a word's bits,
-// at the places that the span has in its first word. A word's other digits stand beside them.
+// The lowest digits of a word in their order, one for each bit of a span that lies in one word, at
+// the places that the span has there. A word's other digits stand beside them.
 #[inline(always)]
-fn in_first<R: BitRegister, O: Sequential<R>>(span: BitSpan<R, O>, word: R) -> R
+fn in_only<R: BitRegister, O: Sequential<R>>(span: BitSpan<R, O>, word: R) -> R
     requires some { 0 < (span_of span).len }
-    requires near { (span_of span).len ≤ R.BITS }
-    requires below { R.number word < 2 ^ R.BITS }
+    requires within { (span_of span).head + (span_of span).len ≤ R.BITS }
     ensures { (i : ℕ) → i < R.BITS → digit (R.number result) (O.at_of i)
         ≡ digit_from O.RISES (span_of span).head (span_of span).len (R.number word) i }
 {
@@ -539,14 +561,27 @@ fn in_first<R: BitRegister, O: Sequential<R>>(span: BitSpan<R, O>, word: R) -> R
         return word.shl(head);
     }
     let end = head + span.len() as u8;
-    if end <= R::BITS {
-        word.shl(R::BITS - end)
-    } else {
-        word.shr(end - R::BITS)
-    }
+    word.shl(R::BITS - end)
 }
 
-// The same where its second word has the span.
+// The same where a span of at most a word's bits lies in two: the places that it has in the first.
+#[inline(always)]
+fn in_first<R: BitRegister, O: Sequential<R>>(span: BitSpan<R, O>, word: R) -> R
+    requires near { (span_of span).len ≤ R.BITS }
+    requires over { R.BITS < (span_of span).head + (span_of span).len }
+    requires below { R.number word < 2 ^ R.BITS }
+    ensures { (i : ℕ) → i < R.BITS → digit (R.number result) (O.at_of i)
+        ≡ digit_from O.RISES (span_of span).head (span_of span).len (R.number word) i }
+{
+    let head = span.head().into_inner();
+    if O::RISES {
+        return word.shl(head);
+    }
+    let over = head + span.len() as u8 - R::BITS;
+    word.shr(over)
+}
+
+// The same: the places that it has in the second.
 #[inline(always)]
 fn in_second<R: BitRegister, O: Sequential<R>>(span: BitSpan<R, O>, word: R) -> R
     requires near { (span_of span).len ≤ R.BITS }
@@ -578,15 +613,18 @@ fn store_near<R: BitRegister, O: Sequential<R>, N: BitRegister>(
         (field_list (not O.RISES) R.BITS O.RISES (span_of span).head (span_of span).len
         (N.number value)) }
 {
-    let digits = low_digits::<R, N>(value);
     let ones = low_ones::<R>(span.len());
+    let digits = low_digits::<R, N>(value).and(ones);
     let end = usize::from(span.head().into_inner()) + span.len();
-    let (word, mask) = (in_first(span, digits), in_first(span, ones));
-    put_word(span, memory, 0, word, mask);
-    if usize::from(R::BITS) < end {
-        let (word, mask) = (in_second(span, digits), in_second(span, ones));
-        put_word(span, memory, 1, word, mask);
+    if end <= usize::from(R::BITS) {
+        let (word, mask) = (in_only(span, digits), in_only(span, ones));
+        put_digits(span, memory, 0, word, mask);
+        return;
     }
+    let (word, mask) = (in_first(span, digits), in_first(span, ones));
+    put_digits(span, memory, 0, word, mask);
+    let (word, mask) = (in_second(span, digits), in_second(span, ones));
+    put_digits(span, memory, 1, word, mask);
 }
 
 // Makes the bits of a span the digits of a number, a part of a word at a time, and changes no other

@@ -1,5 +1,5 @@
 use Rattle.std.proofs.Common.{sym, ◌∙◌, arith}
-use Rattle.bitvec_slice.proofs.FieldNearLemmas.{first_rising, first_falling, first_of_two}
+use Rattle.bitvec_slice.proofs.FieldNearLemmas.{first_rising, first_of_two}
 use Rattle.bitvec_slice.proofs.field.in_first.Goals as goal
 
 pub returns-then-RISES : goal.returns-then-RISES
@@ -9,18 +9,9 @@ returns-then-RISES g c =
     first_rising g.R.BitRegister.BITS span.head span.len g.O.BitAt.at_of (number c.args.word) (number c.shl.result) c.into_inner-head.result g.O.Sequential.RISES (sym c.RISES.ensures ∙ c.if-RISES.true) g.met.O.Sequential.sequence
     (omega (arith, c.into_inner-head.ensures.value, c.head.ensures)) (c.shl.ensures.low, c.shl.ensures.moved)
 
-pub returns-then-end-BITS : goal.returns-then-end-BITS
-returns-then-end-BITS g c =
-    let span = c.args.span in
-    let number = g.R.BitRegister.number in
-    first_falling g.R.BitRegister.BITS span.head span.len g.O.BitAt.at_of (number c.args.word) (number c.shl-then-end-BITS.result) _ g.O.Sequential.RISES (sym c.RISES.ensures ∙ c.if-RISES.false) g.met.O.Sequential.sequence
-    (omega (arith, c.if-end-BITS.true, c.BITS.ensures, c.into_inner-head.ensures.value, c.head.ensures, c.len.ensures))
-    (omega (arith, c.BITS-then-end-BITS.ensures, c.into_inner-head.ensures.value, c.head.ensures, c.len.ensures)) (c.shl-then-end-BITS.ensures.low, c.shl-then-end-BITS.ensures.moved)
-
-pub returns-else-end-BITS : goal.returns-else-end-BITS
-returns-else-end-BITS g c =
+pub returns : goal.returns
+returns g c =
     let span = c.args.span in
     let number = g.R.BitRegister.number in
     first_of_two g.R.BitRegister.BITS span.head span.len g.O.BitAt.at_of (number c.args.word) (number c.shr.result) _ g.O.Sequential.RISES (sym c.RISES.ensures ∙ c.if-RISES.false) g.met.O.Sequential.sequence c.requires.below
-    (omega (arith, c.if-end-BITS.false, c.BITS.ensures, c.into_inner-head.ensures.value, c.head.ensures, c.len.ensures))
-    (omega (arith, c.BITS-else-end-BITS.ensures, c.into_inner-head.ensures.value, c.head.ensures, c.len.ensures)) (c.shr.ensures.moved, c.shr.ensures.high)
+    c.requires.over (omega (arith, c.BITS.ensures, c.into_inner-head.ensures.value, c.head.ensures, c.len.ensures)) (c.shr.ensures.moved, c.shr.ensures.high)
