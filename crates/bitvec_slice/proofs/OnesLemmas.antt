@@ -50,14 +50,26 @@ pub ones_last : (xs : List Bool) (from upto i : ℕ) → IsLastBetween true xs f
 ones_last xs from upto i last = let h = last.0 in let k = last.1 in filter_last (element xs) from (upto - from) i (i - from) h (omega arith) last.2 (λ j a b. last.3 j a (omega arith)) (omega arith)
 
 -- what is left behind the first of a list's ones, where there is one
-pub ones_behind : (xs ys : List Bool) (from upto next : ℕ) (found : Option ℕ) → ys ≡ xs
+pub ones_behind : (xs ys : List Bool) (from upto next end : ℕ) (found : Option ℕ) → ys ≡ xs → end ≡ upto
     → MatchOption found (AllBetween false xs from upto) (IsFirstBetween true xs from upto) → MatchOption found (next ≡ from) (λ i. next ≡ i + 1)
-    → MatchOption found ((ones_between xs from upto ≡ []) × (ones_between ys next upto ≡ [])) (λ i. ones_between xs from upto ≡ i ∷ ones_between ys next upto)
-ones_behind xs ys from upto next None same none stays =
+    → MatchOption found ((ones_between xs from upto ≡ []) × (ones_between ys next end ≡ [])) (λ i. ones_between xs from upto ≡ i ∷ ones_between ys next end)
+ones_behind xs ys from upto next end None same ends none stays =
     let e = ones_none xs from upto none in
-    (e, ap (λ zs. ones_between zs next upto) same ∙ ap (λ n. ones_between xs n upto) stays ∙ e)
-ones_behind xs ys from upto next (Some i) same first goes =
-    ones_first xs from upto i first ∙ ap (λ n. i ∷ ones_between xs n upto) (sym goes) ∙ ap (λ zs. i ∷ ones_between zs next upto) (sym same)
+    (e, ap (λ zs. ones_between zs next end) same ∙ ap (λ n. ones_between xs n end) stays ∙ ap (ones_between xs from) ends ∙ e)
+ones_behind xs ys from upto next end (Some i) same ends first goes =
+    ones_first xs from upto i first ∙ ap (λ n. i ∷ ones_between xs n upto) (sym goes) ∙ ap (λ n. i ∷ ones_between xs next n) (sym ends)
+    ∙ ap (λ zs. i ∷ ones_between zs next end) (sym same)
+
+-- what is left before the last of them, where there is one
+pub ones_before : (xs ys : List Bool) (from upto next end : ℕ) (found : Option ℕ) → ys ≡ xs → next ≡ from
+    → MatchOption found (AllBetween false xs from upto) (IsLastBetween true xs from upto) → MatchOption found (end ≡ upto) (λ i. end ≡ i)
+    → MatchOption found ((ones_between xs from upto ≡ []) × (ones_between ys next end ≡ [])) (λ i. ones_between xs from upto ≡ ones_between ys next end ++ (i ∷ []))
+ones_before xs ys from upto next end None same stays none ends =
+    let e = ones_none xs from upto none in
+    (e, ap (λ zs. ones_between zs next end) same ∙ ap (λ n. ones_between xs n end) stays ∙ ap (ones_between xs from) ends ∙ e)
+ones_before xs ys from upto next end (Some i) same stays last goes =
+    ones_last xs from upto i last ∙ ap (λ n. ones_between xs from n ++ (i ∷ [])) (sym goes) ∙ ap (λ n. ones_between xs n end ++ (i ∷ [])) (sym stays)
+    ∙ ap (λ zs. ones_between zs next end ++ (i ∷ [])) (sym same)
 
 -- the same of the indices of zeros
 pub zeros_none : (xs : List Bool) (from upto : ℕ) → AllBetween true xs from upto → zeros_between xs from upto ≡ []
@@ -69,14 +81,26 @@ zeros_first xs from upto i first = let h = first.0 in let k = first.1 in filter_
 pub zeros_last : (xs : List Bool) (from upto i : ℕ) → IsLastBetween false xs from upto i → zeros_between xs from upto ≡ zeros_between xs from i ++ (i ∷ [])
 zeros_last xs from upto i last = let h = last.0 in let k = last.1 in filter_last (λ i. not (element xs i)) from (upto - from) i (i - from) h (omega arith) (ap not last.2) (λ j a b. ap not (last.3 j a (omega arith))) (omega arith)
 
-pub zeros_behind : (xs ys : List Bool) (from upto next : ℕ) (found : Option ℕ) → ys ≡ xs
+pub zeros_behind : (xs ys : List Bool) (from upto next end : ℕ) (found : Option ℕ) → ys ≡ xs → end ≡ upto
     → MatchOption found (AllBetween true xs from upto) (IsFirstBetween false xs from upto) → MatchOption found (next ≡ from) (λ i. next ≡ i + 1)
-    → MatchOption found ((zeros_between xs from upto ≡ []) × (zeros_between ys next upto ≡ [])) (λ i. zeros_between xs from upto ≡ i ∷ zeros_between ys next upto)
-zeros_behind xs ys from upto next None same none stays =
+    → MatchOption found ((zeros_between xs from upto ≡ []) × (zeros_between ys next end ≡ [])) (λ i. zeros_between xs from upto ≡ i ∷ zeros_between ys next end)
+zeros_behind xs ys from upto next end None same ends none stays =
     let e = zeros_none xs from upto none in
-    (e, ap (λ zs. zeros_between zs next upto) same ∙ ap (λ n. zeros_between xs n upto) stays ∙ e)
-zeros_behind xs ys from upto next (Some i) same first goes =
-    zeros_first xs from upto i first ∙ ap (λ n. i ∷ zeros_between xs n upto) (sym goes) ∙ ap (λ zs. i ∷ zeros_between zs next upto) (sym same)
+    (e, ap (λ zs. zeros_between zs next end) same ∙ ap (λ n. zeros_between xs n end) stays ∙ ap (zeros_between xs from) ends ∙ e)
+zeros_behind xs ys from upto next end (Some i) same ends first goes =
+    zeros_first xs from upto i first ∙ ap (λ n. i ∷ zeros_between xs n upto) (sym goes) ∙ ap (λ n. i ∷ zeros_between xs next n) (sym ends)
+    ∙ ap (λ zs. i ∷ zeros_between zs next end) (sym same)
+
+-- what is left before the last of them, where there is one
+pub zeros_before : (xs ys : List Bool) (from upto next end : ℕ) (found : Option ℕ) → ys ≡ xs → next ≡ from
+    → MatchOption found (AllBetween true xs from upto) (IsLastBetween false xs from upto) → MatchOption found (end ≡ upto) (λ i. end ≡ i)
+    → MatchOption found ((zeros_between xs from upto ≡ []) × (zeros_between ys next end ≡ [])) (λ i. zeros_between xs from upto ≡ zeros_between ys next end ++ (i ∷ []))
+zeros_before xs ys from upto next end None same stays none ends =
+    let e = zeros_none xs from upto none in
+    (e, ap (λ zs. zeros_between zs next end) same ∙ ap (λ n. zeros_between xs n end) stays ∙ ap (zeros_between xs from) ends ∙ e)
+zeros_before xs ys from upto next end (Some i) same stays last goes =
+    zeros_last xs from upto i last ∙ ap (λ n. zeros_between xs from n ++ (i ∷ [])) (sym goes) ∙ ap (λ n. zeros_between xs n end ++ (i ∷ [])) (sym stays)
+    ∙ ap (λ zs. zeros_between zs next end ++ (i ∷ [])) (sym same)
 
 -- a call that took the first or the last off a list made progress
 pub progress_first : {S A : Type 0} (can : S → Type 0) (rest : S → List A) (s : S) (x : A) (t : S) → can t → rest s ≡ x ∷ rest t → MakesProgress can (item_count rest) s (Some x) t
@@ -93,3 +117,8 @@ progress_last can rest s x t h e =
 pub progress_behind : {S A : Type 0} (can : S → Type 0) (rest : S → List A) (s : S) (r : Option A) (t : S) → can t → MatchOption r ((rest s ≡ []) × (rest t ≡ [])) (λ x. rest s ≡ x ∷ rest t) → MakesProgress can (item_count rest) s r t
 progress_behind can rest s None t h e = record { on = λ _. tt; keeps = tt; rests = λ _. tt }
 progress_behind can rest s (Some x) t h e = progress_first can rest s x t h e
+
+-- and of one that took the last
+pub progress_before : {S A : Type 0} (can : S → Type 0) (rest : S → List A) (s : S) (r : Option A) (t : S) → can t → MatchOption r ((rest s ≡ []) × (rest t ≡ [])) (λ x. rest s ≡ rest t ++ (x ∷ [])) → MakesProgress can (item_count rest) s r t
+progress_before can rest s None t h e = record { on = λ _. tt; keeps = tt; rests = λ _. tt }
+progress_before can rest s (Some x) t h e = progress_last can rest s x t h e

@@ -1,5 +1,5 @@
 -- What a word of a span shows of the span's list. `bits` is the width of a word, and `at` takes an index to its position.
-use Rattle.std.proofs.Common.{◌≡◌, ℕ, ◌+◌, ◌-◌, ◌*◌, ◌^◌, ◌<◌, ◌≤◌, ◌==◌, ◌&&◌, Bool, true, false, true≢false, not, nat_le, nat_lt, List, refl, sym, ap, ◌∙◌, inl, inr, arith}
+use Rattle.std.proofs.Common.{◌≡◌, ℕ, ◌+◌, ◌-◌, ◌*◌, ◌^◌, ◌<◌, ◌≤◌, ◌==◌, ◌&&◌, min, Bool, true, false, true≢false, not, nat_le, nat_lt, List, refl, sym, ap, subst, ◌∙◌, inl, inr, arith}
 use Rattle.std.specs.Prelude.{nat_abs, slice_index, Option, Some, None, MatchOption}
 use Rattle.std.specs.Bool.{beq}
 use Rattle.std.specs.Coded.{le_prop, Π_prop}
@@ -172,6 +172,21 @@ turned_where_one true b h = refl
 turned_where_one false true h = h refl
 turned_where_one false false h = refl
 
+beq_same : (b : Bool) → beq b b ≡ true
+beq_same true = refl
+beq_same false = refl
+
+beq_other : (a b : Bool) → (a && beq (not b) b) ≡ false
+beq_other true true = refl
+beq_other true false = refl
+beq_other false b = refl
+
+apart : (q i : ℕ) → (q ≡ i → ⊥) → i ≤ q → i < q
+apart q i other past = elim (cases_lt i q) [
+  | inl less ↦ less
+  | inr most ↦ absurd (other (omega (arith, past, most)))
+]
+
 -- where positions rise, the lowest one is the first: without it, the word has that digit turned over
 pub turned_lowest : {bits : ℕ} {at : ℕ → ℕ} {w v i : ℕ} → Rises bits at → IsFirstIndex bits at w i → IsWithoutLowestOne bits w v
     → (p : ℕ) → p < bits → digit v p ≡ exclusive_or (digit w p) (digit (2 ^ at i) p)
@@ -215,6 +230,48 @@ chosen_behind {bits} {at} {head} {xs} {k} {from} {upto} {bit} {w} c law i r v fi
           ];
     }
 
+-- with the last of the elements from index `from` to before index `end` turned over the word has those before it
+pub chosen_before : {bits : ℕ} {at : ℕ → ℕ} {head : ℕ} {xs : List Bool} {k from upto : ℕ} {bit : Bool} {w : ℕ}
+    → IsChosen bits at head xs k from upto bit w → IsOneToOne bits at → (end i r v : ℕ) → upto ≤ end → r < upto → i < bits → k * bits + i ≡ head + r → IsLastBetween bit xs from end r
+    → ((p : ℕ) → p < bits → digit v p ≡ exclusive_or (digit w p) (digit (2 ^ at i) p))
+    → IsChosen bits at head xs k from r bit v
+chosen_before {bits} {at} {head} {xs} {k} {from} {upto} {bit} {w} c law end i r v within less small place last turns =
+    let low = last.0 in
+    let start = c.start in
+    let finish = c.end in
+    let here : k * bits + i - head ≡ r = omega (arith, place) in
+    let is_one : beq (element xs (k * bits + i - head)) bit ≡ true = ap (λ n. beq (element xs n) bit) here ∙ ap (λ b. beq b bit) last.2 ∙ beq_same bit in
+    record {
+      start = c.start;
+      end = omega (arith, finish, less);
+      ones = λ q h.
+          turns (at q) (law.below q h)
+          ∙ elim (cases_eq q i) [
+            | inl same ↦ (
+                let one : digit w (at i) ≡ true = c.ones i small ∙ (rw (le-leb (head + from) (k * bits + i) (omega (arith, place, low)), lt-ltb (k * bits + i) (head + upto) (omega (arith, place, less))) is_one) in
+                let first : digit w (at q) ≡ true = ap (λ n. digit w (at n)) same ∙ one in
+                let two : digit (2 ^ at i) (at q) ≡ true = ap (λ n. digit (2 ^ at i) (at n)) same ∙ digit-pow_same (at i) in
+                rw (first, two) (sym (rw (le-leb (head + from) (k * bits + q) (omega (arith, place, low, same)), le-ltb (k * bits + q) (head + r) (omega (arith, place, same))) refl)))
+            | inr other ↦ (
+                let none : digit (2 ^ at i) (at q) ≡ false = digit-pow_other (at i) (at q) (λ f. other (law.apart q i h small f)) in
+                ap (exclusive_or (digit w (at q))) none
+                ∙ or_neither (digit w (at q))
+                ∙ c.ones q h
+                ∙ elim (cases_lt q i) [
+                  | inl before ↦ (rw (lt-ltb (k * bits + q) (head + upto) (omega (arith, place, before, less)), lt-ltb (k * bits + q) (head + r) (omega (arith, place, before))) refl)
+                  | inr past ↦ (
+                      let on : head + from ≤ k * bits + q = omega (arith, place, past, low) in
+                      let off : nat_lt (k * bits + q) (head + r) ≡ false = le-ltb (k * bits + q) (head + r) (omega (arith, place, past)) in
+                      elim (cases_lt (k * bits + q) (head + upto)) [
+                        | inl inside ↦ (
+                            let not_here : element xs (k * bits + q - head) ≡ not bit = last.3 (k * bits + q - head) (omega (arith, place, past, apart q i other past)) (omega (arith, inside, within)) in
+                            rw (le-leb (head + from) (k * bits + q) on, off, not_here) (beq_other (nat_lt (k * bits + q) (head + upto)) bit))
+                        | inr behind ↦ (rw (le-leb (head + from) (k * bits + q) on, off, le-ltb (k * bits + q) (head + upto) behind) refl)
+                      ])
+                ])
+          ];
+    }
+
 -- two proofs that a word has the same elements are one
 pub chosen_prop : {bits : ℕ} {at : ℕ → ℕ} {head : ℕ} {xs : List Bool} {k from upto : ℕ} {bit : Bool} {w : ℕ} → (c d : IsChosen bits at head xs k from upto bit w) → c ≡ d
 chosen_prop {bits} {at} {head} {xs} {k} {from} {upto} {bit} {w} c d =
@@ -249,12 +306,41 @@ pub found_first : {bits : ℕ} {at : ℕ → ℕ} {head : ℕ} {xs : List Bool} 
 found_first {bits} {at} {head} {xs} {bit} {from} {upto} {k} {w} {i} f r e =
     first_later xs bit from f.begin upto upto r f.later (omega arith) f.passed (chosen_first f.chosen i r f.first e)
 
--- the same of what may be found, before index `end`
-pub option_behind : {A : Type 0} (bits : ℕ) (at : ℕ → ℕ) (head : ℕ) (xs : List Bool) (bit : Bool) (from mid end : ℕ) (o : Option A) (upto k w i : A → ℕ)
-    → from ≤ mid → AllBetween (not bit) xs from mid → MatchOption o (AllBetween (not bit) xs mid end) (λ it. IsFound bits at head xs bit mid (upto it) (k it) (w it) (i it))
-    → MatchOption o (AllBetween (not bit) xs from end) (λ it. IsFound bits at head xs bit from (upto it) (k it) (w it) (i it))
-option_behind bits at head xs bit from mid end None upto k w i low none rest = all_joined (not bit) xs from mid end none rest
-option_behind bits at head xs bit from mid end (Some it) upto k w i low none f = found_behind low none f
+-- the same where the first stretch ends at index `end`, before which all that is found lies
+found_left : {bits : ℕ} {at : ℕ → ℕ} {head : ℕ} {xs : List Bool} {bit : Bool} {from mid end upto k w i : ℕ}
+    → from ≤ min end mid → AllBetween (not bit) xs from (min end mid) → upto ≤ end → IsFound bits at head xs bit mid upto k w i → IsFound bits at head xs bit from upto k w i
+found_left {bits} {at} {head} {xs} {bit} {from} {mid} {end} {upto} {k} {w} {i} low none within f =
+    let here = chosen_element f.chosen i f.first.0 f.first.1 in
+    let after = here.0 in
+    let before = here.1 in
+    let later = f.later in
+    let all : min end mid ≡ mid = omega (arith, after, before, later, within) in
+    found_behind (omega (arith, low, all)) (subst (λ n. AllBetween (not bit) xs from n) all none) f
+
+-- the same of what may be found, of which something else is known
+pub option_left : {A : Type 0} (known : A → Type 0) (bits : ℕ) (at : ℕ → ℕ) (head : ℕ) (xs : List Bool) (bit : Bool) (from mid end : ℕ) (o : Option A) (upto k w i : A → ℕ)
+    → from ≤ min end mid → AllBetween (not bit) xs from (min end mid) → ((it : A) → upto it ≤ end)
+    → MatchOption o (AllBetween (not bit) xs mid end) (λ it. known it × IsFound bits at head xs bit mid (upto it) (k it) (w it) (i it))
+    → MatchOption o (AllBetween (not bit) xs from end) (λ it. known it × IsFound bits at head xs bit from (upto it) (k it) (w it) (i it))
+option_left known bits at head xs bit from mid end None upto k w i low none within rest = λ j after before.
+    elim (cases_lt j mid) [
+      | inl less ↦ none j after (omega (arith, less, before))
+      | inr most ↦ rest j most before
+    ]
+option_left known bits at head xs bit from mid end (Some it) upto k w i low none within f = (f.0, found_left low none (within it) f.1)
+
+-- the same word, whichever way its first index was found
+pub found_at : {bits : ℕ} {at : ℕ → ℕ} {head : ℕ} {xs : List Bool} {bit : Bool} {from upto k w i : ℕ}
+    → IsFound bits at head xs bit from upto k w i → (j : ℕ) → IsFirstIndex bits at w j → IsFound bits at head xs bit from upto k w j
+found_at {bits} {at} {head} {xs} {bit} {from} {upto} {k} {w} {i} f j first = record { begin = f.begin; later = f.later; passed = f.passed; chosen = f.chosen; first = first }
+
+-- what is found is an element
+pub found_place : {bits : ℕ} {at : ℕ → ℕ} {head : ℕ} {xs : List Bool} {bit : Bool} {from upto k w i : ℕ}
+    → IsFound bits at head xs bit from upto k w i → (head ≤ k * bits + i) × (k * bits + i < head + upto)
+found_place {bits} {at} {head} {xs} {bit} {from} {upto} {k} {w} {i} f =
+    let here = chosen_element f.chosen i f.first.0 f.first.1 in
+    let low = here.0 in
+    (omega (arith, low), here.1)
 
 -- the index of an element by its place in word k
 pub found_index : (k i bits head : ℕ) → {width index start : ℕ} → width ≡ bits → index ≡ i → start ≡ head → k * width + index - start ≡ k * bits + i - head

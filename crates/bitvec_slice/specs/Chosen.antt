@@ -1,5 +1,5 @@
 -- Elements of a list that are the ones of a word. `bits` is the width of a word, and `at` takes an index to its position.
-use Rattle.std.specs.Prelude.{◌≡◌, ℕ, ◌+◌, ◌-◌, ◌*◌, ◌<◌, ◌≤◌, ◌&&◌, Bool, not, List, Option, MatchOption, nat_le, nat_lt}
+use Rattle.std.specs.Prelude.{◌≡◌, ℕ, ◌+◌, ◌-◌, ◌*◌, ◌<◌, ◌≤◌, ◌&&◌, min, Bool, not, List, Option, MatchOption, nat_le, nat_lt}
 use Rattle.std.specs.Bool.{beq}
 use Rattle.bitvec.specs.Digit.{digit}
 use Rattle.bitvec.specs.Span.{element}
@@ -32,10 +32,21 @@ pub record IsFound (bits : ℕ) (at : ℕ → ℕ) (head : ℕ) (xs : List Bool)
   pub chosen : IsChosen bits at head xs k begin upto bit w
   pub first : IsFirstIndex bits at w i
 
--- The first word behind those before index `from` that has a slice's bit which is `bit`, with such bits of it and the index
--- of the first: as `IsFound` says. None where no bit before index `end` is such a one.
+-- where the elements of word k end, of those before index `end`
+abbrev pub chosen_end : ℕ → ℕ → ℕ → ℕ → ℕ → ℕ
+chosen_end end bits head len k = min end (stretch_end bits head len k)
+
+-- The first word behind those before index `from` that has a slice's bit which is `bit`, before index `end`, with such bits of
+-- it and the index of the first: as `IsFound` says. None where no bit before index `end` is such a one.
 abbrev pub FindsWord : {R O : Type 0} {a b c d e f g h i : _} → BitSlice R O a b c d e f g h i → Bool → ℕ → ℕ → Option (ℕ × R × ℕ) → Type 0
 FindsWord {a = own} {i = order} slice bit from end result =
     let found = IsFound own.BITS order.at_of (slice_span slice).head (slice_bits slice) bit from in
-    let upto = stretch_end own.BITS (slice_span slice).head (slice_len slice) in
+    let upto = chosen_end end own.BITS (slice_span slice).head (slice_len slice) in
     MatchOption result (AllBetween (not bit) (slice_bits slice) from end) (λ it. found (upto it.0) it.0 (own.number it.1) it.2)
+
+-- the same, and the index of the word's first bit, counted from the first bit of word 0
+abbrev pub FindsStart : {R O : Type 0} {a b c d e f g h i : _} → BitSlice R O a b c d e f g h i → Bool → ℕ → ℕ → Option (ℕ × ℕ × R × ℕ) → Type 0
+FindsStart {a = own} {i = order} slice bit from end result =
+    let found = IsFound own.BITS order.at_of (slice_span slice).head (slice_bits slice) bit from in
+    let upto = chosen_end end own.BITS (slice_span slice).head (slice_len slice) in
+    MatchOption result (AllBetween (not bit) (slice_bits slice) from end) (λ it. (it.1 ≡ it.0 * own.BITS) × found (upto it.0) it.0 (own.number it.2) it.3)

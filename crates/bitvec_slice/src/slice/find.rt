@@ -233,8 +233,8 @@ impl<'a, R: BitRegister, O: BitOrder<R>> BitSlice<'a, R, O> {
         self.turned_word(k, bit).and(mask.into_inner())
     }
 
-    // The next word behind word `word` in which a bit is `bit`: its number, such bits of it as the
-    // ones of a word, and the index of the first. `None` only where none before index `end` is.
+    // The next word behind word `word` in which a bit before index `end` is `bit`: its number, such
+    // bits of it as the ones of a word, and the index of the first. `None` only where none is.
     #[inline(always)]
     pub(super) fn chosen_later(&self, word: usize, end: usize, bit: bool) -> Option<(usize, R, u8)>
         requires { end ≤ slice_len self.now }
@@ -258,7 +258,7 @@ impl<'a, R: BitRegister, O: BitOrder<R>> BitSlice<'a, R, O> {
         if end <= from {
             return None;
         }
-        let ones = self.chosen(last, from, self.len().min(from + width), bit);
+        let ones = self.chosen(last, from, end, bit);
         match first_index::<R, O>(ones) {
             Some(index) => Some((last, ones, index)),
             None => None,

@@ -3,8 +3,8 @@
 //! Each gives its indices in rising order from the front, and in falling order from the back. Taken
 //! from both ends in any mixture it gives each index once, and then `None` for good.
 
-ghost use Rattle.std.specs.Prelude.{◌≡◌, ⊤, ◌≤◌, true, false, length};
-ghost use Rattle.bitvec_slice.specs.BitSlice.{slice_len, slice_bits};
+ghost use Rattle.std.specs.Prelude.{◌≡◌, ⊤, true, false, length};
+ghost use Rattle.bitvec_slice.specs.BitSlice.{slice_bits};
 ghost use Rattle.bitvec_slice.specs.Bits.{ones_between, zeros_between};
 
 use crate::slice::BitSlice;
@@ -30,8 +30,6 @@ use std::iter::FusedIterator;
 #[derive(Drop)]
 pub struct IterOnes<'a, R: BitRegister, O: BitOrder<R>> {
     ahead: Ahead<'a, R, O>,
-    end: usize,
-    pub ghost inside: { end ≤ slice_len ahead.slice },
     pub ghost of_ones: { ahead.bit ≡ true },
 }
 
@@ -43,7 +41,6 @@ impl<'a, R: BitRegister, O: BitOrder<R>> Clone for IterOnes<'a, R, O> {
     fn clone(&self) -> Result<Self, AllocError> {
         Ok(IterOnes {
             ahead: self.ahead.copied(),
-            end: self.end,
         })
     }
 }
@@ -62,8 +59,6 @@ impl<'a, R: BitRegister, O: BitOrder<R>> Clone for IterOnes<'a, R, O> {
 #[derive(Drop)]
 pub struct IterZeros<'a, R: BitRegister, O: BitOrder<R>> {
     ahead: Ahead<'a, R, O>,
-    end: usize,
-    pub ghost inside: { end ≤ slice_len ahead.slice },
     pub ghost of_zeros: { ahead.bit ≡ false },
 }
 
@@ -75,7 +70,6 @@ impl<'a, R: BitRegister, O: BitOrder<R>> Clone for IterZeros<'a, R, O> {
     fn clone(&self) -> Result<Self, AllocError> {
         Ok(IterZeros {
             ahead: self.ahead.copied(),
-            end: self.end,
         })
     }
 }
@@ -92,7 +86,6 @@ impl<'a, R: BitRegister, O: BitOrder<R>> BitSlice<'a, R, O> {
     {
         IterOnes {
             ahead: Ahead::new(*self, true),
-            end: self.len(),
         }
     }
 
@@ -105,7 +98,6 @@ impl<'a, R: BitRegister, O: BitOrder<R>> BitSlice<'a, R, O> {
     {
         IterZeros {
             ahead: Ahead::new(*self, false),
-            end: self.len(),
         }
     }
 }
@@ -123,7 +115,7 @@ impl<'a, R: BitRegister, O: BitOrder<R>> Iterator for IterOnes<'a, R, O> {
     // Inlined, so that a loop over them knows which bits are wanted.
     #[inline(always)]
     fn next(&mut self) -> Option<usize> {
-        self.ahead.step(self.end)
+        self.ahead.step()
     }
 }
 
@@ -134,14 +126,7 @@ impl<'a, R: BitRegister, O: BitOrder<R>> DoubleEndedIterator for IterOnes<'a, R,
     ghost next_back_gives = { YieldsLast ones_left };
 
     fn next_back(&mut self) -> Option<usize> {
-        let slice = self.ahead.slice;
-        match slice.last_between(self.ahead.next, self.end, true) {
-            Some(i) => {
-                self.end = i;
-                Some(i)
-            }
-            None => None,
-        }
+        self.ahead.step_back(true)
     }
 }
 
@@ -161,7 +146,7 @@ impl<'a, R: BitRegister, O: BitOrder<R>> Iterator for IterZeros<'a, R, O> {
     // Inlined, so that a loop over them knows which bits are wanted.
     #[inline(always)]
     fn next(&mut self) -> Option<usize> {
-        self.ahead.step(self.end)
+        self.ahead.step()
     }
 }
 
@@ -172,14 +157,7 @@ impl<'a, R: BitRegister, O: BitOrder<R>> DoubleEndedIterator for IterZeros<'a, R
     ghost next_back_gives = { YieldsLast zeros_left };
 
     fn next_back(&mut self) -> Option<usize> {
-        let slice = self.ahead.slice;
-        match slice.last_between(self.ahead.next, self.end, false) {
-            Some(i) => {
-                self.end = i;
-                Some(i)
-            }
-            None => None,
-        }
+        self.ahead.step_back(false)
     }
 }
 

@@ -1,7 +1,6 @@
 use Rattle.std.proofs.Common.{◌≡◌, ◌<◌, sym, ap, subst, ◌∙◌, arith}
 use Rattle.bitvec_slice.specs.BitSlice.{slice_span, slice_len, slice_bits}
-use Rattle.bitvec_slice.specs.Field.{stretch_end}
-use Rattle.bitvec_slice.specs.Chosen.{IsChosen}
+use Rattle.bitvec_slice.specs.Chosen.{IsChosen, chosen_end}
 use Rattle.bitvec_slice.proofs.WordListLemmas.{chosen_empty}
 use Rattle.bitvec_slice.proofs.slice.ahead.Ahead.new.Goals as goal
 use Rattle.bitvec_slice.proofs.slice.ahead.Ahead.new.Goals.{then-upto-eq0, else-upto-eq0}
@@ -15,10 +14,10 @@ invariant_of-result-clause-chosen g c =
     let head = (slice_span slice).head in
     let bit = c.args.bit in
     let small : head < bits = omega (arith, slice.span.in_word, g.met.R.BitRegister.width_at_least_8) in
-    let upto : c.min-upto.result ≡ stretch_end bits head (slice_len slice) 0 = omega (arith, c.min-upto.ensures, c.len.ensures.value, c.head.ensures, c.bits_of.ensures.value, small) in
+    let upto : c.min-upto.result ≡ chosen_end c.len-end.result bits head (slice_len slice) 0 = omega (arith, c.min-upto.ensures, c.len-end.ensures.value, c.head.ensures, c.bits_of.ensures.value, small) in
     elim c.if-upto-eq0.branch [
       | then-upto-eq0 w ↦ (
-          let none : 0 ≡ stretch_end bits head (slice_len slice) 0 = sym w.if-upto-eq0.true ∙ upto in
+          let none : 0 ≡ chosen_end c.len-end.result bits head (slice_len slice) 0 = sym w.if-upto-eq0.true ∙ upto in
           subst (λ n. IsChosen bits at head (slice_bits slice) 0 0 n bit (number c.if-upto-eq0.left)) none
           (chosen_empty bits at head (slice_bits slice) bit _ small (ap number (w.left-is ∙ w.ZERO-left.ensures) ∙ g.met.R.BitRegister.zero_is_0)))
       | else-upto-eq0 w ↦ subst (λ n. IsChosen bits at head (slice_bits slice) 0 0 n bit (number c.if-upto-eq0.left)) upto

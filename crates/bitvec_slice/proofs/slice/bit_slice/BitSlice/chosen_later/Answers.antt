@@ -4,7 +4,7 @@ use Rattle.std.proofs.lemmas.Nat.{div-add-mod', mod_below}
 use Rattle.std.proofs.Math.Nat.{mul-le-mul_right}
 use Rattle.bitvec_slice.specs.BitSlice.{slice_memory, slice_span, slice_bits}
 use Rattle.bitvec_slice.specs.Field.{stretch_end}
-use Rattle.bitvec_slice.specs.Chosen.{IsChosen}
+use Rattle.bitvec_slice.specs.Chosen.{IsChosen, chosen_end}
 use Rattle.bitvec_slice.proofs.SkipLemmas.{all_joined, between_word}
 use Rattle.bitvec_slice.proofs.WordListLemmas.{chosen_none, chosen_whole}
 use Rattle.bitvec_slice.proofs.slice.bit_slice.BitSlice.chosen_later.Goals as goal
@@ -26,7 +26,7 @@ returns-in-Some g c =
     let inv = c.loop-k.invariant in
     let small : span.head < bits = omega (arith, slice.span.in_word, g.met.R.BitRegister.width_at_least_8) in
     let lies = between_word bits c.bits_of-width.result span.head c.head-head.result span.len c.args.word c.args.end k c.bits_of-width.ensures.value c.head-head.ensures small c.requires inv.0 c.loop-k-test.true in
-    let upto = stretch_end bits span.head span.len k in
+    let upto = chosen_end c.args.end bits span.head span.len k in
     record {
       begin = k * bits - span.head;
       later = omega (arith, lies.row);
@@ -76,8 +76,9 @@ returns-in-Some-first_index g c =
     let row : last * width ≡ k * bits = ap (λ n. n * width) all ∙ ap (λ b. k * b) c.bits_of-width.ensures.value in
     let same : last * width ≡ last * bits = ap (λ b. last * b) c.bits_of-width.ensures.value in
     let after : (c.args.word + 1) * bits ≤ k * bits = mul-le-mul_right bits inv.0 in
-    let long : span.head < bits = omega (arith, slice.span.in_word, g.met.R.BitRegister.width_at_least_8) in
-    let end : c.min.result ≡ stretch_end bits span.head span.len last = omega (arith, c.min.ensures, c.len.ensures.value, c.head-head.ensures, c.bits_of-width.ensures.value, row, same, after, long) in
+    let parts = div-add-mod' (c.head-head.result + c.args.end) width in
+    let rest = mod_below (c.head-head.result + c.args.end) width (omega (arith, c.bits_of-width.ensures.least)) in
+    let end : c.args.end ≡ chosen_end c.args.end bits span.head span.len last = omega (arith, c.requires, c.head-head.ensures, c.bits_of-width.ensures.value, parts, rest, same) in
     record {
       begin = from;
       later = omega (arith, row, after, c.head-head.ensures);
@@ -97,9 +98,7 @@ returns-in-None g c =
     let from = last * width - c.head-head.result in
     let all : last ≡ k = omega (arith, c.loop-k-test.false, inv.1) in
     let row : last * width ≡ k * bits = ap (λ n. n * width) all ∙ ap (λ b. k * b) c.bits_of-width.ensures.value in
-    let parts = div-add-mod' (c.head-head.result + c.args.end) width in
-    let rest = mod_below (c.head-head.result + c.args.end) width (omega (arith, c.bits_of-width.ensures.least)) in
     λ j low high. elim (cases_lt j from) [
       | inl before ↦ inv.2 j low (omega (arith, before, row, c.head-head.ensures))
-      | inr on ↦ chosen_none c.chosen-ones.ensures c.in-None.ensures j on (omega (arith, high, c.min.ensures, c.len.ensures.value, c.requires, parts, rest))
+      | inr on ↦ chosen_none c.chosen-ones.ensures c.in-None.ensures j on high
     ]

@@ -9,8 +9,8 @@ pub returns-clause-steps : goal.returns-clause-steps
 returns-clause-steps g c =
     let old = c.args.self.now in
     let bits = slice_bits old.ahead.slice in
-    let first = subst (λ b. MatchOption c.step.result (AllBetween (not b) bits old.ahead.next old.end) (IsFirstBetween b bits old.ahead.next old.end)) old.of_zeros c.step.ensures.first in
-    zeros_behind bits _ old.ahead.next old.end _ c.step.result (ap slice_bits c.step.ensures.slice) first c.step.ensures.next
+    let first = subst (λ b. MatchOption c.step.result (AllBetween (not b) bits old.ahead.next old.ahead.end) (IsFirstBetween b bits old.ahead.next old.ahead.end)) old.of_zeros c.step.ensures.first in
+    zeros_behind bits _ old.ahead.next old.ahead.end _ _ c.step.result (ap slice_bits c.step.ensures.slice) c.step.ensures.end first c.step.ensures.next
 
 pub returns-clause-goes : goal.returns-clause-goes
 returns-clause-goes g c = progress_behind _ zeros_left _ _ _ tt (returns-clause-steps g c)
