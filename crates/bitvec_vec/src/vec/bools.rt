@@ -8,18 +8,11 @@ ghost use Rattle.bitvec.specs.Order.{number_of};
 ghost use Rattle.bitvec.specs.Span.{element};
 
 use crate::vec::BitVec;
+use crate::vec::front::one_where;
 use bitvec::index::BitIdx;
 use bitvec::mem::BitRegister;
 use bitvec::order::BitOrder;
 use std::alloc::{AllocError, Allocator};
-
-// One where a truth value is true, else zero.
-#[inline(always)]
-fn one_where<R: BitRegister>(bit: bool) -> R
-    ensures { R.number result ≡ (if bit then 1 else 0) }
-{
-    if bit { R::ONE } else { R::ZERO }
-}
 
 // The word that has each of some truth values, as many as its bits, at the index of its number.
 #[inline(always)]

@@ -4,7 +4,7 @@ ghost use Rattle.std.specs.Prelude.{◌≡◌, ◌≤◌, ◌<◌, ◌+◌, ◌-
 ghost use Rattle.std.specs.Prelude.{length, take, replicate, OnOk, OnErr, MatchOption};
 
 use crate::vec::BitVec;
-use crate::vec::front::{MOST, make_room, words_of_bits};
+use crate::vec::front::{make_room, put_last, words_of_bits};
 use bitvec::mem::BitRegister;
 use bitvec::order::BitOrder;
 use std::alloc::{AllocError, Allocator};
@@ -33,12 +33,9 @@ impl<R: BitRegister, O: BitOrder<R>, A: Allocator> BitVec<R, O, A> {
         ensures full { OnErr result (bit_capacity self.old ≤ length (vec_bits self.old)) }
     {
         let len = self.len;
-        if len == MOST {
-            return Err(AllocError);
-        }
         make_room(&mut self.words, len)?;
+        put_last::<R, O>(self.words.as_mut_slice(), len, bit);
         self.len = len + 1;
-        self.set(len, bit);
         Ok(())
     }
 
