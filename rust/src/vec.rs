@@ -434,7 +434,7 @@ impl<T: Register, O: Order> BitVec<T, O> {
     #[inline]
     #[track_caller]
     pub fn push(&mut self, bit: bool) {
-        if self.put_last(bit).is_err() {
+        if self.0.push(bit).is_err() {
             // (a copy, since what is lent would lie in memory in each call)
             refused("push", &{ bit }, self.len(), Refusal::NoMemory);
         }
@@ -458,21 +458,7 @@ impl<T: Register, O: Order> BitVec<T, O> {
     /// ```
     #[inline]
     pub fn try_push(&mut self, bit: bool) -> Result<(), Refusal> {
-        self.put_last(bit).map_err(no_memory)
-    }
-
-    /// As `push` of the library, which refuses the same. Of a length that is at most `MAX_BITS` the
-    /// compiler divides as of one with no sign. That which the library left is written once more, behind
-    /// the bit: what comes next need not read it, and wait for the first.
-    #[inline]
-    fn put_last(&mut self, bit: bool) -> Result<(), AllocError> {
-        let len = self.0.len();
-        if len >= MAX_BITS {
-            return Err(AllocError);
-        }
-        self.0.push(bit)?;
-        self.0.len = len + 1;
-        Ok(())
+        self.0.push(bit).map_err(no_memory)
     }
 
     /// Takes the last bit away and returns it, and `None` where there are no bits. Constant time.
