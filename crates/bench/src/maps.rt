@@ -130,12 +130,13 @@ impl Plain<'_> {
     // Whether there are these blocks, and each is in use, or free.
     fn are(&self, at: usize, count: usize, used: bool) -> bool {
         let len = self.used.len();
-        at <= len && count <= len - at && self.used.iter().skip(at).take(count).all(|u| *u == used)
+        at <= len && count <= len - at && self.used[at..at + count].iter().all(|u| *u == used)
     }
 
     // Makes blocks be in use, or free.
     fn mark(&mut self, at: usize, count: usize, used: bool) {
-        for block in self.used.iter_mut().skip(at).take(count) {
+        let begin = at.min(self.used.len());
+        for block in self.used[begin..].iter_mut().take(count) {
             *block = used;
         }
     }
