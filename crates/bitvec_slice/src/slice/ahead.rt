@@ -137,7 +137,7 @@ impl<'a, R: BitRegister, O: BitOrder<R>> Ahead<'a, R, O> {
     {
         let found = self.found()?;
         let (word, start, ones, _) = found;
-        // (asked for once more, behind where the two ways to a word meet, which costs nothing)
+        // (asked for once more, where both ways to a word meet: so a program finds it in one place)
         let index = first_index::<R, O>(ones)?;
         let i = start + usize::from(index) - self.slice.head();
         self.word = word;

@@ -1,4 +1,4 @@
-use Rattle.std.proofs.Common.{◌≡◌, ◌+◌, ◌-◌, ◌*◌, ◌<◌, sym, subst, arith}
+use Rattle.std.proofs.Common.{◌≡◌, ◌+◌, ◌-◌, ◌*◌, ◌<◌, subst, arith}
 use Rattle.bitvec_slice.specs.BitSlice.{slice_span, slice_len, slice_bits}
 use Rattle.bitvec_slice.specs.Chosen.{IsChosen, chosen_end}
 use Rattle.bitvec_slice.proofs.WordListLemmas.{chosen_before}

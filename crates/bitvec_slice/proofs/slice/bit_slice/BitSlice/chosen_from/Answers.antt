@@ -1,4 +1,4 @@
-use Rattle.std.proofs.Common.{◌≡◌, ◌+◌, ◌*◌, ◌<◌, ◌≤◌, ◌&&◌, Some, None, map, sym, ap, subst, ◌∙◌, arith}
+use Rattle.std.proofs.Common.{◌≡◌, ◌+◌, ◌*◌, ◌<◌, ◌&&◌, Some, None, map, sym, ap, subst, ◌∙◌, arith}
 use Rattle.bitvec.specs.Digit.{digit}
 use Rattle.bitvec.specs.Order.{IsMaskOf}
 use Rattle.bitvec_slice.specs.BitSlice.{slice_memory, slice_span}

@@ -1,6 +1,5 @@
-use Rattle.std.proofs.Common.{◌≡◌, ◌+◌, ◌-◌, ◌*◌, ◌<◌, ◌≤◌, map, ap, arith}
+use Rattle.std.proofs.Common.{◌≡◌, ◌+◌, ◌-◌, ◌*◌, ◌<◌, map, ap, arith}
 use Rattle.bitvec_slice.specs.BitSlice.{slice_memory, slice_span, slice_bits}
-use Rattle.bitvec_slice.specs.Chosen.{IsChosenFrom}
 use Rattle.bitvec_slice.specs.Field.{stretch_end}
 use Rattle.bitvec_slice.proofs.SkipLemmas.{met_before}
 use Rattle.bitvec_slice.proofs.WordListLemmas.{whole_from, none_from, passed_from, first_from, finds_behind}
