@@ -43,7 +43,7 @@ pub(crate) fn one_where<R: BitRegister>(bit: bool) -> R
 }
 
 // A word with another bit at an index: what was there is cleared, and the bit put in its place.
-// What is cleared and what is put in does not wait for the word.
+// Both are made ready before the word is there, which may wait for the store of the bit before.
 #[inline(always)]
 fn with_bit<R: BitRegister, O: BitOrder<R>>(word: R, index: BitIdx<R>, bit: bool) -> R
     ensures { (j : ℕ) → j < R.BITS → digit (R.number result) (O.at_of j)
@@ -55,7 +55,7 @@ fn with_bit<R: BitRegister, O: BitOrder<R>>(word: R, index: BitIdx<R>, bit: bool
     word.and(selector.not()).or(moved)
 }
 
-// Writes the last of the first `len + 1` bits of some words, which take all of these.
+// Writes bit `len` of words that are as many as the first `len + 1` bits take.
 #[inline(always)]
 pub(crate) fn put_last<R: BitRegister, O: BitOrder<R>>(words: &mut [R], len: usize, bit: bool)
     requires { length words.old ≡ words_for R.BITS (len + 1) }

@@ -1,4 +1,4 @@
-use Rattle.std.proofs.Common.{◌≡◌, ◌+◌, ◌∙◌, List, Bool, length, map, arith}
+use Rattle.std.proofs.Common.{◌+◌, ◌∙◌, List, Bool, map, arith}
 use Rattle.std.specs.Prelude.{slice_set}
 use Rattle.bitvec_vec.specs.BitVec.{vec_bits}
 use Rattle.bitvec_vec.specs.Front.{front_bits}
