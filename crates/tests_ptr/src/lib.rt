@@ -13,6 +13,8 @@ mod ends;
 #[cfg(test)]
 mod examples;
 #[cfg(test)]
+mod lists;
+#[cfg(test)]
 mod pointer_laws;
 #[cfg(test)]
 mod pointers;
