@@ -29,6 +29,8 @@ mod pieces;
 #[cfg(test)]
 mod prelude;
 #[cfg(test)]
+mod questions;
+#[cfg(test)]
 mod sets;
 #[cfg(test)]
 mod signed;
