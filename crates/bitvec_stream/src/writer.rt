@@ -5,7 +5,7 @@ ghost use Rattle.std.specs.Prelude.{Bool, List, drop, length, map};
 ghost use Rattle.bitvec.specs.BitSpan.{span_of, list_by};
 ghost use Rattle.bitvec.specs.Memory.{memory_bits};
 ghost use Rattle.bitvec.specs.Place.{region_max_bits};
-ghost use Rattle.bitvec.specs.Span.{Fits, span_upto, front_span};
+ghost use Rattle.bitvec.specs.Span.{Fits, span_upto, span_from, front_span};
 ghost use Rattle.bitvec_slice.specs.BitSlice.{slice_memory, slice_span, slice_len, slice_bits};
 ghost use Rattle.bitvec_slice.specs.BitSliceMut.{lent_memory, lent_span, lent_bits};
 ghost use Rattle.bitvec_slice.specs.Lengths.{HasLength};
@@ -188,6 +188,9 @@ impl<'a, R: BitRegister, O: BitOrder<R>> BitWriter<'a, R, O> {
     pub fn written_from(&self, from: usize) -> BitSlice<'_, R, O>
         requires { from ≤ length (written self.now) }
         ensures bits { slice_bits result ≡ drop from (written self.now) }
+        ensures memory { slice_memory result ≡ (target_memory self.now).now }
+        ensures span { slice_span result ≡ span_from R.BITS
+            (span_upto (target_span self.now) (bits_written self.now)) from }
 
         // Behind whatever stood there when `from` bits were written: these are what came since.
         ensures since { (before bits : List Bool) → length before ≡ from
