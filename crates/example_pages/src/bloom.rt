@@ -33,13 +33,15 @@ pub struct Bloom<'a, R: BitRegister, O: BitOrder<R>> {
 }
 
 impl<'a, R: BitRegister, O: BitOrder<R>> Bloom<'a, R, O> {
-    ghost use Rattle.example_pages.specs.Bloom.{filter_bits, BecomesFilter};
+    ghost use Rattle.example_pages.specs.Bloom.{filter_bits, BecomesFilter, MakesFilter};
 
     /// A filter with no key, and `None` where there are no bits. All bits become zero.
     pub fn new(mut bits: BitSliceMut<'a, R, O>) -> Option<Self>
         ensures accepted { IsSome result ↔ (0 < length (lent_bits bits.entry)) }
         ensures zeros { IfSome result (λ it. filter_bits it
             ≡ replicate (length (lent_bits bits.entry)) false) }
+        ensures whole { IfSome result (λ it. MakesFilter bits.entry it
+            (replicate (length (lent_bits bits.entry)) false)) }
     {
         if bits.is_empty() {
             return None;

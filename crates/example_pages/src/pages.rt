@@ -4,7 +4,7 @@
 ghost use Rattle.std.specs.Prelude.{◌≡◌, ◌↔◌, ◌+◌, true, false, length, map, take, slice_set};
 ghost use Rattle.std.specs.Prelude.{IsTrue, IsOk, IfOk, IfErr, IfSome, MatchOption};
 ghost use Rattle.bitvec.specs.Memory.{memory_bits};
-ghost use Rattle.bitvec.specs.Span.{with_filled};
+ghost use Rattle.bitvec.specs.Span.{front_span, with_filled};
 ghost use Rattle.bitvec.specs.Truths.{AllAre, IsFirst};
 ghost use Rattle.bitvec_slice.specs.Bits.{AreFree, IsFirstFree};
 ghost use Rattle.bitvec_slice.specs.Ranges.{KeepsBeside};
@@ -19,7 +19,8 @@ pub struct Pages<'a, R: BitRegister, O: BitOrder<R>> {
 }
 
 impl<'a, R: BitRegister, O: BitOrder<R>> Pages<'a, R, O> {
-    ghost use Rattle.example_pages.specs.Pages.{used, free_count, AreInUse, BecomesPages};
+    ghost use Rattle.example_pages.specs.Pages.{pages_memory, pages_span, used, free_count};
+    ghost use Rattle.example_pages.specs.Pages.{AreInUse, BecomesPages};
 
     /// The pages of a store whose map is in the first bits of some words. It gives the words back
     /// where they have no bit for each page.
@@ -30,6 +31,12 @@ impl<'a, R: BitRegister, O: BitOrder<R>> Pages<'a, R, O> {
         ensures back { IfErr result (λ it. it.ghost_name ≡ words.entry.ghost_name) }
         ensures kept { IfErr result (λ it. it.now ≡ words.old) }
         ensures many { IfOk result (λ it. length (used it) ≡ pages) }
+
+        // The words are lent as they are, and the map lies in their first bits.
+        ensures reference { IfOk result (λ it. (pages_memory it).ghost_name
+            ≡ words.entry.ghost_name) }
+        ensures memory { IfOk result (λ it. (pages_memory it).now ≡ words.old) }
+        ensures span { IfOk result (λ it. pages_span it ≡ front_span pages) }
     {
         let bits = BitSliceMut::front(words, pages)?;
         Ok(Pages { bits })
