@@ -81,3 +81,7 @@ TakesLastPiece slice size taken rest = let cut = last_start size (slice_len slic
 -- a call took the last of the pieces off the front, where they have `size` bits from the back on, or none
 abbrev pub TakesLastRPiece : {R O : Type 0} {a b c d e f g h i : _} → BitSlice R O a b c d e f g h i → ℕ → Option (BitSlice R O a b c d e f g h i) → BitSlice R O a b c d e f g h i → Type 0
 TakesLastRPiece slice size taken rest = let cut = slice_len slice - last_start size (slice_len slice) in TakesFirst slice cut cut taken rest
+
+-- what is said of the bits of a slice from bit `from` to before bit `to`, as a slice where they lie
+abbrev pub InRange : {R O : Type 0} {a b c d e f g h i : _} → BitSlice R O a b c d e f g h i → ℕ → ℕ → (BitSlice R O a b c d e f g h i → Type 0) → Type 0
+InRange {R} {O} {a} {b} {c} {d} {e} {f} {g} {h} {i} slice from to Said = (part : BitSlice R O a b c d e f g h i) × IsRangeOf slice from to part × Said part

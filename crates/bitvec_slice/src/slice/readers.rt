@@ -257,7 +257,13 @@ impl<'a, R: BitRegister, O: BitOrder<R>> ReadBits<R, O> for BitSlice<'a, R, O> {
     ghost bits = { slice_bits };
 
     #[inline(always)]
-    fn as_bitslice(&self) -> BitSlice<'_, R, O> {
+    fn as_bitslice(&self) -> BitSlice<'_, R, O>
+        ensures bits { slice_bits result ≡ slice_bits self.now }
+
+        // They lie where the slice lies.
+        ensures memory { slice_memory result ≡ slice_memory self.now }
+        ensures span { slice_span result ≡ slice_span self.now }
+    {
         BitSlice::new_unchecked(self.span, self.memory)
     }
 }

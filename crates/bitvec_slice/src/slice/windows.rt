@@ -1,7 +1,7 @@
 //! The windows of a slice: a number of bits side by side, from each bit on.
 
 ghost use Rattle.std.specs.Prelude.{◌≡◌, ⊤, ◌+◌, ◌-◌, ◌<◌, ◌≤◌, Some, length, take, drop, IfSome};
-ghost use Rattle.std.specs.Prelude.{MatchOption};
+ghost use Rattle.std.specs.Prelude.{MatchOption, min};
 ghost use Rattle.std.specs.List.{slice_get};
 ghost use Rattle.std.specs.Iterator.{YieldsFirstBy, YieldsLastBy, item_count, at_most, UpTo};
 ghost use Rattle.std.specs.Iterator.{MakesProgress};
@@ -71,7 +71,8 @@ impl<'a, R: BitRegister, O: BitOrder<R>> BitSlice<'a, R, O> {
 }
 
 impl<'a, R: BitRegister, O: BitOrder<R>> Windows<'a, R, O> {
-    ghost use Rattle.bitvec_slice.specs.PieceIters.{windows_left, windows_size};
+    ghost use Rattle.bitvec_slice.specs.PieceIters.{windows_left, windows_rest, windows_size};
+    ghost use Rattle.bitvec_slice.specs.PieceIters.{InRange, TakesFirst, TakesLast};
 
     /// Takes the window `n` places behind the first of those that are left, and drops those before
     /// it. Where there is none it returns `None`, and none is left.
@@ -94,6 +95,12 @@ impl<'a, R: BitRegister, O: BitOrder<R>> Windows<'a, R, O> {
             (λ window. slice_get left n ≡ Some (slice_bits window)) }
         ensures left { windows_left self.new ≡ drop (n + 1) (windows_left self.old) }
         ensures size { windows_size self.new ≡ windows_size self.old }
+
+        // The window is the first behind `n` others, where they lie.
+        ensures place { let rest = windows_rest self.old
+            in let size = windows_size self.old
+            in InRange rest (min n (slice_len rest)) (slice_len rest)
+            (λ left. TakesFirst left size 1 result (windows_rest self.new)) }
     {
         let (_, rest) = self.rest.split_at(n.min(self.rest.len()));
         self.rest = rest;
@@ -122,6 +129,12 @@ impl<'a, R: BitRegister, O: BitOrder<R>> Windows<'a, R, O> {
         ensures left { let left = windows_left self.old
             in windows_left self.new ≡ take (length left - (n + 1)) left }
         ensures size { windows_size self.new ≡ windows_size self.old }
+
+        // The window is the last before `n` others, where they lie.
+        ensures place { let rest = windows_rest self.old
+            in let size = windows_size self.old
+            in InRange rest 0 (slice_len rest - n) (λ left. let len = slice_len left
+            in TakesLast left (len - size) (len - 1) result (windows_rest self.new)) }
     {
         let (rest, _) = self.rest.split_at(self.rest.len().saturating_sub(n));
         self.rest = rest;

@@ -1,5 +1,7 @@
-use Rattle.std.proofs.Common.{◌∙◌, ◌-◌, take, ap}
-use Rattle.bitvec_slice.specs.BitSlice.{slice_bits}
+use Rattle.std.proofs.Common.{◌∙◌, ◌-◌, take, ap, ◌<◌, sym, arith}
+use Rattle.bitvec.specs.Span.{span_upto}
+use Rattle.bitvec_slice.specs.BitSlice.{slice_span, slice_bits}
+use Rattle.bitvec_slice.proofs.IterLemmas.{range_upto}
 use Rattle.bitvec_slice.specs.Pieces.{windows_of}
 use Rattle.bitvec_slice.proofs.NthLemmas.{nth_back_item, nth_back_left, windows_take}
 use Rattle.bitvec_slice.proofs.slice.windows.Windows.nth_back.Goals as goal
@@ -19,3 +21,13 @@ returns-clause-left g c =
     let cut = c.saturating_sub.ensures ∙ ap (λ l. l - c.args.n) c.len.ensures.list in
     let before = ap (windows_of it.size) (c.split_at.ensures.front ∙ ap (λ l. take l xs) cut) ∙ windows_take it.size c.args.n xs it.some in
     nth_back_left slice_bits c.args.n _ _ _ before c.next_back.result c.next_back.ensures.steps
+
+pub returns-clause-place : goal.returns-clause-place
+returns-clause-place g c =
+    let it = c.args.self.now in
+    let left = slice_span it.rest in
+    let width = g.R.BitRegister.BITS in
+    let in_head : left.head < width = omega (arith, it.rest.span.in_word, g.met.R.BitRegister.width_at_least_8) in
+    let cut = c.saturating_sub.ensures ∙ ap (λ l. l - c.args.n) c.len.ensures.value in
+    let place = c.split_at.ensures.front_span ∙ ap (span_upto left) cut ∙ sym (range_upto width left (left.len - c.args.n) in_head) in
+    (c.split_at.result.0, (c.split_at.ensures.front_memory, place), c.next_back.ensures.place)
