@@ -637,6 +637,9 @@ fn time_domains(source: &[u64], target: &mut [u64]) {
     time("domain-body", WORDS, || {
         black_box(pass_body(black_box(source)));
     });
+    time("domain-each", WORDS, || {
+        black_box(pass(black_box(source)));
+    });
     time("fill", WORDS, || fill(black_box(target), black_box(true)));
 }
 

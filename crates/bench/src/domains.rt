@@ -56,6 +56,25 @@ impl Job for PassBody<'_> {
     }
 }
 
+// The same by the call that hands each item on.
+#[derive(Drop)]
+struct PassEach<'a> {
+    span: BitSpan<u64, Lsb0>,
+    words: &'a [u64],
+    sum: u64,
+}
+
+impl Job for PassEach<'_> {
+    ghost ready = { λ s. Fits 64 (span_of s.span) (length s.words.now) };
+
+    #[inline(never)]
+    fn go(&mut self) {
+        let mut sum = 0;
+        self.span.domain(self.words).each(|word| sum ^= word);
+        self.sum ^= sum;
+    }
+}
+
 // All bits of a span made one.
 #[derive(Drop)]
 struct Fill<'a> {
@@ -119,22 +138,28 @@ fn passes(rt: HostRuntime, mode: Mode, span: BitSpan<u64, Lsb0>) -> io::Result<(
         kind: "body",
         unit: "word",
     };
+    let handed = Name {
+        group,
+        kind: "each",
+        unit: "word",
+    };
     let words = words.as_slice();
     let sum = 0;
     let mut pass = Pass { span, words, sum };
     let mut body = PassBody { span, words, sum };
+    let mut each = PassEach { span, words, sum };
     if mode != Mode::Compare {
         time(rt, whole, units, &mut pass)?;
-        return time(rt, inside, units, &mut body);
+        time(rt, inside, units, &mut body)?;
+        return time(rt, handed, units, &mut each);
     }
     pass.go();
     body.go();
-    tell(
-        rt,
-        whole,
-        pass.sum == sum_inside(words) ^ sum_of_ends(words),
-    )?;
-    tell(rt, inside, body.sum == sum_inside(words))
+    each.go();
+    let all = sum_inside(words) ^ sum_of_ends(words);
+    tell(rt, whole, pass.sum == all)?;
+    tell(rt, inside, body.sum == sum_inside(words))?;
+    tell(rt, handed, each.sum == all)
 }
 
 fn fill_all(rt: HostRuntime, mode: Mode, span: BitSpan<u64, Lsb0>) -> io::Result<()> {

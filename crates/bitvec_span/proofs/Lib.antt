@@ -1,6 +1,7 @@
 pub mod AppendLemmas
 pub mod BecomesLemmas
 pub mod ByteLemmas
+pub mod CallLemmas
 pub mod CombineSpanLemmas
 pub mod CoverLemmas
 pub mod DisjointLemmas

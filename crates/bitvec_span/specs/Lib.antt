@@ -6,6 +6,7 @@ pub mod BitSpan
 pub mod BitWordsMut
 pub mod Domain
 pub mod DomainMut
+pub mod Each
 pub mod ItemText
 pub mod Lending
 pub mod Loans

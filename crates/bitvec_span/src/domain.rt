@@ -18,6 +18,7 @@ mod bit_domain_mut;
 mod bit_words;
 mod bit_words_mut;
 mod domain_mut;
+mod each;
 mod partial_element;
 mod partial_element_mut;
 mod shape;

@@ -179,6 +179,15 @@ fn the_domain_of_a_span(rt: HostRuntime) {
 }
 
 #[test]
+fn each_item_of_a_domain(rt: HostRuntime) {
+    let memory = [0x12u8, 0x34, 0x56];
+    let span: BitSpan<u8, Lsb0> = BitSpan::new(0, BitIdx::new_unchecked(4), 16).unwrap();
+    let mut sum = 0;
+    span.domain(&memory).each(|word| sum ^= word);
+    assert_eq!(rt; sum, 0x10 ^ 0x34 ^ 0x06);
+}
+
+#[test]
 fn a_span_is_filled(rt: HostRuntime) {
     let mut memory = [0x12u8, 0x34, 0x56];
     let span: BitSpan<u8, Lsb0> = BitSpan::new(0, BitIdx::new_unchecked(4), 12).unwrap();
