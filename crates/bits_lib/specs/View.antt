@@ -24,8 +24,8 @@ abbrev pub part_list : {R O : Type 0} {N a b c d e f g h i : _} → Parts R O N 
 part_list {a = own} {i = order} parts s = list_of own.BITS order.at_of (part_span parts s) (map own.number (view_memory parts).now)
 
 -- every bit of the memory outside the parts of `old` is in `new` as before
-abbrev pub KeepsOutside : {R O : Type 0} {N a b c d e f g h i : _} → Parts R O N a b c d e f g h i → Parts R O N a b c d e f g h i → Type 0
-KeepsOutside {a = own} {i = order} old new = (place : ℕ) → IsOutside own.BITS (λ span. span) (part_spans old) place → bit_of own.BITS order.at_of (map own.number (view_memory new).now) place ≡ bit_of own.BITS order.at_of (map own.number (view_memory old).now) place
+abbrev pub KeepsOutsideParts : {R O : Type 0} {N a b c d e f g h i : _} → Parts R O N a b c d e f g h i → Parts R O N a b c d e f g h i → Type 0
+KeepsOutsideParts {a = own} {i = order} old new = (place : ℕ) → IsOutside own.BITS (λ span. span) (part_spans old) place → bit_of own.BITS order.at_of (map own.number (view_memory new).now) place ≡ bit_of own.BITS order.at_of (map own.number (view_memory old).now) place
 
 -- the list of every span that is disjoint from each part of `old` is in `new` as before
 abbrev pub KeepsApart : {R O : Type 0} {N a b c d e f g h i : _} → Parts R O N a b c d e f g h i → Parts R O N a b c d e f g h i → Type 0

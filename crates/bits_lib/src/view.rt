@@ -96,7 +96,7 @@ fn accepts<R: BitRegister, O, const N: usize>(spans: [BitSpan<R, O>; N], words: 
 impl<'a, R: BitRegister, O: BitOrder<R>, const N: usize> Parts<'a, R, O, N> {
     ghost use Rattle.std.specs.Borrow.{sem, Array, RestsIfNone};
     ghost use Rattle.bits_lib.specs.View.{view_memory, part_spans, part_span, part_list};
-    ghost use Rattle.bits_lib.specs.View.{KeepsOutside, KeepsApart};
+    ghost use Rattle.bits_lib.specs.View.{KeepsOutsideParts, KeepsApart};
 
     // Where a part lies.
     fn span(&self, part: usize) -> BitSpan<R, O>
@@ -171,7 +171,7 @@ impl<'a, R: BitRegister, O: BitOrder<R>, const N: usize> Parts<'a, R, O, N> {
         ensures spans { part_spans self.new ≡ part_spans self.old }
         ensures edited { part_list self.new part ≡ slice_set (part_list self.old part) i bit }
         ensures kept { (s : ℕ) → s ≢ part → part_list self.new s ≡ part_list self.old s }
-        ensures others { KeepsOutside self.old self.new }
+        ensures others { KeepsOutsideParts self.old self.new }
         ensures apart { KeepsApart self.old self.new }
         ensures words { length (view_memory self.new).now ≡ length (view_memory self.old).now }
     {
@@ -193,7 +193,7 @@ impl<'a, R: BitRegister, O: BitOrder<R>, const N: usize> Parts<'a, R, O, N> {
         ensures edited { part_list self.new part
             ≡ with_filled (part_list self.old part) from to bit }
         ensures kept { (s : ℕ) → s ≢ part → part_list self.new s ≡ part_list self.old s }
-        ensures others { KeepsOutside self.old self.new }
+        ensures others { KeepsOutsideParts self.old self.new }
         ensures apart { KeepsApart self.old self.new }
         ensures words { length (view_memory self.new).now ≡ length (view_memory self.old).now }
     {

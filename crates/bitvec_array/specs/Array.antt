@@ -9,5 +9,5 @@ abbrev pub array_len : ℕ → ℕ
 array_len words = min (words * 64) region_max_bits
 
 -- which they are, in order
-abbrev pub bits_in : (ℕ → ℕ) → ℕ → List ℕ → List Bool
-bits_in at many words = list_of 64 at (front_span (array_len many)) words
+abbrev pub bits_in_words : (ℕ → ℕ) → ℕ → List ℕ → List Bool
+bits_in_words at many words = list_of 64 at (front_span (array_len many)) words

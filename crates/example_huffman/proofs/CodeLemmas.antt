@@ -8,7 +8,7 @@ use Rattle.std.proofs.lemmas.List.Elements.{All-get_or}
 use Rattle.std.proofs.lemmas.List.Sums.{count_by_more_yes, count_by_more_no, sum_by-take-le}
 use Rattle.std.proofs.Math.Nat.{pow-suc}
 use Rattle.example_huffman.specs.Codes.{codes_of, first_code, behind_codes, IsComplete, HasCode, code_of}
-use Rattle.example_huffman.specs.Laws.{AreBeginnings, BeginsWith, OneSymbol, SomeSymbol}
+use Rattle.example_huffman.specs.Laws.{AreBeginnings, BeginsWithCode, OneSymbol, SomeSymbol}
 
 -- the first code of each length is twice what follows the last of the length before
 pub next_first : (lengths : List ℕ) (k : ℕ) → first_code lengths (k + 1) ≡ 2 * behind_codes lengths k
@@ -171,7 +171,7 @@ module _ (lengths : List ℕ) (many : ℕ) (at : ℕ → ℕ) (are : AreBeginnin
         (λ j h. elim (cases_eq j k) [ inl same ↦ subst (λ m. behind_codes lengths m ≤ at (m + 1)) (sym same) past | inr other ↦ all j (omega (arith, h, other)) ])
   ]
 
-  at_code : (s k : ℕ) → get_or lengths s 0 ≡ k + 1 → BeginsWith lengths many at s → (k < many) × (at (k + 1) ≡ code_of lengths s)
+  at_code : (s k : ℕ) → get_or lengths s 0 ≡ k + 1 → BeginsWithCode lengths many at s → (k < many) × (at (k + 1) ≡ code_of lengths s)
   at_code s k e begins = (omega (arith, e, begins.1), subst (λ n. at n ≡ code_of lengths s) e begins.2)
 
 pub one_symbol : OneSymbol

@@ -10,7 +10,7 @@ use Rattle.bitvec_slice.proofs.DigitListLemmas.{length-digits_be, digit-number_b
 use Rattle.bitvec_stream.specs.Numbers.{number_be, digits_be}
 use Rattle.bitvec_stream.proofs.GolombLemmas.{part_long}
 use Rattle.example_huffman.specs.Codes.{IsComplete, first_code, behind_codes, code_of}
-use Rattle.example_huffman.specs.Laws.{AreBeginnings, BeginsWith}
+use Rattle.example_huffman.specs.Laws.{AreBeginnings, BeginsWithCode}
 use Rattle.example_huffman.proofs.CodeLemmas.{code_below, lies, known, one_symbol, some_symbol}
 use Rattle.example_huffman_text.specs.Text.{code_bits, BeginsWithSymbol}
 
@@ -71,7 +71,7 @@ module _ (lengths : List ℕ) (xs : List Bool) (s : ℕ) where
 
 module _ (lengths : List ℕ) (whole : IsComplete lengths) (xs : List Bool) where
   -- and it begins with the number where it begins with the code
-  pub begins : (s : ℕ) → BeginsWithSymbol lengths xs s → BeginsWith lengths (length xs) (beginning xs) s
+  pub begins : (s : ℕ) → BeginsWithSymbol lengths xs s → BeginsWithCode lengths (length xs) (beginning xs) s
   begins s is =
       let front : take (get_or lengths s 0) xs ≡ code_bits lengths s = ap (λ n. take n xs) (sym (code_long lengths s)) ∙ is.bits in (
         is.code,

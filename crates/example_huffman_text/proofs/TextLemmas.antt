@@ -6,7 +6,7 @@ use Rattle.std.proofs.lemmas.List.{length-set, length-take-le, take_at, drop_at,
 use Rattle.std.proofs.lemmas.List.Concat.{flat_map-append}
 use Rattle.std.proofs.lemmas.List.Elements.{All-head, All-tail, All-push}
 use Rattle.example_huffman.specs.Codes.{IsComplete, HasCode}
-use Rattle.example_huffman_text.specs.Text.{code_bits, BeginsWithSymbol, text_bits, OneText}
+use Rattle.example_huffman_text.specs.Text.{code_bits, BeginsWithSymbol, encoded_bits, OneText}
 use Rattle.example_huffman_text.proofs.SymbolLemmas.{code_long, one_begins}
 
 -- a list with a code before it begins with the code
@@ -25,50 +25,50 @@ code_once lengths s t xs ys whole a b same =
 
 -- the same of the first symbols of two texts
 text_once : (lengths : List ℕ) (s t : ℕ) (ss ts : List ℕ) (after left : List Bool) → IsComplete lengths → HasCode lengths s → HasCode lengths t
-    → text_bits lengths (s ∷ ss) ++ after ≡ text_bits lengths (t ∷ ts) ++ left → (s ≡ t) × (text_bits lengths ss ++ after ≡ text_bits lengths ts ++ left)
+    → encoded_bits lengths (s ∷ ss) ++ after ≡ encoded_bits lengths (t ∷ ts) ++ left → (s ≡ t) × (encoded_bits lengths ss ++ after ≡ encoded_bits lengths ts ++ left)
 text_once lengths s t ss ts after left whole a b same =
-    code_once lengths s t (text_bits lengths ss ++ after) (text_bits lengths ts ++ left) whole a b
-    (sym (append_assoc (code_bits lengths s) (text_bits lengths ss) after) ∙ same ∙ append_assoc (code_bits lengths t) (text_bits lengths ts) left)
+    code_once lengths s t (encoded_bits lengths ss ++ after) (encoded_bits lengths ts ++ left) whole a b
+    (sym (append_assoc (code_bits lengths s) (encoded_bits lengths ss) after) ∙ same ∙ append_assoc (code_bits lengths t) (encoded_bits lengths ts) left)
 
 -- one more symbol has its code's bits behind the others
-pub text_push : (lengths symbols : List ℕ) (s : ℕ) → text_bits lengths (symbols ++ s ∷ []) ≡ text_bits lengths symbols ++ code_bits lengths s
-text_push lengths symbols s = flat_map-append (code_bits lengths) symbols (s ∷ []) ∙ ap (λ us. text_bits lengths symbols ++ us) (append-nil (code_bits lengths s))
+pub text_push : (lengths symbols : List ℕ) (s : ℕ) → encoded_bits lengths (symbols ++ s ∷ []) ≡ encoded_bits lengths symbols ++ code_bits lengths s
+text_push lengths symbols s = flat_map-append (code_bits lengths) symbols (s ∷ []) ∙ ap (λ us. encoded_bits lengths symbols ++ us) (append-nil (code_bits lengths s))
 
-pub text_more : (lengths symbols : List ℕ) (i : ℕ) → i < length symbols → text_bits lengths (take (i + 1) symbols) ≡ text_bits lengths (take i symbols) ++ code_bits lengths (get_or symbols i 0)
-text_more lengths symbols i h = ap (text_bits lengths) (take_more symbols i 0 h) ∙ text_push lengths (take i symbols) (get_or symbols i 0)
+pub text_more : (lengths symbols : List ℕ) (i : ℕ) → i < length symbols → encoded_bits lengths (take (i + 1) symbols) ≡ encoded_bits lengths (take i symbols) ++ code_bits lengths (get_or symbols i 0)
+text_more lengths symbols i h = ap (encoded_bits lengths) (take_more symbols i 0 h) ∙ text_push lengths (take i symbols) (get_or symbols i 0)
 
-pub long_more : (lengths symbols : List ℕ) (i : ℕ) → i < length symbols → length (text_bits lengths (take (i + 1) symbols)) ≡ length (text_bits lengths (take i symbols)) + get_or lengths (get_or symbols i 0) 0
+pub long_more : (lengths symbols : List ℕ) (i : ℕ) → i < length symbols → length (encoded_bits lengths (take (i + 1) symbols)) ≡ length (encoded_bits lengths (take i symbols)) + get_or lengths (get_or symbols i 0) 0
 long_more lengths symbols i h =
     ap length (text_more lengths symbols i h)
-    ∙ length-append (text_bits lengths (take i symbols)) (code_bits lengths (get_or symbols i 0))
-    ∙ ap (λ n. length (text_bits lengths (take i symbols)) + n) (code_long lengths (get_or symbols i 0))
+    ∙ length-append (encoded_bits lengths (take i symbols)) (code_bits lengths (get_or symbols i 0))
+    ∙ ap (λ n. length (encoded_bits lengths (take i symbols)) + n) (code_long lengths (get_or symbols i 0))
 
 -- the first of some symbols have no more bits than all
-pub text_part : (lengths symbols : List ℕ) (n : ℕ) → length (text_bits lengths (take n symbols)) ≤ length (text_bits lengths symbols)
+pub text_part : (lengths symbols : List ℕ) (n : ℕ) → length (encoded_bits lengths (take n symbols)) ≤ length (encoded_bits lengths symbols)
 text_part lengths symbols n =
-    let both : text_bits lengths symbols ≡ text_bits lengths (take n symbols) ++ text_bits lengths (drop n symbols) =
-    ap (text_bits lengths) (sym (take-append-drop n symbols)) ∙ flat_map-append (code_bits lengths) (take n symbols) (drop n symbols) in
-    omega (arith, ap length both, length-append (text_bits lengths (take n symbols)) (text_bits lengths (drop n symbols)))
+    let both : encoded_bits lengths symbols ≡ encoded_bits lengths (take n symbols) ++ encoded_bits lengths (drop n symbols) =
+    ap (encoded_bits lengths) (sym (take-append-drop n symbols)) ∙ flat_map-append (code_bits lengths) (take n symbols) (drop n symbols) in
+    omega (arith, ap length both, length-append (encoded_bits lengths (take n symbols)) (encoded_bits lengths (drop n symbols)))
 
-pub text_all : (lengths symbols : List ℕ) → text_bits lengths (take (length symbols) symbols) ≡ text_bits lengths symbols
-text_all lengths symbols = ap (text_bits lengths) (take_all (length symbols) symbols (omega arith))
+pub text_all : (lengths symbols : List ℕ) → encoded_bits lengths (take (length symbols) symbols) ≡ encoded_bits lengths symbols
+text_all lengths symbols = ap (encoded_bits lengths) (take_all (length symbols) symbols (omega arith))
 
 -- the symbols from a place on have the bits of the one there, and then those of the others
-pub text_left : (lengths symbols : List ℕ) (k : ℕ) → k < length symbols → length (text_bits lengths (drop k symbols)) ≡ get_or lengths (get_or symbols k 0) 0 + length (text_bits lengths (drop (k + 1) symbols))
+pub text_left : (lengths symbols : List ℕ) (k : ℕ) → k < length symbols → length (encoded_bits lengths (drop k symbols)) ≡ get_or lengths (get_or symbols k 0) 0 + length (encoded_bits lengths (drop (k + 1) symbols))
 text_left lengths symbols k h =
     let s = get_or symbols k 0 in
-    ap (λ us. length (text_bits lengths us)) (drop-cons symbols k 0 h ∙ ap (λ n. s ∷ drop n symbols) (sym (add-one k)))
-    ∙ length-append (code_bits lengths s) (text_bits lengths (drop (k + 1) symbols))
-    ∙ ap (λ n. n + length (text_bits lengths (drop (k + 1) symbols))) (code_long lengths s)
+    ap (λ us. length (encoded_bits lengths us)) (drop-cons symbols k 0 h ∙ ap (λ n. s ∷ drop n symbols) (sym (add-one k)))
+    ∙ length-append (code_bits lengths s) (encoded_bits lengths (drop (k + 1) symbols))
+    ∙ ap (λ n. n + length (encoded_bits lengths (drop (k + 1) symbols))) (code_long lengths s)
 
 -- Symbols stand in the first `k` places of a list, and all other places are as they were. The symbols' bits are those that
 -- stood before what is left: as many as there are between two places.
 pub record AreRead (lengths was out : List ℕ) (k : ℕ) (old left : List Bool) (before now : ℕ) : Type 0 where
   pub size : length out ≡ length was
   pub codes : All (HasCode lengths) (take k out)
-  pub bits : old ≡ text_bits lengths (take k out) ++ left
-  pub moved : left ≡ drop (length (text_bits lengths (take k out))) old
-  pub place : now ≡ before + length (text_bits lengths (take k out))
+  pub bits : old ≡ encoded_bits lengths (take k out) ++ left
+  pub moved : left ≡ drop (length (encoded_bits lengths (take k out))) old
+  pub place : now ≡ before + length (encoded_bits lengths (take k out))
   pub others : drop k out ≡ drop k was
 
 -- one symbol more is read into place k
@@ -76,14 +76,14 @@ pub read_next : {lengths was out : List ℕ} {k : ℕ} {old mid : List Bool} {be
     → (s : ℕ) (left : List Bool) (next : ℕ) → k < length out → HasCode lengths s → mid ≡ code_bits lengths s ++ left → next ≡ now + get_or lengths s 0 → AreRead lengths was (slice_set out k s) (k + 1) old left before next
 read_next {lengths} {was} {out} {k} {old} {mid} are s left next inside some then place =
     let on : k + 1 ≡ suc k = omega arith in
-    let one : text_bits lengths (take (k + 1) (slice_set out k s)) ≡ text_bits lengths (take k out) ++ code_bits lengths s =
-    ap (text_bits lengths) (take_more_set out k s inside) ∙ text_push lengths (take k out) s in
-    let long : length (text_bits lengths (take (k + 1) (slice_set out k s))) ≡ length (text_bits lengths (take k out)) + get_or lengths s 0 =
-    ap length one ∙ length-append (text_bits lengths (take k out)) (code_bits lengths s) ∙ ap (λ n. length (text_bits lengths (take k out)) + n) (code_long lengths s) in
-    let text = text_bits lengths (take (k + 1) (slice_set out k s)) in
+    let one : encoded_bits lengths (take (k + 1) (slice_set out k s)) ≡ encoded_bits lengths (take k out) ++ code_bits lengths s =
+    ap (encoded_bits lengths) (take_more_set out k s inside) ∙ text_push lengths (take k out) s in
+    let long : length (encoded_bits lengths (take (k + 1) (slice_set out k s))) ≡ length (encoded_bits lengths (take k out)) + get_or lengths s 0 =
+    ap length one ∙ length-append (encoded_bits lengths (take k out)) (code_bits lengths s) ∙ ap (λ n. length (encoded_bits lengths (take k out)) + n) (code_long lengths s) in
+    let text = encoded_bits lengths (take (k + 1) (slice_set out k s)) in
     let shown : old ≡ text ++ left =
-    are.bits ∙ ap (λ us. text_bits lengths (take k out) ++ us) then
-    ∙ sym (append_assoc (text_bits lengths (take k out)) (code_bits lengths s) left)
+    are.bits ∙ ap (λ us. encoded_bits lengths (take k out) ++ us) then
+    ∙ sym (append_assoc (encoded_bits lengths (take k out)) (code_bits lengths s) left)
     ∙ ap (λ us. us ++ left) (sym one) in
     record {
       size = length-set out k s ∙ are.size;
@@ -111,14 +111,14 @@ one_text lengths (s ∷ ss) (t ∷ ts) after left whole a b many same =
 -- A text is read whole: symbols that were read of it are all of it, where as many were asked for, or where what is left
 -- begins with no code.
 pub whole_text : (lengths one other : List ℕ) (left : List Bool) → IsComplete lengths → All (HasCode lengths) one → All (HasCode lengths) other
-    → (length one ≤ length other) ⊎ ((s : ℕ) → ¬ BeginsWithSymbol lengths left s) → text_bits lengths one ++ [] ≡ text_bits lengths other ++ left → one ≡ other
+    → (length one ≤ length other) ⊎ ((s : ℕ) → ¬ BeginsWithSymbol lengths left s) → encoded_bits lengths one ++ [] ≡ encoded_bits lengths other ++ left → one ≡ other
 whole_text lengths [] [] left whole a b ended same = refl
 whole_text lengths [] (t ∷ ts) left whole a b ended same =
     let some = All-head (HasCode lengths) t ts b in
-    absurd (omega (arith, some, code_long lengths t, length-append (code_bits lengths t) (text_bits lengths ts), length-append (text_bits lengths (t ∷ ts)) left, ap length same))
+    absurd (omega (arith, some, code_long lengths t, length-append (code_bits lengths t) (encoded_bits lengths ts), length-append (encoded_bits lengths (t ∷ ts)) left, ap length same))
 whole_text lengths (s ∷ ss) [] left whole a b ended same = elim ended [
   | inl enough ↦ absurd (omega (arith, enough))
-  | inr none ↦ absurd (none s (code_first lengths s left (text_bits lengths ss ++ []) (All-head (HasCode lengths) s ss a) (sym same ∙ append_assoc (code_bits lengths s) (text_bits lengths ss) [])))
+  | inr none ↦ absurd (none s (code_first lengths s left (encoded_bits lengths ss ++ []) (All-head (HasCode lengths) s ss a) (sym same ∙ append_assoc (code_bits lengths s) (encoded_bits lengths ss) [])))
 ]
 whole_text lengths (s ∷ ss) (t ∷ ts) left whole a b ended same =
     let first = text_once lengths s t ss ts [] left whole (All-head (HasCode lengths) s ss a) (All-head (HasCode lengths) t ts b) same in
@@ -128,10 +128,10 @@ whole_text lengths (s ∷ ss) (t ∷ ts) left whole a b ended same =
 
 -- the same of symbols at the front of a list with `many` places
 pub read_back : (lengths symbols out : List ℕ) (many count : ℕ) (text left : List Bool) → IsComplete lengths → All (HasCode lengths) symbols → All (HasCode lengths) (take count out)
-    → length out ≡ many → count ≤ many → length symbols ≤ many → (count ≡ many) ⊎ ((s : ℕ) → ¬ BeginsWithSymbol lengths left s) → text ≡ text_bits lengths symbols → text ≡ text_bits lengths (take count out) ++ left
+    → length out ≡ many → count ≤ many → length symbols ≤ many → (count ≡ many) ⊎ ((s : ℕ) → ¬ BeginsWithSymbol lengths left s) → text ≡ encoded_bits lengths symbols → text ≡ encoded_bits lengths (take count out) ++ left
     → (count ≡ length symbols) × (take count out ≡ symbols)
 read_back lengths symbols out many count text left whole a b size few enough ended is read =
     let long : length (take count out) ≡ count = length-take-le count out (omega (arith, size, few)) in
     let all : (length symbols ≤ length (take count out)) ⊎ ((s : ℕ) → ¬ BeginsWithSymbol lengths left s) = elim ended [ inl full ↦ inl (omega (arith, long, full, enough)) | inr none ↦ inr none ] in
-    let same = whole_text lengths symbols (take count out) left whole a b all (append-nil (text_bits lengths symbols) ∙ sym is ∙ read) in
+    let same = whole_text lengths symbols (take count out) left whole a b all (append-nil (encoded_bits lengths symbols) ∙ sym is ∙ read) in
     (omega (arith, long, ap length same), sym same)

@@ -5,7 +5,7 @@ use Rattle.bitvec.proofs.BecomesLemmas.{becomes}
 use Rattle.bitvec_stream.specs.Writer.{target_span, target_words, target_bits, bits_written, written, room, Writes}
 use Rattle.bitvec_stream.specs.declared.writer.BitWriter.{BitWriter}
 use Rattle.bitvec_stream.proofs.WriterLemmas.{writes-both, writes-as}
-use Rattle.example_huffman_text.specs.Text.{code_bits, text_bits}
+use Rattle.example_huffman_text.specs.Text.{code_bits, encoded_bits}
 use Rattle.example_huffman_text.proofs.TextLemmas.{text_more, text_left, text_all}
 use Rattle.example_huffman_text.proofs.SymbolLemmas.{code_long}
 
@@ -20,14 +20,14 @@ writes-none {a = own} {i = order} writer =
     )
 
 -- the room for the symbols behind one, once its code was written
-room_next : (lengths symbols : List ℕ) (k : ℕ) (old new : List Bool) → k < length symbols → length (text_bits lengths (drop k symbols)) ≤ length old → new ≡ drop (length (code_bits lengths (get_or symbols k 0))) old → length (text_bits lengths (drop (k + 1) symbols)) ≤ length new
+room_next : (lengths symbols : List ℕ) (k : ℕ) (old new : List Bool) → k < length symbols → length (encoded_bits lengths (drop k symbols)) ≤ length old → new ≡ drop (length (code_bits lengths (get_or symbols k 0))) old → length (encoded_bits lengths (drop (k + 1) symbols)) ≤ length new
 room_next lengths symbols k old new inside enough is =
     let s = get_or symbols k 0 in
     omega (arith, enough, text_left lengths symbols k inside, code_long lengths s, ap length is, length-drop (length (code_bits lengths s)) old)
 
 pub writes-next : {R O : Type 0} {a b c d e f g h i : _} → (old mid new : BitWriter R O a b c d e f g h i) (lengths symbols : List ℕ) (k : ℕ) → k < length symbols
-    → Writes old mid (text_bits lengths (take k symbols)) × (length (text_bits lengths (drop k symbols)) ≤ length (room mid)) → Writes mid new (code_bits lengths (get_or symbols k 0))
-    → Writes old new (text_bits lengths (take (k + 1) symbols)) × (length (text_bits lengths (drop (k + 1) symbols)) ≤ length (room new))
+    → Writes old mid (encoded_bits lengths (take k symbols)) × (length (encoded_bits lengths (drop k symbols)) ≤ length (room mid)) → Writes mid new (code_bits lengths (get_or symbols k 0))
+    → Writes old new (encoded_bits lengths (take (k + 1) symbols)) × (length (encoded_bits lengths (drop (k + 1) symbols)) ≤ length (room new))
 writes-next old mid new lengths symbols k inside before wrote = (
   writes-as old new _ _ (sym (text_more lengths symbols k inside)) (writes-both old mid new _ _ before.0 wrote),
   room_next lengths symbols k (room mid) (room new) inside before.1 wrote.1,

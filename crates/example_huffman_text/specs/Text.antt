@@ -15,12 +15,12 @@ pub record BeginsWithSymbol (lengths : List ℕ) (xs : List Bool) (symbol : ℕ)
   pub bits : StartsWith xs (code_bits lengths symbol)
 
 -- the bits of symbols, one code behind the other
-abbrev pub text_bits : List ℕ → List ℕ → List Bool
-text_bits lengths symbols = flat_map (code_bits lengths) symbols
+abbrev pub encoded_bits : List ℕ → List ℕ → List Bool
+encoded_bits lengths symbols = flat_map (code_bits lengths) symbols
 
 -- a list is the text of some symbols, which have codes
 abbrev pub IsText : List ℕ → List ℕ → List Bool → Type 0
-IsText lengths symbols xs = All (HasCode lengths) symbols × (xs ≡ text_bits lengths symbols)
+IsText lengths symbols xs = All (HasCode lengths) symbols × (xs ≡ encoded_bits lengths symbols)
 
 -- symbols are the first `count` of a list
 abbrev pub AreFirst : List ℕ → List ℕ → ℕ → Type 0
@@ -28,10 +28,10 @@ AreFirst symbols out count = (count ≡ length symbols) × (take count out ≡ s
 
 -- symbols have codes, and there is room for the bits of these
 abbrev pub CanBeEncoded : List ℕ → List ℕ → ℕ → Type 0
-CanBeEncoded lengths symbols room = All (HasCode lengths) symbols × (length (text_bits lengths symbols) ≤ room)
+CanBeEncoded lengths symbols room = All (HasCode lengths) symbols × (length (encoded_bits lengths symbols) ≤ room)
 
 -- Bits begin with one text of so many symbols and no other, and what stands behind it is known: what was written is read.
 abbrev pub OneText : Type 0
 OneText =
     (lengths one other : List ℕ) (after left : List Bool) → IsComplete lengths → All (HasCode lengths) one → All (HasCode lengths) other
-    → length one ≡ length other → text_bits lengths one ++ after ≡ text_bits lengths other ++ left → (one ≡ other) × (after ≡ left)
+    → length one ≡ length other → encoded_bits lengths one ++ after ≡ encoded_bits lengths other ++ left → (one ≡ other) × (after ≡ left)

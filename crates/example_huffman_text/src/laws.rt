@@ -7,7 +7,7 @@ ghost use Rattle.bitvec_slice.specs.BitSlice.{slice_bits};
 ghost use Rattle.bitvec_stream.specs.Writer.{room, Writes};
 ghost use Rattle.example_huffman.specs.Codes.{HasCode};
 ghost use Rattle.example_huffman.specs.Huffman.{lengths_of};
-ghost use Rattle.example_huffman_text.specs.Text.{text_bits, IsText, AreFirst, OneText};
+ghost use Rattle.example_huffman_text.specs.Text.{encoded_bits, IsText, AreFirst, OneText};
 ghost use Rattle.example_huffman_text.specs.Text.{CanBeEncoded};
 
 use crate::error::EncodeError;
@@ -55,7 +55,7 @@ pub fn there_and_back<R: BitRegister, O: BitOrder<R>>(
     ensures value { IfOk result (AreFirst symbols.now back.new) }
     ensures others { IfOk result (λ count. drop count back.new ≡ drop count back.old) }
     ensures written { IfOk result
-        (λ _. Writes writer.old writer.new (text_bits (lengths_of code.now) symbols.now)) }
+        (λ _. Writes writer.old writer.new (encoded_bits (lengths_of code.now) symbols.now)) }
     ensures refused { IfErr result (λ _. (writer.new ≡ writer.old) × (back.new ≡ back.old)) }
 {
     let before = writer.position();

@@ -7,7 +7,7 @@ ghost use Rattle.bitvec_stream.specs.Reader.{unread, Passes};
 ghost use Rattle.bitvec_stream.specs.Writer.{room, Writes};
 ghost use Rattle.example_huffman.specs.Codes.{HasCode};
 ghost use Rattle.example_huffman.specs.Huffman.{lengths_of};
-ghost use Rattle.example_huffman_text.specs.Text.{text_bits, BeginsWithSymbol, CanBeEncoded};
+ghost use Rattle.example_huffman_text.specs.Text.{encoded_bits, BeginsWithSymbol, CanBeEncoded};
 
 use crate::error::EncodeError;
 use crate::symbol::{next_symbol, put_symbol};
@@ -24,7 +24,7 @@ fn have_codes(code: &Code<'_>, symbols: &[usize]) -> bool
 // Whether the codes of symbols have at most `room` bits together.
 #[tactic(auto, using(crate::proofs::TextLemmas::sizes))]
 fn fits(code: &Code<'_>, symbols: &[usize], room: usize) -> bool
-    ensures { IsTrue result ↔ (length (text_bits (lengths_of code.now) symbols.now) ≤ room) }
+    ensures { IsTrue result ↔ (length (encoded_bits (lengths_of code.now) symbols.now) ≤ room) }
 {
     let mut left = room;
     for place in 0..symbols.len() {
@@ -45,9 +45,9 @@ fn put_symbols<R: BitRegister, O: BitOrder<R>>(
     writer: &mut BitWriter<'_, R, O>,
 )
     requires codes { All (HasCode (lengths_of code.now)) symbols.now }
-    requires inside { length (text_bits (lengths_of code.now) symbols.now)
+    requires inside { length (encoded_bits (lengths_of code.now) symbols.now)
         ≤ length (room writer.old) }
-    ensures { Writes writer.old writer.new (text_bits (lengths_of code.now) symbols.now) }
+    ensures { Writes writer.old writer.new (encoded_bits (lengths_of code.now) symbols.now) }
 {
     for place in 0..symbols.len() {
         put_symbol(code, symbols[place], writer).unwrap();
@@ -81,7 +81,7 @@ pub fn encode<R: BitRegister, O: BitOrder<R>>(
     ensures no_code { (result ≡ Err EncodeError.NoCode)
         ↔ ¬ All (HasCode (lengths_of code.now)) symbols.now }
     ensures written { MatchResult result
-        (λ _. Writes writer.old writer.new (text_bits (lengths_of code.now) symbols.now))
+        (λ _. Writes writer.old writer.new (encoded_bits (lengths_of code.now) symbols.now))
         (λ _. writer.new ≡ writer.old) }
 {
     if !have_codes(code, symbols) {
@@ -120,9 +120,9 @@ pub fn decode_into<R: BitRegister, O: BitOrder<R>>(
     ensures few { result ≤ length out.old }
     ensures codes { All (HasCode (lengths_of code.now)) (take result out.new) }
     ensures bits { unread reader.old
-        ≡ text_bits (lengths_of code.now) (take result out.new) ++ unread reader.new }
+        ≡ encoded_bits (lengths_of code.now) (take result out.new) ++ unread reader.new }
     ensures moved { Passes reader.old reader.new
-        (length (text_bits (lengths_of code.now) (take result out.new))) }
+        (length (encoded_bits (lengths_of code.now) (take result out.new))) }
     ensures others { drop result out.new ≡ drop result out.old }
     ensures ended { (result ≡ length out.old)
         ⊎ ((symbol : ℕ) → ¬ BeginsWithSymbol (lengths_of code.now) (unread reader.new) symbol) }

@@ -23,8 +23,8 @@ abbrev pub free_count : {R O : Type 0} {a b c d e f g h i : _} → Pages R O a b
 free_count pages = zeros_in (used pages)
 
 -- there are `count` pages from page `at` on, and each is in use
-abbrev pub AreInUse : List Bool → ℕ → ℕ → Type 0
-AreInUse used at count = (at + count ≤ length used) × AllBetween true used at (at + count)
+abbrev pub ArePagesInUse : List Bool → ℕ → ℕ → Type 0
+ArePagesInUse used at count = (at + count ≤ length used) × AllBetween true used at (at + count)
 
 -- the pages become those of a list, and every other bit of the words stays
 abbrev pub BecomesPages : {R O : Type 0} {a b c d e f g h i : _} → (old new : Pages R O a b c d e f g h i) → List Bool → Type 0

@@ -20,7 +20,7 @@ pub struct Pages<'a, R: BitRegister, O: BitOrder<R>> {
 
 impl<'a, R: BitRegister, O: BitOrder<R>> Pages<'a, R, O> {
     ghost use Rattle.example_pages.specs.Pages.{pages_memory, pages_span, used, free_count};
-    ghost use Rattle.example_pages.specs.Pages.{AreInUse, BecomesPages};
+    ghost use Rattle.example_pages.specs.Pages.{ArePagesInUse, BecomesPages};
 
     /// The pages of a store whose map is in the first bits of some words. It gives the words back
     /// where they have no bit for each page.
@@ -58,7 +58,7 @@ impl<'a, R: BitRegister, O: BitOrder<R>> Pages<'a, R, O> {
 
     /// Whether there are `count` pages from page `at` on, and each is in use.
     pub fn are_in_use(&self, at: usize, count: usize) -> bool
-        ensures { IsTrue result ↔ AreInUse (used self.now) at count }
+        ensures { IsTrue result ↔ ArePagesInUse (used self.now) at count }
     {
         at <= self.len() && count <= self.len() - at && self.bits.all_in(at, at + count)
     }
@@ -71,7 +71,7 @@ impl<'a, R: BitRegister, O: BitOrder<R>> Pages<'a, R, O> {
         ensures whole { MatchOption result (self.new ≡ self.old)
             (λ at. BecomesPages self.old self.new (slice_set (used self.old) at true)) }
         ensures free { IfSome result (λ at. AreFree (used self.old) at 1) }
-        ensures taken { IfSome result (λ at. AreInUse (used self.new) at 1) }
+        ensures taken { IfSome result (λ at. ArePagesInUse (used self.new) at 1) }
         ensures others { IfSome result (λ at. KeepsBeside at (at + 1) (used self.old)
             (used self.new)) }
         ensures counted { MatchOption result (free_count self.old ≡ 0)
@@ -90,7 +90,7 @@ impl<'a, R: BitRegister, O: BitOrder<R>> Pages<'a, R, O> {
             (λ at. BecomesPages self.old self.new
             (with_filled (used self.old) at (at + count) true)) }
         ensures free { IfSome result (λ at. AreFree (used self.old) at count) }
-        ensures taken { IfSome result (λ at. AreInUse (used self.new) at count) }
+        ensures taken { IfSome result (λ at. ArePagesInUse (used self.new) at count) }
         ensures others { IfSome result (λ at. KeepsBeside at (at + count) (used self.old)
             (used self.new)) }
         ensures counted { IfSome result (λ _. free_count self.new + count
@@ -105,7 +105,7 @@ impl<'a, R: BitRegister, O: BitOrder<R>> Pages<'a, R, O> {
     /// is in use: [`are_in_use`](Pages::are_in_use) is the test.
     #[tactic(auto, using(bitvec_slice::proofs::OneCountLemmas::counts))]
     pub fn free(&mut self, at: usize, count: usize)
-        requires { AreInUse (used self.old) at count }
+        requires { ArePagesInUse (used self.old) at count }
         ensures whole { BecomesPages self.old self.new
             (with_filled (used self.old) at (at + count) false) }
         ensures free { AreFree (used self.new) at count }

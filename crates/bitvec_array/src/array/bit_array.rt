@@ -5,7 +5,7 @@ ghost use Rattle.std.specs.Prelude.{replicate};
 ghost use Rattle.bitvec.specs.BitSpan.{span_of};
 ghost use Rattle.bitvec.specs.Place.{region_max_bits};
 ghost use Rattle.bitvec.specs.Span.{Fits, element, front_span};
-ghost use Rattle.bitvec_array.specs.Array.{array_len, bits_in};
+ghost use Rattle.bitvec_array.specs.Array.{array_len, bits_in_words};
 ghost use types.Logic.{sem};
 
 use bitvec::order::BitOrder;
@@ -87,7 +87,7 @@ impl<O: BitOrder<usize>, const N: usize> BitArray<O, N> {
     /// The bits of some words, in order, by a copy of the words.
     /// [`from_words`](BitArray::from_words) is the same, by the name that vectors have for it.
     pub fn new(words: [usize; N]) -> Self
-        ensures { array_bits result ≡ bits_in O.at_of N words.entry }
+        ensures { array_bits result ≡ bits_in_words O.at_of N words.entry }
     {
         BitArray {
             words,
@@ -105,7 +105,7 @@ impl<O: BitOrder<usize>, const N: usize> BitArray<O, N> {
     /// assert_eq!(rt; bits.get(63), Some(true));
     /// ```
     pub fn from_words(words: [usize; N]) -> Self
-        ensures { array_bits result ≡ bits_in O.at_of N words.entry }
+        ensures { array_bits result ≡ bits_in_words O.at_of N words.entry }
     {
         Self::new(words)
     }
@@ -113,7 +113,7 @@ impl<O: BitOrder<usize>, const N: usize> BitArray<O, N> {
     /// The words that the bits lie in, by a copy. The Rust crate's `into_inner`.
     pub fn into_words(self) -> [usize; N]
         ensures words { length result ≡ N }
-        ensures bits { bits_in O.at_of N result ≡ array_bits self }
+        ensures bits { bits_in_words O.at_of N result ≡ array_bits self }
     {
         self.words
     }

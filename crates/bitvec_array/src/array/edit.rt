@@ -6,7 +6,7 @@ ghost use Rattle.bitvec.specs.Memory.{list_with_copy};
 ghost use Rattle.bitvec.specs.Span.{element, with_filled};
 ghost use Rattle.bitvec_slice.specs.BitSlice.{slice_len, slice_bits};
 ghost use Rattle.bitvec_slice.specs.Ranges.{with_range};
-ghost use Rattle.bitvec_array.specs.Array.{array_len, bits_in};
+ghost use Rattle.bitvec_array.specs.Array.{array_len, bits_in_words};
 
 use crate::array::BitArray;
 use crate::array::bit_array::span_of_all;
@@ -110,7 +110,7 @@ fn put_slice<O: BitOrder<usize>, const N: usize, R2: BitRegister, O2: BitOrder<R
 )
     requires many { length words.old ≡ N }
     requires inside { from + slice_len source ≤ array_len N }
-    ensures { bits_in O.at_of N words.new ≡ with_range (bits_in O.at_of N words.old) from
+    ensures { bits_in_words O.at_of N words.new ≡ with_range (bits_in_words O.at_of N words.old) from
         (from + slice_len source.entry) (slice_bits source.entry) }
 {
     let mut bits = BitSliceMut::new_unchecked(span_of_all::<O, N>(), words);

@@ -4,7 +4,7 @@ ghost use Rattle.std.specs.Prelude.{◌≡◌, ◌+◌, ◌-◌, ◌≤◌, leng
 ghost use Rattle.bitvec.specs.Memory.{zip_with, list_with};
 ghost use Rattle.bitvec_slice.specs.BitSlice.{slice_len, slice_bits};
 ghost use Rattle.bitvec_slice.specs.Ranges.{with_range};
-ghost use Rattle.bitvec_array.specs.Array.{array_len, bits_in};
+ghost use Rattle.bitvec_array.specs.Array.{array_len, bits_in_words};
 
 use crate::array::BitArray;
 use crate::array::bit_array::span_of_all;
@@ -117,7 +117,7 @@ fn reverse_part<O: BitOrder<usize>, const N: usize>(words: &mut [usize], from: u
     requires many { length words.old ≡ N }
     requires ordered { from ≤ to }
     requires inside { to ≤ array_len N }
-    ensures { let xs = bits_in O.at_of N words.old in bits_in O.at_of N words.new
+    ensures { let xs = bits_in_words O.at_of N words.old in bits_in_words O.at_of N words.new
         ≡ with_range xs from to (reverse (slice_range xs from to)) }
 {
     let mut bits = BitSliceMut::<usize, O>::new_unchecked(span_of_all::<O, N>(), words);
@@ -132,8 +132,8 @@ fn combine_part<C: Combine, O: BitOrder<usize>, const N: usize, R2: BitRegister,
 )
     requires many { length words.old ≡ N }
     requires inside { from + slice_len source ≤ array_len N }
-    ensures { let xs = bits_in O.at_of N words.old in let to = from + slice_len source.entry
-        in bits_in O.at_of N words.new
+    ensures { let xs = bits_in_words O.at_of N words.old in let to = from + slice_len source.entry
+        in bits_in_words O.at_of N words.new
         ≡ with_range xs from to (zip_with C.of (slice_range xs from to) (slice_bits source.entry)) }
 {
     let mut bits = BitSliceMut::new_unchecked(span_of_all::<O, N>(), words);

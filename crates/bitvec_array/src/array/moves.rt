@@ -4,7 +4,7 @@ ghost use Rattle.std.specs.Prelude.{◌≡◌, ◌≤◌, ◌-◌, ◌%◌, ◌^
 ghost use Rattle.std.specs.Prelude.{replicate, reverse, slice_range};
 ghost use Rattle.bitvec_slice.specs.Numbers.{number_le, number_be, digits_le, digits_be};
 ghost use Rattle.bitvec_slice.specs.Ranges.{with_range};
-ghost use Rattle.bitvec_array.specs.Array.{array_len, bits_in};
+ghost use Rattle.bitvec_array.specs.Array.{array_len, bits_in_words};
 
 use crate::array::BitArray;
 use crate::array::bit_array::span_of_all;
@@ -15,7 +15,7 @@ use bitvec_slice::slice::BitSliceMut;
 // Puts the bits of `N` words in the opposite order.
 fn reverse_all<O: BitOrder<usize>, const N: usize>(words: &mut [usize])
     requires { length words.old ≡ N }
-    ensures { let bits = bits_in O.at_of N in bits words.new ≡ reverse (bits words.old) }
+    ensures { let bits = bits_in_words O.at_of N in bits words.new ≡ reverse (bits words.old) }
 {
     let mut bits = BitSliceMut::<usize, O>::new_unchecked(span_of_all::<O, N>(), words);
     bits.reverse();
@@ -25,7 +25,7 @@ fn reverse_all<O: BitOrder<usize>, const N: usize>(words: &mut [usize])
 fn rotate_all<O: BitOrder<usize>, const N: usize>(words: &mut [usize], by: usize)
     requires many { length words.old ≡ N }
     requires inside { by ≤ array_len N }
-    ensures { let bits = bits_in O.at_of N
+    ensures { let bits = bits_in_words O.at_of N
         in bits words.new ≡ drop by (bits words.old) ++ take by (bits words.old) }
 {
     let mut bits = BitSliceMut::<usize, O>::new_unchecked(span_of_all::<O, N>(), words);
@@ -36,7 +36,7 @@ fn rotate_all<O: BitOrder<usize>, const N: usize>(words: &mut [usize], by: usize
 fn shift_all_left<O: BitOrder<usize>, const N: usize>(words: &mut [usize], by: usize)
     requires many { length words.old ≡ N }
     requires inside { by ≤ array_len N }
-    ensures { let bits = bits_in O.at_of N
+    ensures { let bits = bits_in_words O.at_of N
         in bits words.new ≡ drop by (bits words.old) ++ replicate by false }
 {
     let mut bits = BitSliceMut::<usize, O>::new_unchecked(span_of_all::<O, N>(), words);
@@ -47,7 +47,7 @@ fn shift_all_left<O: BitOrder<usize>, const N: usize>(words: &mut [usize], by: u
 fn shift_all_right<O: BitOrder<usize>, const N: usize>(words: &mut [usize], by: usize)
     requires many { length words.old ≡ N }
     requires inside { by ≤ array_len N }
-    ensures { let bits = bits_in O.at_of N in let xs = bits words.old
+    ensures { let bits = bits_in_words O.at_of N in let xs = bits words.old
         in bits words.new ≡ replicate by false ++ take (length xs - by) xs }
 {
     let mut bits = BitSliceMut::<usize, O>::new_unchecked(span_of_all::<O, N>(), words);
@@ -65,9 +65,9 @@ fn store_all_le<O: BitOrder<usize>, const N: usize, D: BitRegister>(
     requires ordered { from ≤ to }
     requires inside { to ≤ array_len N }
     requires small { to - from ≤ D.BITS }
-    ensures bits { let bits = bits_in O.at_of N in bits words.new
+    ensures bits { let bits = bits_in_words O.at_of N in bits words.new
         ≡ with_range (bits words.old) from to (digits_le (to - from) (D.number value)) }
-    ensures loaded { number_le (slice_range (bits_in O.at_of N words.new) from to)
+    ensures loaded { number_le (slice_range (bits_in_words O.at_of N words.new) from to)
         ≡ D.number value % 2 ^ (to - from) }
 {
     let mut bits = BitSliceMut::<usize, O>::new_unchecked(span_of_all::<O, N>(), words);
@@ -85,9 +85,9 @@ fn store_all_be<O: BitOrder<usize>, const N: usize, D: BitRegister>(
     requires ordered { from ≤ to }
     requires inside { to ≤ array_len N }
     requires small { to - from ≤ D.BITS }
-    ensures bits { let bits = bits_in O.at_of N in bits words.new
+    ensures bits { let bits = bits_in_words O.at_of N in bits words.new
         ≡ with_range (bits words.old) from to (digits_be (to - from) (D.number value)) }
-    ensures loaded { number_be (slice_range (bits_in O.at_of N words.new) from to)
+    ensures loaded { number_be (slice_range (bits_in_words O.at_of N words.new) from to)
         ≡ D.number value % 2 ^ (to - from) }
 {
     let mut bits = BitSliceMut::<usize, O>::new_unchecked(span_of_all::<O, N>(), words);

@@ -4,7 +4,7 @@ ghost use Rattle.std.specs.Prelude.{◌≡◌, ◌&&◌, ◌||◌, not, map, len
 ghost use Rattle.bitvec.specs.Digit.{exclusive_or};
 ghost use Rattle.bitvec.specs.Memory.{zip_with};
 ghost use Rattle.bitvec_slice.specs.BitSlice.{slice_len, slice_bits};
-ghost use Rattle.bitvec_array.specs.Array.{array_len, bits_in};
+ghost use Rattle.bitvec_array.specs.Array.{array_len, bits_in_words};
 
 use crate::array::BitArray;
 use crate::array::bit_array::span_of_all;
@@ -21,8 +21,8 @@ fn combine_slice<C: Combine, O: BitOrder<usize>, const N: usize, R2: BitRegister
 )
     requires many { length words.old ≡ N }
     requires same { slice_len source ≡ array_len N }
-    ensures { bits_in O.at_of N words.new
-        ≡ zip_with C.of (bits_in O.at_of N words.old) (slice_bits source.entry) }
+    ensures { bits_in_words O.at_of N words.new
+        ≡ zip_with C.of (bits_in_words O.at_of N words.old) (slice_bits source.entry) }
 {
     let mut bits = BitSliceMut::new_unchecked(span_of_all::<O, N>(), words);
     bits.combine_from::<C, R2, O2>(source);
