@@ -112,8 +112,8 @@ fn sum_of_ends(words: &[u64]) -> u64 {
 
 // Whether all bits but the first three and the last four are one, and these as before: bit by bit.
 fn is_filled(before: &[u64], after: &[u64]) -> bool {
-    for place in 0..4096 * 64 {
-        let inside = 3 <= place && place < 4096 * 64 - 4;
+    for place in 0..512 * 64 {
+        let inside = 3 <= place && place < 512 * 64 - 4;
         if bit::<u64, Lsb0>(after, place) != (inside || bit::<u64, Lsb0>(before, place)) {
             return false;
         }

@@ -17,7 +17,8 @@ fn words_of(mode: Mode) -> usize
     ensures few { result ≤ 1048576 }
 {
     match mode {
-        Mode::Compare | Mode::Time => 16384,
+        Mode::Compare => 4096,
+        Mode::Time => 16384,
         Mode::Grow(size) => size.words(),
     }
 }

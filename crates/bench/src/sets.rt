@@ -88,7 +88,7 @@ fn is_combined<C: Bits, F: Formula, F2: Formula>(
     after: &[u64],
     ends: Ends,
 ) -> bool {
-    (0..4096 * 64).all(|place| {
+    (0..512 * 64).all(|place| {
         let ours = bit::<u64, F2>(before, place);
         let wanted = if place >= ends.to && place - ends.to < ends.count {
             let theirs = bit::<u64, F>(source, ends.from.saturating_add(place - ends.to));

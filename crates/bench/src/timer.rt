@@ -47,7 +47,7 @@ impl Mode {
         ensures few { result ≤ 1048576 }
     {
         match self {
-            Mode::Compare => 4096,
+            Mode::Compare => 512,
             Mode::Time => 65536,
             Mode::Grow(size) => size.words(),
         }

@@ -104,7 +104,7 @@ pub fn is_copied<R: BitRegister, F: Formula, R2: BitRegister, F2: Formula>(
     to: usize,
     count: usize,
 ) -> bool {
-    for place in 0..4096 * usize::from(R2::BITS) {
+    for place in 0..512 * usize::from(R2::BITS) {
         let wanted = if place >= to && place - to < count {
             bit::<R, F>(source, from.saturating_add(place - to))
         } else {
