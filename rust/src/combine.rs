@@ -11,6 +11,22 @@ use core::ops::{BitAndAssign, BitOrAssign, BitXorAssign, Not};
 /// A call of the library that combines two ranges.
 type Operator<T> = fn(u8, (&[T], usize), u8, (&mut [T], usize), usize) -> Result<(), Refusal>;
 
+/// How many bits from a place on get a call of their own, so that what the next call takes 16 bytes at a
+/// time, which is all behind its first word, begins at a multiple of 16: then none of it lies in two
+/// lines of 64 bytes. None where there are fewer bits than 4 KiB have, of which that would cost more.
+#[inline]
+fn before_lines<T: Register>(words: &[T], start: usize, len: usize) -> usize {
+    if len < 1 << 15 {
+        return 0;
+    }
+    let first = start / T::BITS;
+    let ahead = words[first + 1..].as_ptr().align_offset(16);
+    if ahead == 0 || ahead >= 16 {
+        return 0;
+    }
+    (first + ahead) * T::BITS - start
+}
+
 impl<T: Register, O: Order> BitSliceMut<'_, T, O> {
     /// Makes of each bit, as far as both slices go, what an operator makes of it and of the
     /// other's: by a call of the library, or where their words differ, up to 64 at a time by `new`.
@@ -24,8 +40,14 @@ impl<T: Register, O: Order> BitSliceMut<'_, T, O> {
         let len = self.len().min(source.len());
         match T::same(&source.seen()) {
             Some(words) => {
-                let from = (words, source.place().1);
-                granted(call(O2::CODE, from, O::CODE, self.place_mut(), len));
+                let from = source.place().1;
+                let (target, to) = self.place_mut();
+                let first = before_lines(target, to, len);
+                if first > 0 {
+                    granted(call(O2::CODE, (words, from), O::CODE, (target, to), first));
+                }
+                let (from, to) = ((words, from + first), (target, to + first));
+                granted(call(O2::CODE, from, O::CODE, to, len - first));
             }
             None => self.make(len, |bits, from, count| {
                 new(bits, source.window(from, count))

@@ -413,6 +413,61 @@ fn many_words_are_copied_and_compared_from_any_places() {
     many_words::<usize, Msb0>(&mut random);
 }
 
+/// Combines ranges of some 4 KiB, whose words begin at each place of 16 bytes.
+fn many_words_are_combined<T: Word, O: Layout>(random: &mut Random) {
+    const BITS: usize = 1 << 15;
+    let words = |random: &mut Random| -> Vec<T> {
+        let words = 0..BITS / T::BITS + 40;
+        words.map(|_| T::of(random.number())).collect()
+    };
+    let (source, before) = (words(random), words(random));
+    let (read, list) = (bits_of::<T, O>(&source), bits_of::<T, O>(&before));
+    for skip in 0..17 {
+        let (from, to) = (
+            random.below(9 * T::BITS),
+            skip * T::BITS + random.below(T::BITS),
+        );
+        let len = BITS - 1 + random.below(20 * T::BITS);
+        let (mut target, mut model) = (before.clone(), list.clone());
+        let bits = BitSlice::<T, O>::new(&source, from..from + len).unwrap();
+        let mut part = BitSliceMut::<T, O>::new(&mut target, to..to + len).unwrap();
+        let operator: fn(bool, bool) -> bool = match skip % 4 {
+            0 => {
+                part &= bits;
+                |here, there| here & there
+            }
+            1 => {
+                part |= bits;
+                |here, there| here | there
+            }
+            2 => {
+                part ^= bits;
+                |here, there| here ^ there
+            }
+            _ => {
+                part.and_not_from(bits).unwrap();
+                |here, there| here && !there
+            }
+        };
+        for (bit, other) in model[to..to + len].iter_mut().zip(&read[from..]) {
+            *bit = operator(*bit, *other);
+        }
+        assert_eq!(bits_of::<T, O>(&target), model);
+    }
+}
+
+#[test]
+fn many_words_are_combined_at_any_places() {
+    let mut random = Random::new(71);
+    many_words_are_combined::<u8, Lsb0>(&mut random);
+    many_words_are_combined::<u8, Msb0>(&mut random);
+    many_words_are_combined::<u16, Msb0>(&mut random);
+    many_words_are_combined::<u32, Lsb0>(&mut random);
+    many_words_are_combined::<u64, Lsb0>(&mut random);
+    many_words_are_combined::<u64, Msb0>(&mut random);
+    many_words_are_combined::<usize, Msb0>(&mut random);
+}
+
 #[test]
 fn a_range_has_any_bounds() {
     let words = [0b1011_0010_u8, 0b0100_1101];
