@@ -443,6 +443,7 @@ fn compare_writes_to_bytes<const BITS: usize>(
     );
     assert_eq!(target, other);
     target.fill(0);
+    other.fill(0);
     compare(
         &format!("write-{BITS}-bytes-at-once"),
         numbers,
