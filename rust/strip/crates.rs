@@ -8,8 +8,9 @@ use std::path::Path;
 use std::{fs, io};
 
 /// What is not told of made code: what the sources import for their contracts alone, or offer and
-/// this crate does not call, and how their authors write. What the oldest compiler lacks is told.
-const ALLOWED: &str = "#[allow(dead_code, unused_braces, unused_imports, unused_variables)]
+/// this crate does not call, a function that they hand back and let go, and how their authors write. What the oldest compiler lacks is told.
+const ALLOWED: &str =
+    "#[allow(dead_code, unused_braces, unused_imports, unused_must_use, unused_variables)]
 #[allow(clippy::all, clippy::pedantic)]
 #[warn(clippy::incompatible_msrv)]";
 

@@ -7,6 +7,8 @@
 #[cfg(test)]
 mod bytes;
 #[cfg(test)]
+mod callers;
+#[cfg(test)]
 mod ends;
 #[cfg(test)]
 mod examples;

@@ -10,7 +10,8 @@ use bitvec_mem::mem::BitRegister;
 use bitvec_order::order::BitOrder;
 
 impl<'a, R: BitRegister, O: BitOrder<R>> Domain<'a, R, O> {
-    /// Calls a function with each item in turn, as a loop over the domain would.
+    /// Calls a function with each item in turn, as a loop over the domain would, and returns it as
+    /// the calls leave it.
     ///
     /// The whole words are a loop of their own, which asks at no word what comes next; so it is
     /// faster than the domain's own iterator. A caller's contract knows the calls, and not what the
@@ -26,17 +27,16 @@ impl<'a, R: BitRegister, O: BitOrder<R>> Domain<'a, R, O> {
     /// assert_eq!(rt; sum, 0x10 ^ 0x34 ^ 0x06);
     /// ```
     #[inline(always)]
-    pub fn each<F: FnMut(R)>(self, f: F)
+    pub fn each<F: FnMut(R)>(self, f: F) -> F
         requires { F.IsAlwaysCallable f }
-        ensures { (last : F) × IsCalledWith R.number (λ p w q. F.step p w tt q)
-            (items R.BITS O.at_of (domain_parts R.number self.entry)) f last }
+        ensures callable { F.IsAlwaysCallable result }
+        ensures called { IsCalledWith R.number (λ p w q. F.step p w tt q)
+            (items R.BITS O.at_of (domain_parts R.number self.entry)) f result }
     {
         match self {
-            Domain::Enclave(part) => {
-                hand(Some(part), f);
-            }
+            Domain::Enclave(part) => hand(Some(part), f),
             Domain::Region { head, body, tail } => {
-                hand(tail, hand_whole::<R, O, F>(body, hand(head, f)));
+                hand(tail, hand_whole::<R, O, F>(body, hand(head, f)))
             }
         }
     }
