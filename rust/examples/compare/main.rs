@@ -469,40 +469,47 @@ fn compare_writes_to_bytes<const BITS: usize>(
 }
 
 /// Bytes in one call, to a place that is a multiple of 8 and to one that is not; and words that a
-/// vector is extended by.
+/// vector is extended by. (Both into one memory, since where it lies matters as much.)
 fn compare_bytes(source: &[u64]) {
     let bytes: Vec<u8> = source.iter().flat_map(|word| word.to_be_bytes()).collect();
-    let (mut target, mut other) = (vec![0_u8; WORDS * 8 + 1], vec![0_u8; WORDS * 8 + 1]);
+    let target = RefCell::new(vec![0_u8; WORDS * 8 + 1]);
     for (name, place) in [("write-bytes", 8), ("write-bytes-shifted", 3)] {
+        let ours = |target: &mut [u8]| {
+            let bits = BitSlice::<_, Msb0>::from_slice_mut(black_box(target));
+            let mut writer = BitWriter::new(bits);
+            writer.skip(place).unwrap();
+            writer.write_bytes(black_box(&bytes)).unwrap();
+        };
+        let by_hand =
+            |target: &mut [u8]| by_hand::copy_bytes(black_box(&bytes), black_box(target), place);
         compare(
             name,
             WORDS,
-            || {
-                let bits = BitSlice::<_, Msb0>::from_slice_mut(black_box(&mut target[..]));
-                let mut writer = BitWriter::new(bits);
-                writer.skip(place).unwrap();
-                writer.write_bytes(black_box(&bytes)).unwrap();
-            },
-            || by_hand::copy_bytes(black_box(&bytes), black_box(&mut other), place),
+            || ours(&mut target.borrow_mut()),
+            || by_hand(&mut target.borrow_mut()),
         );
-        assert_eq!(target, other);
+        let (mut one, mut other) = (vec![0; WORDS * 8 + 1], vec![0; WORDS * 8 + 1]);
+        ours(&mut one);
+        by_hand(&mut other);
+        assert_eq!(one, other);
     }
-    let (mut ours, mut theirs) = (BitVec::<u8, Msb0>::new(), Vec::new());
+    let words = RefCell::new(Vec::new());
     compare(
         "extend-bytes",
         WORDS,
         || {
-            let bits = black_box(&mut ours);
+            let mut bits = BitVec::<u8, Msb0>::from_vec(words.take());
             bits.clear();
-            bits.extend(black_box(&bytes).iter().copied());
+            black_box(&mut bits).extend(black_box(&bytes).iter().copied());
+            assert_eq!(bits.len(), WORDS * 64);
+            words.replace(bits.into_vec());
         },
         || {
-            let words = black_box(&mut theirs);
+            let mut words = words.borrow_mut();
             words.clear();
-            words.extend(black_box(&bytes).iter().copied());
+            black_box(&mut *words).extend(black_box(&bytes).iter().copied());
         },
     );
-    assert_eq!(ours.as_raw_slice(), theirs);
 }
 
 fn main() {
