@@ -37,9 +37,9 @@ pub fn write_answer(out: &mut Answer, words: &[&str]) -> Option<()> {
     out.take(first_answer_at(order, register, &first)?)
 }
 
-// The answer of a call for the order and the register of the first, or `None` where there is none
-// of these names.
-fn first_answer_at<C: Call>(order: &str, register: &str, call: &C) -> Option<C::Answer> {
+/// The answer of a call for the order and the register of the first, or of a slice alone, or `None`
+/// where there is none of these names.
+pub fn first_answer_at<C: Call>(order: &str, register: &str, call: &C) -> Option<C::Answer> {
     match register {
         "u8" => under::<u8, C>(order, call),
         "u64" => under::<u64, C>(order, call),

@@ -23,6 +23,7 @@ pub fn answer<'a>(alloc: &'a Global, topic: Topic, kind: &str, words: &[&str]) -
         Topic::Spans | Topic::Slices if words.len() == beside::WORDS => {
             plain_answer(alloc, topic, words)
         }
+        Topic::Slices => slice_answer(alloc, words),
         Topic::Registers | Topic::Index | Topic::Types | Topic::Candidates | Topic::Pointers => {
             let [register, words @ ..] = words else {
                 return Ok(None);
@@ -111,8 +112,34 @@ impl Question<'_, '_> {
             Topic::Pairs => pairs::write_answer::<R, O>(out, kind, words),
             Topic::Spans => spans::write_answer::<R, O>(out, words),
             Topic::Domains => domains::write_answer::<R, O>(out, kind, words),
-            Topic::Slices => slices::write_answer::<R, O>(out, words),
             _ => None,
         }
+    }
+}
+
+// The answer to a question of a slice. There is a copy of its code for each register and order, and
+// lines name few.
+fn slice_answer<'a>(alloc: &'a Global, words: &[&str]) -> Text<'a> {
+    let [order, register, words @ ..] = words else {
+        return Ok(None);
+    };
+    let question = SliceQuestion { alloc, words };
+    beside::first_answer_at(order, register, &question).unwrap_or(Ok(None))
+}
+
+// The words of a question of a slice after its order and its register.
+#[derive(Drop)]
+struct SliceQuestion<'a, 't> {
+    alloc: &'a Global,
+    words: &'t [&'t str],
+}
+
+impl<'a> Call for SliceQuestion<'a, '_> {
+    type Answer = Text<'a>;
+
+    fn at<R: BitRegister, O: BitOrder<R>>(&self) -> Self::Answer {
+        let mut out = Answer::new(self.alloc);
+        let is_question = slices::write_answer::<R, O>(&mut out, self.words);
+        out.finish(is_question)
     }
 }
