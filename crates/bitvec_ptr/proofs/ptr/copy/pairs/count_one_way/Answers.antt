@@ -1,6 +1,31 @@
-use Rattle.std.proofs.Common.{◌+◌, ◌*◌, map, refl, arith}
+use Rattle.std.proofs.Common.{◌+◌, ◌*◌, length, map, refl, arith}
+use Rattle.bitvec_ptr.proofs.CopyLemmas.{place_below}
+use Rattle.bitvec_ptr.proofs.GatherLemmas.{allows_elsewhere}
 use Rattle.bitvec_ptr.proofs.PairLemmas.{IsCut, parts_of, pair_on, count_joined, count_small}
 use Rattle.bitvec_ptr.proofs.ptr.copy.pairs.count_one_way.Goals as goal
+
+pub sections_of-sections-requires-clause-inside : goal.sections_of-sections-requires-clause-inside
+sections_of-sections-requires-clause-inside g c =
+    let R2 = g.R2.BitRegister in
+    let from = c.args.from in
+    place_below R2.BITS (from.word * R2.BITS + from.bit + c.args.count) (length c.args.other.now)
+    (omega (arith, g.met.R2.BitRegister.width_at_least_8)) c.requires.from_in (omega arith)
+
+pub count_word-head-requires-clause-some : goal.count_word-head-requires-clause-some
+count_word-head-requires-clause-some g c =
+    let cut = c.sections_of-sections.ensures in
+    omega (arith, cut.first, c.args.to.in_word, g.met.R.BitRegister.width_at_least_8)
+
+pub count_word-head-requires-clause-way : goal.count_word-head-requires-clause-way
+count_word-head-requires-clause-way g c = c.requires.way
+
+pub count_row-body-requires-clause-way : goal.count_row-body-requires-clause-way
+count_row-body-requires-clause-way g c =
+    allows_elsewhere _ _ _ _ _ _ _ _ _ c.requires.way c.sections_of-sections.ensures.middle_starts
+
+pub count_word-tail-requires-clause-way : goal.count_word-tail-requires-clause-way
+count_word-tail-requires-clause-way g c =
+    allows_elsewhere _ _ _ _ _ _ _ _ _ c.requires.way c.sections_of-sections.ensures.end_starts
 
 pub overflow_add-result : goal.overflow_add-result
 overflow_add-result g c =

@@ -1,6 +1,32 @@
-use Rattle.std.proofs.Common.{◌+◌, ◌-◌, ◌*◌, ◌≤◌, map, refl, ap, sym, ◌∙◌, arith}
+use Rattle.std.proofs.Common.{◌+◌, ◌-◌, ◌*◌, ◌≤◌, length, map, refl, ap, sym, ◌∙◌, arith}
+use Rattle.bitvec_ptr.proofs.CopyLemmas.{place_below}
+use Rattle.bitvec_ptr.proofs.GatherLemmas.{allows_elsewhere}
 use Rattle.bitvec_ptr.proofs.PairLemmas.{IsCut, parts_of, pair_on, none_joined, first_joined, first_earlier}
 use Rattle.bitvec_ptr.proofs.ptr.copy.pairs.first_one_way.Goals as goal
+
+pub sections_of-sections-requires-clause-inside : goal.sections_of-sections-requires-clause-inside
+sections_of-sections-requires-clause-inside g c =
+    let R2 = g.R2.BitRegister in
+    let from = c.args.from in
+    place_below R2.BITS (from.word * R2.BITS + from.bit + c.args.count) (length c.args.other.now)
+    (omega (arith, g.met.R2.BitRegister.width_at_least_8)) c.requires.from_in (omega arith)
+
+pub first_in_word-head-requires-clause-some : goal.first_in_word-head-requires-clause-some
+first_in_word-head-requires-clause-some g c =
+    let cut = c.sections_of-sections.ensures in
+    omega (arith, cut.first, c.args.to.in_word, g.met.R.BitRegister.width_at_least_8)
+
+pub first_in_word-head-requires-clause-way : goal.first_in_word-head-requires-clause-way
+first_in_word-head-requires-clause-way g c = c.requires.way
+
+pub returns-in-Some : goal.returns-in-Some
+returns-in-Some g c =
+    let cut = c.sections_of-sections.ensures in
+    first_earlier _ _ _ _ (omega (arith, cut.first, cut.all)) c.in-Some.ensures
+
+pub first_in_row-body-requires-clause-way : goal.first_in_row-body-requires-clause-way
+first_in_row-body-requires-clause-way g c =
+    allows_elsewhere _ _ _ _ _ _ _ _ _ c.requires.way c.sections_of-sections.ensures.middle_starts
 
 pub returns-in-Some-body : goal.returns-in-Some-body
 returns-in-Some-body g c =
@@ -26,6 +52,10 @@ returns-in-Some-body g c =
     first_earlier _ front c.args.count _ some
     (first_joined _ _ sections.first (sections.whole * R.BITS) c.in-Some-body.i front _ refl (ap (λ n. n + c.in-Some-body.i) c.from.ensures)
     (on _ _ _ _ _ parts.here parts.there) c.in_default.ensures c.in-Some-body.ensures)
+
+pub first_in_word-tail-requires-clause-way : goal.first_in_word-tail-requires-clause-way
+first_in_word-tail-requires-clause-way g c =
+    allows_elsewhere _ _ _ _ _ _ _ _ _ c.requires.way c.sections_of-sections.ensures.end_starts
 
 pub returns-in-Some-tail : goal.returns-in-Some-tail
 returns-in-Some-tail g c =
