@@ -1,3 +1,4 @@
+mod AddressLemmas
 pub mod ByteNumbers
 pub mod DigitListLemmas
 pub mod EditRangeLemmas

@@ -1,7 +1,6 @@
-use Rattle.std.proofs.Common.{◌≡◌, ◌+◌, ◌*◌, ◌<◌, ◌&&◌, length, map, ap, sym, ◌∙◌, arith}
-use Rattle.std.specs.Prelude.{nat_abs, slice_index, slice_set}
+use Rattle.std.proofs.Common.{◌+◌, ◌*◌, ◌<◌, ◌&&◌, map, ap, sym, ◌∙◌, arith}
+use Rattle.std.specs.Prelude.{nat_abs, slice_set}
 use Rattle.std.specs.Int.{w64}
-use Rattle.std.proofs.lemmas.Int.{ints}
 use Rattle.std.proofs.lemmas.List.{map-set}
 use mir.Val.{to_z, of_z}
 use Rattle.bitvec.specs.BitSpan.{span_of}
@@ -10,9 +9,10 @@ use Rattle.bitvec.specs.Parts.{part_head, part_tail}
 use Rattle.bitvec.proofs.BecomesLemmas.{fits-numbers}
 use Rattle.bitvec.proofs.PartEditLemmas.{becomes-put}
 use Rattle.bitvec.proofs.PartLemmas.{inside-from_part, part-from_inside}
+use Rattle.bitvec_slice.proofs.AddressLemmas.{address_index}
 use Rattle.bitvec_slice.proofs.FieldNearLemmas.{mixed_within}
 use Rattle.bitvec_slice.proofs.FieldStoreLemmas.{same_tests}
-use Rattle.bitvec_slice.proofs.SkipLemmas.{number_at}
+use Rattle.bitvec_slice.proofs.SpanTurns.{read-word}
 use Rattle.bitvec_slice.proofs.field.put_digits.Goals as goal
 
 pub returns : goal.returns
@@ -26,9 +26,9 @@ returns g c = λ f says.
     let here = nat_abs (to_z w64 (of_z w64 c.address.result)) + c.args.k in
     let r = c.index-memory-place.result in
     let in_head : span.head < width = omega (arith, span.in_word, g.met.R.BitRegister.width_at_least_8) in
-    let first : nat_abs (to_z w64 (of_z w64 c.address.result)) ≡ nat_abs span.word = ap nat_abs (let same : to_z w64 (of_z w64 c.address.result) ≡ span.word = omega (arith, ints, c.address.ensures, c.requires.fits.0) in same) in
-    let inside : nat_abs (to_z w64 (of_z w64 c.address.result)) + c.args.k < length memory = omega (arith, first, c.requires.fits.1, c.requires.met) in
-    let old : number r ≡ slice_index (map number memory) (nat_abs span.word + c.args.k) = ap number c.index-memory-place.is ∙ number_at number memory here r inside ∙ ap (λ n. slice_index (map number memory) (n + c.args.k)) first in
+    let first = address_index c.address.result span.word c.address.type_inv c.address.ensures in
+    let old = read-word number memory here (nat_abs span.word + k) r (ap (λ n. n + k) first)
+    (omega (arith, c.requires.fits.1, c.requires.met)) c.index-memory-place.is in
     becomes-put width at (span_of span) k (λ i. digit (number c.args.word) (at i)) (map number memory) _ (number c.or.result) in_head
     (fits-numbers width (span_of span) number memory c.requires.fits) c.requires.met
     (map-set number memory here c.or.result ∙ ap (λ n. slice_set (map number memory) (n + c.args.k) (number c.or.result)) first)

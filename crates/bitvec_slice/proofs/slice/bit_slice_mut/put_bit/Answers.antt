@@ -1,7 +1,6 @@
 use Rattle.std.proofs.Common.{◌≡◌, ℕ, ◌+◌, ◌*◌, ◌/◌, ◌<◌, ◌≤◌, length, map, ap, ◌∙◌, arith, rules}
 use Rattle.std.specs.Prelude.{nat_abs, slice_index, slice_set}
 use Rattle.std.specs.Int.{w64}
-use Rattle.std.proofs.lemmas.Int.{ints}
 use Rattle.std.proofs.lemmas.List.{length-map, map-set}
 use Rattle.std.proofs.lemmas.Nat.{div-add-mod', mod_below}
 use Rattle.std.proofs.Math.ListN.{length-set}
@@ -13,6 +12,7 @@ use Rattle.bitvec.proofs.BecomesLemmas.{bit-becomes, fits-numbers}
 use Rattle.bitvec.proofs.BitLemmas.{write_is}
 use Rattle.bitvec_slice.proofs.FieldLemmas.{met_word}
 use Rattle.bitvec_slice.proofs.SkipLemmas.{number_at}
+use Rattle.bitvec_slice.proofs.AddressLemmas.{address_index}
 use Rattle.bitvec_slice.proofs.slice.bit_slice_mut.put_bit.Goals as goal
 
 -- bit i of a span lies in a word of a memory that the span fits, by other names of these numbers
@@ -24,14 +24,14 @@ in_memory bits head len i first words wide from at is_wide is_head is_first some
 pub bounds-memory-at : goal.bounds-memory-at
 bounds-memory-at g c =
     let span = c.args.span in
-    let first : nat_abs (to_z w64 (of_z w64 c.address.result)) ≡ nat_abs span.word = ap nat_abs (let same : to_z w64 (of_z w64 c.address.result) ≡ span.word = omega (arith, ints, c.address.ensures, c.requires.fits.0) in same) in
+    let first = address_index c.address.result span.word c.address.type_inv c.address.ensures in
     let is_head : c.from.result ≡ span.head = omega (arith, c.from.ensures, c.into_inner.ensures.value, c.head.ensures) in
     in_memory g.R.BitRegister.BITS span.head span.len c.args.i (nat_abs span.word) (length c.args.memory.now) c.bits_of-width.result c.from.result _ c.bits_of-width.ensures.value is_head first (omega (arith, g.met.R.BitRegister.width_at_least_8)) c.requires.inside c.requires.fits.1
 
 pub offset_bounds-memory-at : goal.offset_bounds-memory-at
 offset_bounds-memory-at g c =
     let span = c.args.span in
-    let first : nat_abs (to_z w64 (of_z w64 c.address.result)) ≡ nat_abs span.word = ap nat_abs (let same : to_z w64 (of_z w64 c.address.result) ≡ span.word = omega (arith, ints, c.address.ensures, c.requires.fits.0) in same) in
+    let first = address_index c.address.result span.word c.address.type_inv c.address.ensures in
     let is_head : c.from.result ≡ span.head = omega (arith, c.from.ensures, c.into_inner.ensures.value, c.head.ensures) in
     let inside : nat_abs (to_z w64 (of_z w64 c.address.result)) + (c.from.result + c.args.i) / c.bits_of-width.result < length c.args.memory.now = in_memory g.R.BitRegister.BITS span.head span.len c.args.i (nat_abs span.word) (length c.args.memory.now) c.bits_of-width.result c.from.result _ c.bits_of-width.ensures.value is_head first (omega (arith, g.met.R.BitRegister.width_at_least_8)) c.requires.inside c.requires.fits.1 in
     search rules
@@ -39,14 +39,14 @@ offset_bounds-memory-at g c =
 pub bounds-memory-at-2 : goal.bounds-memory-at-2
 bounds-memory-at-2 g c =
     let span = c.args.span in
-    let first : nat_abs (to_z w64 (of_z w64 c.address.result)) ≡ nat_abs span.word = ap nat_abs (let same : to_z w64 (of_z w64 c.address.result) ≡ span.word = omega (arith, ints, c.address.ensures, c.requires.fits.0) in same) in
+    let first = address_index c.address.result span.word c.address.type_inv c.address.ensures in
     let is_head : c.from.result ≡ span.head = omega (arith, c.from.ensures, c.into_inner.ensures.value, c.head.ensures) in
     in_memory g.R.BitRegister.BITS span.head span.len c.args.i (nat_abs span.word) (length c.args.memory.now) c.bits_of-width.result c.from.result _ c.bits_of-width.ensures.value is_head first (omega (arith, g.met.R.BitRegister.width_at_least_8)) c.requires.inside c.requires.fits.1
 
 pub offset_bounds-memory-at-2 : goal.offset_bounds-memory-at-2
 offset_bounds-memory-at-2 g c =
     let span = c.args.span in
-    let first : nat_abs (to_z w64 (of_z w64 c.address.result)) ≡ nat_abs span.word = ap nat_abs (let same : to_z w64 (of_z w64 c.address.result) ≡ span.word = omega (arith, ints, c.address.ensures, c.requires.fits.0) in same) in
+    let first = address_index c.address.result span.word c.address.type_inv c.address.ensures in
     let is_head : c.from.result ≡ span.head = omega (arith, c.from.ensures, c.into_inner.ensures.value, c.head.ensures) in
     let inside : nat_abs (to_z w64 (of_z w64 c.address.result)) + (c.from.result + c.args.i) / c.bits_of-width.result < length c.args.memory.now = in_memory g.R.BitRegister.BITS span.head span.len c.args.i (nat_abs span.word) (length c.args.memory.now) c.bits_of-width.result c.from.result _ c.bits_of-width.ensures.value is_head first (omega (arith, g.met.R.BitRegister.width_at_least_8)) c.requires.inside c.requires.fits.1 in
     search rules
@@ -70,7 +70,7 @@ returns g c =
     let in_head : span.head < bits = omega (arith, span.in_word, eight) in
     let is_wide : wide ≡ bits = c.bits_of-width.ensures.value in
     let is_head : c.from.result ≡ span.head = omega (arith, c.from.ensures, c.into_inner.ensures.value, c.head.ensures) in
-    let first : nat_abs (to_z w64 (of_z w64 c.address.result)) ≡ nat_abs span.word = ap nat_abs (let same : to_z w64 (of_z w64 c.address.result) ≡ span.word = omega (arith, ints, c.address.ensures, c.requires.fits.0) in same) in
+    let first = address_index c.address.result span.word c.address.type_inv c.address.ensures in
     let inside : nat_abs (to_z w64 (of_z w64 c.address.result)) + k < length memory = in_memory bits span.head span.len c.args.i (nat_abs span.word) (length memory) wide c.from.result _ is_wide is_head first (omega (arith, eight)) c.requires.inside c.requires.fits.1 in
     let within : nat_abs span.word + k < length words = omega (arith, inside, first, length-map memory number) in
     let small : index < bits = omega (arith, c.new_unchecked-index.ensures, is_wide, mod_below place wide (omega (arith, c.bits_of-width.ensures.least))) in

@@ -1,7 +1,6 @@
 use Rattle.std.proofs.Common.{◌≡◌, ◌+◌, ◌-◌, ◌<◌, length, map, refl, sym, ap, subst, ◌∙◌, arith}
 use Rattle.std.specs.Prelude.{nat_abs, slice_index}
 use Rattle.std.specs.Int.{w64}
-use Rattle.std.proofs.lemmas.Int.{ints}
 use Rattle.std.proofs.lemmas.List.{length-map}
 use mir.Val.{to_z, of_z}
 use borrow.Rule.Slice.PartMut.{put_mid}
@@ -14,6 +13,7 @@ use Rattle.bitvec.proofs.BecomesLemmas.{fits-numbers, numbers-many, span-becomes
 use Rattle.bitvec.proofs.PartLemmas.{some_len}
 use Rattle.bitvec.proofs.PointerLemmas.{range-in}
 use Rattle.bitvec_slice.specs.Turns.{PutsBack}
+use Rattle.bitvec_slice.proofs.AddressLemmas.{address_index, address_word}
 use Rattle.bitvec_slice.proofs.SpanTurns.{read-word, turns-met, tail-most, tail-least, source-fits, turned-becomes}
 use Rattle.bitvec_slice.proofs.slice.turn.reverse_by_words.Goals as goal
 
@@ -27,8 +27,8 @@ copy_within-requires-clause-from_in g c =
     let n = words_met width span.head span.len in
     let a = nat_abs (to_z w64 (of_z w64 c.address-first.result)) in
     let met = c.elements-elements.result in
-    let same : to_z w64 (of_z w64 c.address-first.result) ≡ c.args.span.word = omega (arith, ints) in
-    let is_first : a ≡ first = ap nat_abs same in
+    let is_first = address_index c.address-first.result span.word c.address-first.type_inv
+    c.address-first.ensures in
     let is_count : a + met - a ≡ n = omega (arith, c.elements-elements.ensures.value) in
     let some_bits : 0 < width = omega (arith, g.met.R.BitRegister.width_at_least_8) in
     let some_words : 0 < n = omega (arith, c.elements-elements.ensures.value, c.if-elements-eq0.false) in
@@ -40,7 +40,7 @@ copy_within-requires-clause-from_in g c =
     let from = c.new_unchecked.result in
     let start : from + tail_of width span.head span.len ≡ width =
     omega (arith, c.new_unchecked.ensures, c.BITS.ensures, c.into_inner.ensures.value, c.tail.ensures, tail-most width span.head span.len some_bits some) in
-    let word_is : to_z w64 (of_z w64 c.address.result) ≡ c.args.span.word = omega (arith, ints) in
+    let word_is = address_word c.address.result span.word c.address.type_inv c.address.ensures in
     let source : Span = record { word = span.word; head = from; len = span.len } in
     let fits = source-fits width span from (length memory) some_bits some start c.requires.fits in
     let many : length part ≡ length memory = sym (length-map part number) ∙ turns.words ∙ length-map memory number in
@@ -60,8 +60,8 @@ returns g c =
     let n = words_met width span.head span.len in
     let a = nat_abs (to_z w64 (of_z w64 c.address-first.result)) in
     let met = c.elements-elements.result in
-    let same : to_z w64 (of_z w64 c.address-first.result) ≡ c.args.span.word = omega (arith, ints) in
-    let is_first : a ≡ first = ap nat_abs same in
+    let is_first = address_index c.address-first.result span.word c.address-first.type_inv
+    c.address-first.ensures in
     let is_count : a + met - a ≡ n = omega (arith, c.elements-elements.ensures.value) in
     let some_bits : 0 < width = omega (arith, g.met.R.BitRegister.width_at_least_8) in
     let some_words : 0 < n = omega (arith, c.elements-elements.ensures.value, c.if-elements-eq0.false) in
@@ -76,7 +76,7 @@ returns g c =
     let from = c.new_unchecked.result in
     let start : from + tail_of width span.head span.len ≡ width =
     omega (arith, c.new_unchecked.ensures, c.BITS.ensures, c.into_inner.ensures.value, c.tail.ensures, tail-most width span.head span.len some_bits some) in
-    let word_is : to_z w64 (of_z w64 c.address.result) ≡ c.args.span.word = omega (arith, ints) in
+    let word_is = address_word c.address.result span.word c.address.type_inv c.address.ensures in
     let source : Span = record { word = span.word; head = from; len = span.len } in
     let many : length turned ≡ length old = turns.words in
     let own = fits-numbers width span number memory c.requires.fits in

@@ -1,13 +1,36 @@
-use Rattle.std.proofs.Common.{◌≡◌, ◌+◌, ◌*◌, ◌-◌, ◌/◌, ◌<◌, ◌≤◌, not, map, ap, subst, ◌∙◌, inl, inr, arith}
+use Rattle.std.proofs.Common.{◌≡◌, ℕ, ◌+◌, ◌*◌, ◌-◌, ◌/◌, ◌<◌, ◌≤◌, not, map, ap, subst, ◌∙◌, inl, inr, arith}
 use Rattle.std.proofs.lemmas.Bool.{cases_lt}
 use Rattle.std.proofs.lemmas.Nat.{div-add-mod', mod_below}
 use Rattle.std.proofs.Math.Nat.{mul-le-mul_right}
 use Rattle.bitvec_slice.specs.BitSlice.{slice_memory, slice_span, slice_bits}
 use Rattle.bitvec_slice.specs.Field.{stretch_end}
 use Rattle.bitvec_slice.specs.Chosen.{IsChosen, chosen_end}
-use Rattle.bitvec_slice.proofs.SkipLemmas.{all_joined, between_word}
+use Rattle.bitvec_slice.proofs.SkipLemmas.{all_joined, between_word, met_before}
 use Rattle.bitvec_slice.proofs.WordListLemmas.{chosen_none, chosen_whole}
 use Rattle.bitvec_slice.proofs.slice.bit_slice.BitSlice.chosen_later.Goals as goal
+
+-- the word in which the elements before element `upto` end: where it begins, which is behind
+-- another word, and where it ends
+record EndsIn (bits width head word upto last : ℕ) : Type 0 where
+  pub row : last * width ≡ last * bits
+  pub begin : last * bits ≤ head + upto
+  pub end : head + upto < last * bits + bits
+  pub after : word < last → word * bits + bits ≤ last * bits
+
+ends_in : (bits width head index word upto : ℕ) → width ≡ bits → index ≡ head → 8 ≤ width
+    → EndsIn bits width head word upto ((index + upto) / width)
+ends_in bits width head index word upto ew ei some =
+    let last = (index + upto) / width in
+    let parts = div-add-mod' (index + upto) width in
+    let rest = mod_below (index + upto) width (omega arith) in
+    let row : last * width ≡ last * bits = ap (λ b. last * b) ew in
+    record {
+      row = row;
+      begin = omega (arith, parts, row, ei);
+      end = omega (arith, parts, rest, row, ei, ew);
+      after = λ later. let behind : (word + 1) * bits ≤ last * bits =
+          mul-le-mul_right bits (omega (arith, later)) in omega (arith, behind);
+    }
 
 pub turned_word-ones-requires : goal.turned_word-ones-requires
 turned_word-ones-requires g c =
@@ -52,6 +75,42 @@ loop-k-preserved g c =
       omega (arith, c.loop-k-test.true),
       all_joined (not c.args.bit) (slice_bits slice) (stretch_end bits span.head span.len c.args.word) (k * bits - span.head) next inv.2 (chosen_none whole c.in_default.ensures),
     )
+
+pub returns-then-last-word : goal.returns-then-last-word
+returns-then-last-word g c =
+    let span = slice_span c.args.self.now in
+    let it = ends_in g.R.BitRegister.BITS c.bits_of-width.result span.head c.head-head.result
+    c.args.word c.args.end
+    c.bits_of-width.ensures.value c.head-head.ensures c.bits_of-width.ensures.least in
+    let last = (c.head-head.result + c.args.end) / c.bits_of-width.result in
+    let rows : last * g.R.BitRegister.BITS ≤ c.args.word * g.R.BitRegister.BITS =
+    mul-le-mul_right g.R.BitRegister.BITS c.if-last-word.true in
+    λ j low high. absurd (omega (arith, low, high, it.end, rows, c.requires))
+
+pub loop-k-init : goal.loop-k-init
+loop-k-init g c =
+    let span = slice_span c.args.self.now in
+    let it = ends_in g.R.BitRegister.BITS c.bits_of-width.result span.head c.head-head.result
+    c.args.word c.args.end
+    c.bits_of-width.ensures.value c.head-head.ensures c.bits_of-width.ensures.least in
+    let after = it.after c.if-last-word.false in (
+      omega arith,
+      omega (arith, c.if-last-word.false),
+      λ j low high. absurd (omega (arith, low, high, after, it.begin, c.requires)),
+    )
+
+pub chosen-ones-requires-clause-met : goal.chosen-ones-requires-clause-met
+chosen-ones-requires-clause-met g c =
+    let span = slice_span c.args.self.now in
+    let it = ends_in g.R.BitRegister.BITS c.bits_of-width.result span.head c.head-head.result
+    c.args.word c.args.end
+    c.bits_of-width.ensures.value c.head-head.ensures c.bits_of-width.ensures.least in
+    let last = (c.head-head.result + c.args.end) / c.bits_of-width.result in
+    let less : last * g.R.BitRegister.BITS < span.head + c.args.end =
+    omega (arith, c.if-end-from.false, it.row, c.head-head.ensures) in
+    met_before g.R.BitRegister.BITS span.head span.len last
+    (omega (arith, g.met.R.BitRegister.width_at_least_8))
+    (omega (arith, c.if-end-from.false, c.requires)) (omega (arith, less, c.requires))
 
 pub returns-then-end-from : goal.returns-then-end-from
 returns-then-end-from g c =

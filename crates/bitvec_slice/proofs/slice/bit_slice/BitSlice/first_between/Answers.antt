@@ -71,6 +71,18 @@ returns-else-i-upto g c =
     let is = found_index k index bits span.head c.bits_of-width.ensures.value c.from.ensures c.head-in-Some.ensures in
     first_from c.chosen_from.ensures index _ c.in-Some.ensures is c.args.upto c.requires c.if-upto-from.false c.if-i-upto.false
 
+pub first_after-requires-clause-met : goal.first_after-requires-clause-met
+first_after-requires-clause-met g c =
+    let slice = c.args.self.now in
+    let span = slice_span slice in
+    let bits = g.R.BitRegister.BITS in
+    let width = c.bits_of-width.result in
+    let some : 0 < bits = omega (arith, g.met.R.BitRegister.width_at_least_8) in
+    let word = word_at bits width span.head c.head.result span.len c.args.from
+    c.bits_of-width.ensures.value c.head.ensures some
+    (omega (arith, c.if-upto-from.false, c.requires)) in
+    word.met
+
 pub returns-in-None : goal.returns-in-None
 returns-in-None g c =
     let slice = c.args.self.now in
