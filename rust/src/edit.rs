@@ -12,6 +12,7 @@ use crate::slice_mut::BitSliceMut;
 use crate::words::whole;
 use core::any::type_name;
 use core::ops::RangeBounds;
+use core::slice::from_mut;
 
 /// Copies `len` bits from one place to another, of two memories: words that are whole in both as
 /// std's slices copy them, and what stands before and behind these by calls of the library.
@@ -190,9 +191,16 @@ impl<T: Register, O: Order> BitSliceMut<'_, T, O> {
     /// ```
     #[inline]
     pub fn try_set(&mut self, index: usize, bit: bool) -> Result<(), Refusal> {
-        self.has(index)?;
-        let (words, start) = self.place_mut();
-        T::set(O::CODE, words, start + index, bit)
+        if !self.starts_a_word() {
+            self.has(index)?;
+            let (words, start) = self.place_mut();
+            return T::set(O::CODE, words, start + index, bit);
+        }
+        let len = self.len();
+        let Some((word, place)) = self.word_mut(index) else {
+            return Err(Refusal::Outside { index, len });
+        };
+        T::set(O::CODE, from_mut(word), place, bit)
     }
 
     /// Makes the bit at an index the same as `bit`, and returns it as it was. Constant time.

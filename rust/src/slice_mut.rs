@@ -68,6 +68,27 @@ impl<'a, T: Register, O: Order> BitSliceMut<'a, T, O> {
         }
     }
 
+    /// Whether the first bit is the first one of the words, as in a vector, an array and a view.
+    #[inline]
+    pub(crate) fn starts_a_word(&self) -> bool {
+        self.start == 0
+    }
+
+    /// The word of such a slice that the bit at an index lies in, and its place there; `None` where there
+    /// is no such bit. (Of the words before that in which the slice ends all bits are its own, so that
+    /// one test is enough there: that of the index is left to the last word.)
+    #[inline]
+    pub(crate) fn word_mut(&mut self, index: usize) -> Option<(&mut T, usize)> {
+        let (at, full) = (index / T::BITS, self.len / T::BITS);
+        let (full, rest) = self.words.split_at_mut_checked(full)?;
+        let word = if at < full.len() {
+            full.get_mut(at)
+        } else {
+            rest.first_mut().filter(|_| index < self.len)
+        };
+        Some((word?, index % T::BITS))
+    }
+
     /// The words, and the place of the first bit in them.
     #[inline]
     pub(crate) fn place_mut(&mut self) -> (&mut [T], usize) {

@@ -426,11 +426,22 @@ impl<'a, T: Register, O: Order> BitReader<'a, T, O> {
     /// ```
     #[inline]
     pub fn skip(&mut self, count: usize) -> Result<(), Refusal> {
-        // (as many as are held need no second test)
-        if count > self.at.held && count > self.remaining() {
+        // (as many as are held need no second test. What is left of the window is kept in the second
+        // case too, where it is nothing: else the compiler would shift behind the test. Who looks codes
+        // up waits for each shift, and one of x86 takes longer behind a comparison)
+        let rest = behind::<O>(self.at.window, count % 64);
+        if count <= self.at.held {
+            self.at.window = rest;
+            self.at.held -= count;
+            return Ok(());
+        }
+        if count > self.remaining() {
             return Err(Refusal::TooFew);
         }
         self.pass(count);
+        if count < 64 {
+            self.at.window |= rest;
+        }
         Ok(())
     }
 

@@ -492,3 +492,33 @@ fn bits_have_a_text() {
     let bits = BitSliceMut::<_, Msb0>::new(&mut words, 2..6).unwrap();
     assert_eq!(format!("{bits:?}"), "[1, 1, 0, 0]");
 }
+
+/// Reads and writes the bit at each index near either end of each range of three words, and at the
+/// greatest indices, whose places would be past the greatest.
+fn single_bits_of_each_range<O: Layout>() {
+    let model = bits_of::<u8, O>(&[0x5a, 0xc3, 0x96]);
+    for (start, end) in (0..=24).flat_map(|end| (0..=end).map(move |start| (start, end))) {
+        let len = end - start;
+        for index in (0..=len + 17).chain(usize::MAX - 32..=usize::MAX) {
+            let mut words = [0x5a, 0xc3, 0x96];
+            let mut bits = BitSliceMut::<u8, O>::new(&mut words, start..end).unwrap();
+            let expected = model[start..end].get(index).copied();
+            let read = bits.as_bitslice().get(index).map(bool::from);
+            assert_eq!(read, expected, "{index} of {start}..{end}");
+            let outside = Refusal::Outside { index, len };
+            let written = bits.try_set(index, expected != Some(true));
+            assert_eq!(written, expected.map(|_| ()).ok_or(outside));
+            let mut model = model.clone();
+            if let Some(bit) = expected {
+                model[start + index] = !bit;
+            }
+            assert_eq!(bits_of::<u8, O>(&words), model, "{index} of {start}..{end}");
+        }
+    }
+}
+
+#[test]
+fn a_bit_is_among_those_of_its_range() {
+    single_bits_of_each_range::<Lsb0>();
+    single_bits_of_each_range::<Msb0>();
+}

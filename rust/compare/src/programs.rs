@@ -10,8 +10,10 @@ const BELOW: usize = 5_000_000;
 /// How many primes there are.
 const PRIMES: usize = 348_513;
 
+/// (In bytes, so that two multiples that follow each other lie less often in one word, whose second
+/// change waits for the first.)
 fn ours() -> usize {
-    let mut is_prime = BitVec::<u64, Lsb0>::repeat(true, BELOW);
+    let mut is_prime = BitVec::<u8, Lsb0>::repeat(true, BELOW);
     is_prime.part_mut(..2).unwrap().fill(false);
     let mut next = is_prime.first_one();
     while let Some(prime) = next.filter(|prime| prime * prime < BELOW) {
