@@ -182,3 +182,12 @@ digits_be-split a b n high is =
           ∙ get_or-tabulate b (λ i. digit n (b - 1 - i)) (j - a) false (omega (arith, past, h))
           ∙ ap (digit n) q)
     ])
+
+-- nothing is known
+pub known_none : (bits : ℕ) (at : ℕ → ℕ) (head : ℕ) (xs : List Bool) (end m w : ℕ) → IsKnown bits at head xs end 0 m w
+known_none bits at head xs end m w = record {
+  falls = λ h. absurd (omega (arith, h));
+  whole = λ h. absurd (omega (arith, h));
+  ahead = λ j h. absurd (omega (arith, h));
+  before = λ h. absurd (omega (arith, h));
+}

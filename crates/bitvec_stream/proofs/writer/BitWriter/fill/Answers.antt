@@ -2,6 +2,7 @@ use Rattle.std.proofs.Common.{◌≡◌, ◌≤◌, ◌+◌, ◌-◌, length, ar
 use Rattle.std.proofs.lemmas.List.{length-replicate}
 use Rattle.bitvec_stream.specs.Writer.{target_words, target_bits, bits_written}
 use Rattle.bitvec_stream.proofs.WriterLemmas.{stretch_at}
+use Rattle.bitvec_stream.proofs.KnownLemmas.{known_none}
 use Rattle.bitvec_stream.proofs.writer.BitWriter.fill.Goals as goal
 
 pub returns : goal.returns
@@ -18,3 +19,22 @@ pub fill_bits-requires-clause-within : goal.fill_bits-requires-clause-within
 fill_bits-requires-clause-within g c =
     let it = c.args.self.now in
     omega (arith, c.position-position.ensures.value, c.requires, length-drop (bits_written it) (target_bits it), it.within, it.behind, it.many (target_words it))
+
+pub invariant_of-self-clause-shown : goal.invariant_of-self-clause-shown
+invariant_of-self-clause-shown g c = known_none _ _ _ _ _ _ _
+
+pub invariant_of-self-2-clause-fits : goal.invariant_of-self-2-clause-fits
+invariant_of-self-2-clause-fits g c =
+    let it = c.args.self.now in
+    (it.fits.0, omega (arith, it.fits.1, c.fill_bits.auto.memory))
+
+pub invariant_of-self-2-clause-within : goal.invariant_of-self-2-clause-within
+invariant_of-self-2-clause-within g c =
+    let it = c.args.self.now in
+    let at = c.position-position.ensures.value in
+    let left = length-drop (bits_written it) (target_bits it) in
+    let many = it.many (target_words it) in
+    omega (arith, at, c.requires, left, it.within, it.behind, many)
+
+pub invariant_of-self-2-clause-shown : goal.invariant_of-self-2-clause-shown
+invariant_of-self-2-clause-shown g c = known_none _ _ _ _ _ _ _

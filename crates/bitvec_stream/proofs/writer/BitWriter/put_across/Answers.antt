@@ -1,4 +1,5 @@
-use Rattle.std.proofs.Common.{◌≡◌, ◌+◌, ◌-◌, ◌++◌, sym, ap, ◌∙◌, arith}
+use Rattle.std.proofs.Common.{◌≡◌, ◌+◌, ◌-◌, ◌++◌, ◌^◌, sym, ap, ◌∙◌, arith}
+use Rattle.std.proofs.lemmas.Nat.{mod_below, pow_pos}
 use Rattle.bitvec_slice.proofs.DigitListLemmas.{digits_be-low}
 use Rattle.bitvec_stream.specs.Numbers.{digits_be}
 use Rattle.bitvec_stream.proofs.DigitRangeLemmas.{dropped_small}
@@ -33,3 +34,14 @@ returns g c =
     ∙ digits_be-split kept rest value high (λ q h. c.shr.ensures.moved q (omega (arith, h, all, c.requires.few)))
     ∙ ap (λ n. digits_be n value) all in
     writes-as it new _ (digits_be c.args.count value) both (writes-both it mid new first second c.put_kept.ensures.writes behind)
+
+pub know-requires-clause-falls : goal.know-requires-clause-falls
+know-requires-clause-falls g c = c.args.self.now.shown.falls c.requires.some
+
+pub put_kept-requires-2-clause-kept : goal.put_kept-requires-2-clause-kept
+put_kept-requires-2-clause-kept g c = omega (arith, c.know.ensures.kept, c.requires.near)
+
+pub put_kept-requires-2-clause-small : goal.put_kept-requires-2-clause-small
+put_kept-requires-2-clause-small g c =
+    let rest = c.args.count - c.args.self.now.kept in
+    omega (arith, c.lowest.ensures, mod_below (g.N.BitRegister.number c.args.digits) (2 ^ rest) (pow_pos rest))

@@ -3,6 +3,7 @@ use Rattle.bitvec_slice.proofs.DigitListLemmas.{length-digits_le}
 use Rattle.bitvec_stream.specs.Numbers.{digits_le}
 use Rattle.bitvec_stream.specs.Writer.{target_words, target_bits, bits_written}
 use Rattle.bitvec_stream.proofs.WriterLemmas.{stretch_at}
+use Rattle.bitvec_stream.proofs.KnownLemmas.{known_none}
 use Rattle.bitvec_stream.proofs.writer.BitWriter.put_le.Goals as goal
 
 pub returns : goal.returns
@@ -19,3 +20,22 @@ pub store_le-requires-clause-within : goal.store_le-requires-clause-within
 store_le-requires-clause-within g c =
     let it = c.args.self.now in
     omega (arith, c.position-position.ensures.value, c.requires.inside, length-drop (bits_written it) (target_bits it), it.within, it.behind, it.many (target_words it))
+
+pub invariant_of-self-clause-shown : goal.invariant_of-self-clause-shown
+invariant_of-self-clause-shown g c = known_none _ _ _ _ _ _ _
+
+pub invariant_of-self-2-clause-fits : goal.invariant_of-self-2-clause-fits
+invariant_of-self-2-clause-fits g c =
+    let it = c.args.self.now in
+    (it.fits.0, omega (arith, it.fits.1, c.store_le.auto.memory))
+
+pub invariant_of-self-2-clause-within : goal.invariant_of-self-2-clause-within
+invariant_of-self-2-clause-within g c =
+    let it = c.args.self.now in
+    let at = c.position-position.ensures.value in
+    let left = length-drop (bits_written it) (target_bits it) in
+    let many = it.many (target_words it) in
+    omega (arith, at, c.requires.inside, left, it.within, it.behind, many)
+
+pub invariant_of-self-2-clause-shown : goal.invariant_of-self-2-clause-shown
+invariant_of-self-2-clause-shown g c = known_none _ _ _ _ _ _ _

@@ -2,6 +2,7 @@ use Rattle.std.proofs.Common.{◌≡◌, ◌≤◌, ◌+◌, ◌-◌, sym, ◌�
 use Rattle.bitvec_slice.specs.BitSlice.{slice_bits, slice_len}
 use Rattle.bitvec_stream.specs.Writer.{target_words, target_bits, bits_written}
 use Rattle.bitvec_stream.proofs.WriterLemmas.{stretch_at}
+use Rattle.bitvec_stream.proofs.KnownLemmas.{known_none}
 use Rattle.bitvec_stream.proofs.writer.BitWriter.put_slice.Goals as goal
 
 pub returns : goal.returns
@@ -18,3 +19,22 @@ pub copy_bits-requires-clause-within : goal.copy_bits-requires-clause-within
 copy_bits-requires-clause-within g c =
     let it = c.args.self.now in
     omega (arith, c.position-position.ensures.value, c.requires, length-drop (bits_written it) (target_bits it), it.within, it.behind, it.many (target_words it))
+
+pub invariant_of-self-clause-shown : goal.invariant_of-self-clause-shown
+invariant_of-self-clause-shown g c = known_none _ _ _ _ _ _ _
+
+pub invariant_of-self-2-clause-fits : goal.invariant_of-self-2-clause-fits
+invariant_of-self-2-clause-fits g c =
+    let it = c.args.self.now in
+    (it.fits.0, omega (arith, it.fits.1, c.copy_bits.auto.memory))
+
+pub invariant_of-self-2-clause-within : goal.invariant_of-self-2-clause-within
+invariant_of-self-2-clause-within g c =
+    let it = c.args.self.now in
+    let at = c.position-position.ensures.value in
+    let left = length-drop (bits_written it) (target_bits it) in
+    let many = it.many (target_words it) in
+    omega (arith, at, c.requires, c.len-count.ensures.value, left, it.within, it.behind, many)
+
+pub invariant_of-self-2-clause-shown : goal.invariant_of-self-2-clause-shown
+invariant_of-self-2-clause-shown g c = known_none _ _ _ _ _ _ _
