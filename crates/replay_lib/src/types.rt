@@ -61,24 +61,30 @@ pub fn write_answer<R: BitRegister>(out: &mut Answer, kind: &str, words: &[&str]
     Some(())
 }
 
-// The value whose text is asked: of a selector or a mask by its digits in hexadecimal, of an index
-// by its number, and of that number's error where it is none.
+// The value whose text is asked; of a number that is no index its error.
 fn shown_of<R: BitRegister>(kind: &str, value: &str) -> Option<Shown<R>> {
-    match kind {
-        "BitSel" => Shown::of(Name::Selector, number(value, 16, u128::MAX)?),
-        "BitMask" => Shown::of(Name::Mask, number(value, 16, u128::MAX)?),
-        "BitEnd" => Shown::of(Name::End, u128::from(small(value)?)),
-        "BitPos" => Shown::of(Name::Position, u128::from(small(value)?)),
-        _ => {
-            let n = u128::from(small(value)?);
-            let index = Shown::of(Name::Index, n);
-            if index.is_some() {
-                index
-            } else {
-                Shown::of(Name::Error, n)
-            }
-        }
+    let (name, n) = named_number(kind, value)?;
+    match (name, Shown::of(name, n)) {
+        (Name::Index, None) => Shown::of(Name::Error, n),
+        (_, shown) => shown,
     }
+}
+
+// The type whose text is asked, and the number of the value: of a selector or a mask its digits in
+// hexadecimal.
+fn named_number(kind: &str, value: &str) -> Option<(Name, u128)> {
+    let name = match kind {
+        "BitSel" => Name::Selector,
+        "BitMask" => Name::Mask,
+        "BitEnd" => Name::End,
+        "BitPos" => Name::Position,
+        _ => Name::Index,
+    };
+    let n = match name {
+        Name::Selector | Name::Mask => number(value, 16, u128::MAX)?,
+        _ => u128::from(small(value)?),
+    };
+    Some((name, n))
 }
 
 // What a call answers of a type, with a number.
