@@ -1,3 +1,4 @@
+mod FindLemmas
 mod PlainNumberLemmas
 mod OrderLemmas
 mod PlainLemmas

@@ -29,3 +29,12 @@ returns-else-can_fill g c =
     let yes = c.if-can_fill.ensures.1 (p, omega (arith, c.len.ensures, q)) in
     search rules in
     past-fill number g.R.BitRegister.BITS g.O.BitAt.at_of (span_of c.args.span) words words c.args.from c.args.to c.args.value never refl
+
+pub range-requires-clause-ordered : goal.range-requires-clause-ordered
+range-requires-clause-ordered g c = (c.if-can_fill.ensures.0 refl).0
+
+pub range-requires-clause-inside : goal.range-requires-clause-inside
+range-requires-clause-inside g c = omega (arith, c.len.ensures, (c.if-can_fill.ensures.0 refl).1)
+
+pub fill-requires : goal.fill-requires
+fill-requires g c = c.range.ensures.fit _ c.requires
