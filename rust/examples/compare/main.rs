@@ -4,8 +4,8 @@
 //! turns; the ratio is that of by hand to ours. Words that it is given are the names of those jobs
 //! that it is to time. `rust/compare` has the same beside other crates.
 //!
-//! Where a branch is slow that meets the end of 32 bytes of code, the ratios change with each build:
-//! `RUSTFLAGS=-Cllvm-args=-x86-branches-within-32B-boundaries` keeps branches from there.
+//! Where a branch is slow that meets the end of 32 bytes of code, the ratios would change with each
+//! build: `.cargo/config.toml` keeps branches from there.
 
 mod by_hand;
 mod timing;
