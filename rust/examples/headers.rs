@@ -154,6 +154,7 @@ fn main() -> Result<(), Refusal> {
     let mut writer = BitWriter::new(written.view_bits_mut::<Msb0>());
     ip.write(&mut writer)?;
     tcp.write(&mut writer)?;
+    writer.finish();
     assert_eq!(written, bytes);
 
     // Less time to live, and the checksum that belongs to it.

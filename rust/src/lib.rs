@@ -83,7 +83,7 @@ pub use sys::Span;
 #[cfg(feature = "alloc")]
 pub use vec::{BitVec, IntoIter};
 pub use view::{AsBits, AsMutBits, BitView};
-pub use writer::{BitWriter, HeldWriter};
+pub use writer::BitWriter;
 
 /// The number of the version of the proved library: 10000 times its first part, 100 times its second,
 /// and its third.

@@ -33,16 +33,6 @@ pub trait Owned: Exports + Eq {
     /// Puts 64 bits in place of those that `joined` has, where there are that many.
     fn put(words: &mut [Self], from: usize, big: bool, digits: u64) -> Option<()>;
 
-    /// The same, and has those of a call in place of the 64 behind them, which it is told and which are
-    /// returned, where there are these too.
-    fn put_both(
-        words: &mut [Self],
-        from: usize,
-        big: bool,
-        digits: u64,
-        behind: impl FnOnce(u64) -> u64,
-    ) -> Option<u64>;
-
     /// A vector, as the library is to have it.
     #[cfg(feature = "alloc")]
     fn give(words: Vec<Self>) -> Vec<Self::Word>;
@@ -142,25 +132,6 @@ macro_rules! owned {
                 let words = some_of::<Self, COUNT>(words, from)?;
                 put_number!($word in words, big, digits);
                 Some(())
-            }
-
-            #[inline]
-            fn put_both(
-                words: &mut [Self],
-                from: usize,
-                big: bool,
-                digits: u64,
-                behind: impl FnOnce(u64) -> u64,
-            ) -> Option<u64> {
-                const COUNT: usize = 64 / $word::BITS as usize;
-                let both = some_of::<Self, { 2 * COUNT }>(words, from)?;
-                let (words, rest) = both.split_first_chunk_mut::<COUNT>()?;
-                let rest: &mut [Self; COUNT] = rest.first_chunk_mut()?;
-                put_number!($word in words, big, digits);
-                let stood = number!($word of rest, big);
-                let digits = behind(stood);
-                put_number!($word in rest, big, digits);
-                Some(stood)
             }
 
             #[cfg(feature = "alloc")]

@@ -302,19 +302,15 @@ impl<'a, T: Register, O: Order> BitSlice<'a, T, O> {
     /// The bit at an index, and `None` where there is none.
     #[inline]
     pub(crate) fn bit(&self, index: usize) -> Option<bool> {
-        let place = self.start.checked_add(index)?;
-        // (of the words before that in which the slice ends all bits from its first on are its own, so
-        // that the test of a place in them is enough: a loop has no other. That these words are there is
-        // no test, so that a loop is not made twice)
-        let full = (self.start + self.len) / T::BITS;
-        let (full, rest) = self.words.split_at(full.min(self.words.len()));
-        if let Ok(bit) = T::get(O::CODE, full, place) {
-            return Some(bit);
+        // (a slice of all bits of its words needs no test but that of the place in these: a loop over one has
+        // no other, since what is asked here is the same in each turn)
+        if self.start == 0 && self.len / T::BITS == self.words.len() {
+            return T::get(O::CODE, self.words, index).ok();
         }
         if index >= self.len {
             return None;
         }
-        T::get(O::CODE, rest, place % T::BITS).ok()
+        T::get(O::CODE, self.words, self.start + index).ok()
     }
 
     /// The first bit, and `None` where there are no bits. Constant time.

@@ -6,12 +6,17 @@ use crate::refusal::Refusal;
 use crate::register::Register;
 use crate::slice::{BitSlice, granted};
 use crate::slice_mut::BitSliceMut;
+use core::mem;
 
 /// The bits of a slice, and the place among them behind those that were written.
 ///
 /// Each call writes from there on, and moves the place behind what it wrote. Where one is refused,
-/// the place and the bits stay. What is written stands in the words at once. A
-/// [`BitReader`](crate::BitReader) reads it back by the calls of the same names.
+/// the place and the bits stay. A [`BitReader`](crate::BitReader) reads it back by the calls of the
+/// same names.
+///
+/// It keeps fewer than 64 bits back. [`finish`](Self::finish) and [`written`](Self::written) put them
+/// in the words, and so does its drop, also where a call panics: before the words are looked at it has
+/// to end. Where it is forgotten (`core::mem::forget`), these last bits are as they were.
 ///
 /// # Examples
 ///
@@ -28,12 +33,14 @@ use crate::slice_mut::BitSliceMut;
 /// assert_eq!(writer.write_be(17, 1500_u32), Err(Refusal::TooFew));
 /// writer.write_be(16, 1500_u16)?;
 /// assert_eq!(writer.write_bit(true), Err(Refusal::TooFew));
+/// drop(writer);
 /// assert_eq!(header, [0x45, 0x00, 0x05, 0xdc]);
 /// # Ok::<(), Refusal>(())
 /// ```
 #[derive(Debug)]
 pub struct BitWriter<'a, T: Register, O: Order> {
     bits: BitSliceMut<'a, T, O>,
+    /// What is written of its window need not be in the words yet.
     at: Window,
 }
 
@@ -44,9 +51,6 @@ struct Window {
     /// 64 bits of the slice, those of its words from one on, of which the last `free` are still to be
     /// written: these are zeros here. Where `free` is 0 there are none, and the word is past all words.
     written: u64,
-    /// The same bits as they stood in the words, which the last `free` still do: not of a writer that
-    /// holds them.
-    stood: u64,
     word: usize,
     free: usize,
     /// How many bits of the slice are behind those that are free.
@@ -59,7 +63,6 @@ impl Window {
     fn none(left: usize) -> Self {
         Self {
             written: 0,
-            stood: 0,
             word: usize::MAX,
             free: 0,
             left,
@@ -74,7 +77,6 @@ impl Window {
         match T::joined(words, word, O::BIG) {
             Some(stood) if word * T::BITS + 64 <= end => Self {
                 written: stood ^ last::<O>(stood, 64 - into),
-                stood,
                 word,
                 free: 64 - into,
                 left: end - word * T::BITS - 64,
@@ -87,7 +89,6 @@ impl Window {
     #[inline]
     fn set(&mut self, other: &Self) {
         self.written = other.written;
-        self.stood = other.stood;
         self.word = other.word;
         self.free = other.free;
         self.left = other.left;
@@ -97,12 +98,6 @@ impl Window {
     #[inline]
     fn remaining(&self) -> usize {
         self.free + self.left
-    }
-
-    /// 64 bits of which the last, those that are free, are as they stood.
-    #[inline]
-    fn all<O: Order>(&self, written: u64, free: usize) -> u64 {
-        written | last::<O>(self.stood, free)
     }
 
     /// What is written, and how many bits are free, behind digits, the first by the order, fewer than
@@ -190,144 +185,11 @@ fn put_any<T: Register, O: Order, N: Number>(
     (Window::at::<T, O>(words, place, end), answer)
 }
 
-/// A [`BitWriter`] that holds up to 64 bits back: what [`BitWriter::held`] returns.
-///
-/// It writes as that does, and puts 64 bits in the words at once. When it is dropped, all that was
-/// written stands there, also where a call panics; where it is forgotten (`core::mem::forget`),
-/// the writer stands where it stood before, and of what is behind some may be written.
-///
-/// # Examples
-///
-/// ```
-/// use worghulen::{BitView, BitWriter, Msb0};
-///
-/// let mut bytes = [0_u8; 16];
-/// let mut writer = BitWriter::new(bytes.view_bits_mut::<Msb0>());
-/// let mut held = writer.held();
-/// for number in 0..9_u16 {
-///     held.write(12, number)?;
-/// }
-/// drop(held);
-/// assert_eq!(writer.position(), 108);
-/// assert_eq!(bytes[..6], [0, 0, 1, 0, 0x20, 3]);
-/// # Ok::<(), worghulen::Refusal>(())
-/// ```
-#[derive(Debug)]
-pub struct HeldWriter<'w, T: Register, O: Order> {
-    /// What is written of its window is not in the words yet.
-    own: BitWriter<'w, T, O>,
-    /// How many bits are left behind what was written.
-    left: &'w mut usize,
-}
-
-impl<T: Register, O: Order> HeldWriter<'_, T, O> {
-    /// As [`BitWriter::remaining`]. Constant time.
-    ///
-    /// # Examples
-    ///
-    /// ```
-    /// use worghulen::{BitView, BitWriter, Lsb0};
-    ///
-    /// let mut words = [0_u16; 2];
-    /// assert_eq!(BitWriter::new(words.view_bits_mut::<Lsb0>()).held().remaining(), 32);
-    /// ```
-    #[inline]
-    #[must_use]
-    pub fn remaining(&self) -> usize {
-        self.own.remaining()
-    }
-
-    /// As [`BitWriter::write_bit`]. Constant time.
-    ///
-    /// # Errors
-    ///
-    /// As that call.
-    ///
-    /// # Examples
-    ///
-    /// ```
-    /// use worghulen::{BitView, BitWriter, Lsb0};
-    ///
-    /// let mut word = 0_u8;
-    /// BitWriter::new(word.view_bits_mut::<Lsb0>()).held().write_bit(true)?;
-    /// assert_eq!(word, 1);
-    /// # Ok::<(), worghulen::Refusal>(())
-    /// ```
-    #[inline]
-    pub fn write_bit(&mut self, bit: bool) -> Result<(), Refusal> {
-        self.own.put::<u8, true>(O::BIG, 1, u8::from(bit))
-    }
-
-    /// As [`BitWriter::write`]. Costs by words.
-    ///
-    /// # Errors
-    ///
-    /// As [`BitWriter::write_be`].
-    ///
-    /// # Examples
-    ///
-    /// ```
-    /// use worghulen::{BitView, BitWriter, Lsb0};
-    ///
-    /// let mut word = 0_u8;
-    /// BitWriter::new(word.view_bits_mut::<Lsb0>()).held().write(4, -3_i8)?;
-    /// assert_eq!(word, 0b1101);
-    /// # Ok::<(), worghulen::Refusal>(())
-    /// ```
-    #[inline]
-    pub fn write<N: Number>(&mut self, count: usize, number: N) -> Result<(), Refusal> {
-        self.own.put::<N, true>(O::BIG, count, number)
-    }
-
-    /// As [`BitWriter::write_be`]. Costs by words.
-    ///
-    /// # Errors
-    ///
-    /// As that call.
-    ///
-    /// # Examples
-    ///
-    /// ```
-    /// use worghulen::{BitView, BitWriter, Lsb0};
-    ///
-    /// let mut word = 0_u8;
-    /// BitWriter::new(word.view_bits_mut::<Lsb0>()).held().write_be(4, 0b1011_u8)?;
-    /// assert_eq!(word, 0b1101);
-    /// # Ok::<(), worghulen::Refusal>(())
-    /// ```
-    #[inline]
-    pub fn write_be<N: Number>(&mut self, count: usize, number: N) -> Result<(), Refusal> {
-        self.own.put::<N, true>(true, count, number)
-    }
-
-    /// As [`BitWriter::write_le`]. Costs by words.
-    ///
-    /// # Errors
-    ///
-    /// As that call.
-    ///
-    /// # Examples
-    ///
-    /// ```
-    /// use worghulen::{BitView, BitWriter, Lsb0};
-    ///
-    /// let mut word = 0_u8;
-    /// BitWriter::new(word.view_bits_mut::<Lsb0>()).held().write_le(4, 0b1011_u8)?;
-    /// assert_eq!(word, 0b1011);
-    /// # Ok::<(), worghulen::Refusal>(())
-    /// ```
-    #[inline]
-    pub fn write_le<N: Number>(&mut self, count: usize, number: N) -> Result<(), Refusal> {
-        self.own.put::<N, true>(false, count, number)
-    }
-}
-
-impl<T: Register, O: Order> Drop for HeldWriter<'_, T, O> {
+impl<T: Register, O: Order> Drop for BitWriter<'_, T, O> {
     /// Puts what is held in the words, whose bits behind it stay.
     #[inline]
     fn drop(&mut self) {
-        self.own.put_held();
-        *self.left = self.own.remaining();
+        self.put_held();
     }
 }
 
@@ -400,12 +262,13 @@ impl<'a, T: Register, O: Order> BitWriter<'a, T, O> {
     /// ```
     #[inline]
     #[must_use]
-    pub fn written(&self) -> BitSlice<'_, T, O> {
+    pub fn written(&mut self) -> BitSlice<'_, T, O> {
+        self.put_held();
         self.bits.as_bitslice().start(self.position())
     }
 
     /// The whole slice, with what was written in its first [`position`](BitWriter::position) bits
-    /// and the rest as it was. Constant time.
+    /// and the rest as it was. Nothing is kept back then. Constant time.
     ///
     /// # Examples
     ///
@@ -421,34 +284,11 @@ impl<'a, T: Register, O: Order> BitWriter<'a, T, O> {
     /// # Ok::<(), worghulen::Refusal>(())
     /// ```
     #[inline]
-    #[must_use]
-    pub fn finish(self) -> BitSliceMut<'a, T, O> {
-        self.bits
-    }
-
-    /// A writer of the same place that holds up to 64 bits back, until it is dropped: for many numbers
-    /// in a row. Constant time.
-    ///
-    /// # Examples
-    ///
-    /// ```
-    /// use worghulen::{BitView, BitWriter, Msb0};
-    ///
-    /// let mut bytes = [0_u8; 3];
-    /// let mut writer = BitWriter::new(bytes.view_bits_mut::<Msb0>());
-    /// writer.write(4, 1_u8)?;
-    /// writer.held().write(4, 2_u8)?;
-    /// writer.write(12, 0x345_u16)?;
-    /// assert_eq!(bytes, [0x12, 0x34, 0x50]);
-    /// # Ok::<(), worghulen::Refusal>(())
-    /// ```
-    #[inline]
-    pub fn held(&mut self) -> HeldWriter<'_, T, O> {
-        self.stand_at(self.position());
-        let mut own = BitWriter::new(self.bits.lend());
-        own.at.left = self.at.left;
-        let left = &mut self.at.left;
-        HeldWriter { own, left }
+    #[allow(clippy::must_use_candidate)] // (a writer may end with it)
+    pub fn finish(mut self) -> BitSliceMut<'a, T, O> {
+        self.put_held();
+        // (what is left has no words, so that its drop puts nothing)
+        mem::replace(&mut self.bits, BitSliceMut::of(&mut [], 0, 0))
     }
 
     /// Has a call of the library write from the place on, which it moves.
@@ -457,6 +297,7 @@ impl<'a, T: Register, O: Order> BitWriter<'a, T, O> {
         &mut self,
         call: impl FnOnce(&mut [T], &mut usize, usize) -> Result<(), Refusal>,
     ) -> Result<(), Refusal> {
+        self.put_held();
         let (len, position) = (self.bits.len(), self.position());
         let (words, start) = self.bits.place_mut();
         let mut place = start + position;
@@ -465,7 +306,7 @@ impl<'a, T: Register, O: Order> BitWriter<'a, T, O> {
         Ok(())
     }
 
-    /// Stands at an index. No bits are known there.
+    /// Stands at an index, and holds nothing.
     #[inline]
     fn stand_at(&mut self, index: usize) {
         self.at = Window::none(self.bits.len() - index);
@@ -487,6 +328,7 @@ impl<'a, T: Register, O: Order> BitWriter<'a, T, O> {
     /// writer.skip(7)?;
     /// assert_eq!(writer.skip(2), Err(Refusal::TooFew));
     /// writer.write_bit(true)?;
+    /// drop(writer);
     /// assert_eq!(words, [0x8f]);
     /// # Ok::<(), Refusal>(())
     /// ```
@@ -495,14 +337,22 @@ impl<'a, T: Register, O: Order> BitWriter<'a, T, O> {
         if count > self.remaining() {
             return Err(Refusal::TooFew);
         }
-        if count < self.at.free {
-            let all = self.at.all::<O>(self.at.written, self.at.free);
-            self.at.free -= count;
-            self.at.written = all ^ last::<O>(all, self.at.free);
-        } else {
+        if self.pass_over(count).is_none() {
+            self.put_held();
             self.stand_at(self.position() + count);
         }
         Ok(())
+    }
+
+    /// Has fewer bits of the window than are free as they are in the words, where there are more.
+    #[inline]
+    fn pass_over(&mut self, count: usize) -> Option<()> {
+        let free = self.at.free.checked_sub(count).filter(|free| *free > 0)?;
+        let (words, _) = self.bits.place_mut();
+        let stood = T::joined(words, self.at.word, O::BIG)?;
+        self.at.written |= last::<O>(stood, self.at.free) ^ last::<O>(stood, free);
+        self.at.free = free;
+        Some(())
     }
 
     /// Passes over the bits before the next place that is a multiple of `of` bits, from the first
@@ -522,6 +372,7 @@ impl<'a, T: Register, O: Order> BitWriter<'a, T, O> {
     /// writer.write(3, 5_u8)?;
     /// writer.skip_to_multiple_of(8)?;
     /// writer.write(8, 7_u8)?;
+    /// drop(writer);
     /// assert_eq!(bytes, [0xa0, 7]);
     /// # Ok::<(), worghulen::Refusal>(())
     /// ```
@@ -546,12 +397,13 @@ impl<'a, T: Register, O: Order> BitWriter<'a, T, O> {
     /// let mut writer = BitWriter::new(words.view_bits_mut::<Msb0>());
     /// writer.write_bit(true)?;
     /// writer.write_bit(false)?;
+    /// drop(writer);
     /// assert_eq!(words, [0b1011_1111]);
     /// # Ok::<(), worghulen::Refusal>(())
     /// ```
     #[inline]
     pub fn write_bit(&mut self, bit: bool) -> Result<(), Refusal> {
-        self.number(O::BIG, 1, u8::from(bit))
+        self.put(O::BIG, 1, u8::from(bit))
     }
 
     /// Writes the bits of a slice, of any words and order. Costs by words where the orders are the
@@ -573,6 +425,7 @@ impl<'a, T: Register, O: Order> BitWriter<'a, T, O> {
     /// writer.write_slice(&source)?;
     /// assert_eq!(writer.write_slice(&source), Err(Refusal::TooFew));
     /// assert_eq!(writer.remaining(), 4);
+    /// drop(writer);
     /// assert_eq!(words, [0x0050]);
     /// # Ok::<(), Refusal>(())
     /// ```
@@ -583,6 +436,7 @@ impl<'a, T: Register, O: Order> BitWriter<'a, T, O> {
         if source.len() > self.remaining() {
             return Err(Refusal::TooFew);
         }
+        self.put_held();
         let place = self.position();
         let end = place + source.len();
         self.bits.part_mut(place..end)?.copy_from(source)?;
@@ -606,6 +460,7 @@ impl<'a, T: Register, O: Order> BitWriter<'a, T, O> {
     /// let mut writer = BitWriter::new(words.view_bits_mut::<Msb0>());
     /// writer.skip(4)?;
     /// writer.write_bytes(&[0x23, 0x45])?;
+    /// drop(writer);
     /// assert_eq!(words, [0x0234_5000]);
     /// # Ok::<(), worghulen::Refusal>(())
     /// ```
@@ -630,12 +485,13 @@ impl<'a, T: Register, O: Order> BitWriter<'a, T, O> {
     /// let mut writer = BitWriter::new(words.view_bits_mut::<Lsb0>());
     /// writer.write(4, 11_u16)?;
     /// writer.write(4, -3_i8)?;
+    /// drop(writer);
     /// assert_eq!(words, [0b1101_1011]);
     /// # Ok::<(), worghulen::Refusal>(())
     /// ```
     #[inline]
     pub fn write<N: Number>(&mut self, count: usize, number: N) -> Result<(), Refusal> {
-        self.number(O::BIG, count, number)
+        self.put(O::BIG, count, number)
     }
 
     /// Writes a number in the next `count` bits, the first the highest digit; a signed number in
@@ -660,12 +516,13 @@ impl<'a, T: Register, O: Order> BitWriter<'a, T, O> {
     /// assert_eq!(writer.write_be(3, 8_u8), Err(Refusal::TooLarge));
     /// assert_eq!(writer.write_be(3, -5_i8), Err(Refusal::TooLarge));
     /// writer.write_be(3, -2_i8)?;
+    /// drop(writer);
     /// assert_eq!(words, [0b0011_1101]);
     /// # Ok::<(), Refusal>(())
     /// ```
     #[inline]
     pub fn write_be<N: Number>(&mut self, count: usize, number: N) -> Result<(), Refusal> {
-        self.number(true, count, number)
+        self.put(true, count, number)
     }
 
     /// Writes a number in the next `count` bits, the first the lowest digit; a signed number in
@@ -684,48 +541,35 @@ impl<'a, T: Register, O: Order> BitWriter<'a, T, O> {
     /// let mut writer = BitWriter::new(words.view_bits_mut::<Msb0>());
     /// writer.write_le(4, 0b1011_u16)?;
     /// writer.write_le(4, -3_i16)?;
+    /// drop(writer);
     /// assert_eq!(words, [0b1101_1011]);
     /// # Ok::<(), worghulen::Refusal>(())
     /// ```
     #[inline]
     pub fn write_le<N: Number>(&mut self, count: usize, number: N) -> Result<(), Refusal> {
-        self.number(false, count, number)
+        self.put(false, count, number)
     }
 
+    /// Writes a number, in the window alone until this is full. (Always inlined: of a number of bits that
+    /// is known few tests are left.)
     #[inline(always)]
     #[allow(clippy::inline_always)]
-    fn number<N: Number>(&mut self, big: bool, count: usize, number: N) -> Result<(), Refusal> {
-        self.put::<N, false>(big, count, number)
-    }
-
-    /// Writes a number: where `HOLDS`, in the window alone until this is full. (Always inlined: of a
-    /// number of bits that is known few tests are left.)
-    #[inline(always)]
-    #[allow(clippy::inline_always)]
-    fn put<N: Number, const HOLDS: bool>(
-        &mut self,
-        big: bool,
-        count: usize,
-        number: N,
-    ) -> Result<(), Refusal> {
+    fn put<N: Number>(&mut self, big: bool, count: usize, number: N) -> Result<(), Refusal> {
         if count < self.at.free && (N::WIDTH == 64 || count <= N::WIDTH) {
             if let Some(digits) = number.digits(count) {
                 let digits = in_order::<O>(digits, big, count);
-                if self.put_behind::<HOLDS>(count, digits).is_some() {
-                    return Ok(());
-                }
+                (self.at.written, self.at.free) = self.at.with::<O>(count, digits);
+                return Ok(());
             }
         } else if count <= N::WIDTH {
             if let Some(digits) = number.digits(count) {
                 let digits = in_order::<O>(digits, big, count);
-                if self.pass_on::<HOLDS>(count, digits).is_some() {
+                if self.pass_on(count, digits).is_some() {
                     return Ok(());
                 }
             }
         }
-        if HOLDS {
-            self.put_held();
-        }
+        self.put_held();
         let (len, left) = (self.bits.len(), self.remaining());
         let (words, start) = self.bits.place_mut();
         let asked = (big, count, number);
@@ -741,40 +585,19 @@ impl<'a, T: Register, O: Order> BitWriter<'a, T, O> {
         put_held::<T, O>(words, at.word, at.written, at.free);
     }
 
-    /// Puts digits, the first by the order, in the bits of the window that are free, which are more.
-    #[inline]
-    fn put_behind<const HOLDS: bool>(&mut self, count: usize, digits: u64) -> Option<()> {
-        let (written, free) = self.at.with::<O>(count, digits);
-        if !HOLDS {
-            let all = self.at.all::<O>(written, free);
-            let (words, _) = self.bits.place_mut();
-            T::put(words, self.at.word, O::BIG, all)?;
-        }
-        self.at.written = written;
-        self.at.free = free;
-        Some(())
-    }
-
     /// Puts digits, the first by the order, in the bits of the window that are free, at most as many,
     /// and in the next window, which then is this one: where there is one.
     #[inline]
-    fn pass_on<const HOLDS: bool>(&mut self, count: usize, digits: u64) -> Option<()> {
+    fn pass_on(&mut self, count: usize, digits: u64) -> Option<()> {
         let left = self.at.left.checked_sub(64)?;
         let (word, rest) = (self.at.word, count - self.at.free);
         let (first, written) = parted::<O>(digits, self.at.free, rest);
-        let (full, free) = (self.at.written | first, 64 - rest);
         let (words, _) = self.bits.place_mut();
-        let stood = if HOLDS {
-            T::put(words, word, O::BIG, full).map(|()| 0)
-        } else {
-            let next = |stood| written | last::<O>(stood, free);
-            T::put_both(words, word, O::BIG, full, next)
-        }?;
+        T::put(words, word, O::BIG, self.at.written | first)?;
         self.at = Window {
             written,
-            stood,
             word: word + 64 / T::BITS,
-            free,
+            free: 64 - rest,
             left,
         };
         Some(())
@@ -796,6 +619,7 @@ impl<'a, T: Register, O: Order> BitWriter<'a, T, O> {
     /// writer.write_unary(true, 3)?;
     /// writer.write_unary(false, 1)?;
     /// assert_eq!(writer.write_unary(false, 2), Err(Refusal::TooFew));
+    /// drop(writer);
     /// assert_eq!(words, [0b1110_0100]);
     /// # Ok::<(), Refusal>(())
     /// ```
@@ -827,6 +651,7 @@ impl<'a, T: Register, O: Order> BitWriter<'a, T, O> {
     /// writer.write_exp_golomb(2)?;
     /// assert_eq!(writer.write_exp_golomb(3_u8), Err(Refusal::TooFew));
     /// assert_eq!(writer.remaining(), 4);
+    /// drop(writer);
     /// assert_eq!(words, [0b1010_0110, 0b0100_0000]);
     /// # Ok::<(), Refusal>(())
     /// ```
@@ -834,7 +659,7 @@ impl<'a, T: Register, O: Order> BitWriter<'a, T, O> {
     pub fn write_exp_golomb<N: Number>(&mut self, number: N) -> Result<(), Refusal> {
         if let Some(code) = number.code() {
             let zeros = code.ilog2() as usize;
-            return self.number::<u64>(true, 2 * zeros + 1, code.get().into());
+            return self.put::<u64>(true, 2 * zeros + 1, code.get().into());
         }
         self.ask(|words, place, end| number.write_code(O::CODE, words, place, end))
     }

@@ -16,7 +16,6 @@ for_all_memories!(reads_take_turns, 47);
 for_all_memories!(writes_take_turns, 48);
 for_all_edges!(rows_are_read, 49);
 for_all_edges!(rows_are_written, 50);
-for_all_edges!(rows_are_held, 51);
 for_all_edges!(rows_of_codes_are_read, 52);
 for_all_edges!(rows_of_codes_are_written, 53);
 
@@ -24,7 +23,7 @@ mod cases {
     use crate::common::{Layout, Random, Word, bits_of, checked, with_any_other};
     use std::fmt::Debug;
     use std::ops::Range;
-    use worghulen::{BitReader, BitSlice, BitSliceMut, BitWriter, HeldWriter, Number, Refusal};
+    use worghulen::{BitReader, BitSlice, BitSliceMut, BitWriter, Number, Refusal};
     use worghulen::{Lsb0, Msb0};
 
     /// A number that the model knows as one of 128 bits.
@@ -403,12 +402,15 @@ mod cases {
             &self.bits[self.range.clone()][self.len..]
         }
 
-        /// Whether the writer is where the model is.
-        fn check<T: Word, O: Layout>(&self, writer: &BitWriter<'_, T, O>) {
+        /// Whether the writer is where the model is; and now and then, since a writer that is asked
+        /// that holds nothing back, whether it wrote the same.
+        fn check<T: Word, O: Layout>(&self, random: &mut Random, writer: &mut BitWriter<'_, T, O>) {
             assert_eq!(writer.position(), self.len);
-            assert_eq!(writer.remaining(), self.range.len() - self.len);
-            let written: Vec<_> = writer.written().iter().collect();
-            assert_eq!(written, self.bits[self.range.clone()][..self.len]);
+            assert_eq!(writer.remaining(), self.left().len());
+            if random.below(4) == 0 {
+                let written: Vec<_> = writer.written().iter().collect();
+                assert_eq!(written, self.bits[self.range.clone()][..self.len]);
+            }
         }
     }
 
@@ -429,7 +431,7 @@ mod cases {
         // (not always as many: what the last call leaves is not written over)
         for _ in 0..=random.below(8) {
             write(random, &mut writer, &mut target);
-            target.check(&writer);
+            target.check(random, &mut writer);
         }
         let whole: Vec<_> = writer.finish().iter().by_vals().collect();
         assert_eq!(whole, target.bits[range.clone()]);
@@ -537,33 +539,12 @@ mod cases {
         });
     }
 
-    /// What writes numbers.
-    trait Writes {
-        fn put<N: Plain>(&mut self, big: bool, count: usize, number: N) -> Result<(), Refusal>;
-    }
-
-    impl<T: Word, O: Layout> Writes for BitWriter<'_, T, O> {
-        fn put<N: Plain>(&mut self, big: bool, count: usize, number: N) -> Result<(), Refusal> {
-            if big {
-                self.write_be(count, number)
-            } else {
-                self.write_le(count, number)
-            }
-        }
-    }
-
-    impl<T: Word, O: Layout> Writes for HeldWriter<'_, T, O> {
-        fn put<N: Plain>(&mut self, big: bool, count: usize, number: N) -> Result<(), Refusal> {
-            if big {
-                self.write_be(count, number)
-            } else {
-                self.write_le(count, number)
-            }
-        }
-    }
-
     /// A write of a number.
-    fn puts<N: Plain>(random: &mut Random, writer: &mut impl Writes, target: &mut Target) {
+    fn puts<T: Word, O: Layout, N: Plain>(
+        random: &mut Random,
+        writer: &mut BitWriter<'_, T, O>,
+        target: &mut Target,
+    ) {
         let (count, big) = (random.below(N::DIGITS + 1), random.bit());
         let number = any_number::<N>(random);
         let digits = digits_of(number.into(), count, big);
@@ -574,18 +555,28 @@ mod cases {
         } else {
             Err(Refusal::TooLarge)
         };
-        assert_eq!(writer.put(big, count, number), expected);
+        let answer = if big {
+            writer.write_be(count, number)
+        } else {
+            writer.write_le(count, number)
+        };
+        assert_eq!(answer, expected);
     }
 
     /// A write of a number of so many digits; whether there was room for it.
-    fn puts_any(
+    fn puts_any<T: Word, O: Layout>(
         random: &mut Random,
-        writer: &mut impl Writes,
+        writer: &mut BitWriter<'_, T, O>,
         target: &mut Target,
         count: usize,
     ) -> bool {
         let (list, big): (Vec<_>, _) = ((0..count).map(|_| random.bit()).collect(), random.bit());
-        let answer = writer.put::<u64>(big, count, number_of(&list, big));
+        let number: u64 = number_of(&list, big);
+        let answer = if big {
+            writer.write_be(count, number)
+        } else {
+            writer.write_le(count, number)
+        };
         assert_eq!(answer, target.put(&list));
         answer.is_ok()
     }
@@ -599,11 +590,12 @@ mod cases {
         loop {
             let count = width(random);
             let is_written = puts_any(random, &mut writer, &mut target, count);
-            target.check(&writer);
+            target.check(random, &mut writer);
             if !is_written {
                 break;
             }
         }
+        writer.finish();
         assert_eq!(bits_of::<T, O>(&words), target.bits);
     }
 
@@ -633,55 +625,10 @@ mod cases {
                 3 => puts_code::<T, O, i64>(random, &mut writer, &mut target),
                 _ => puts_code::<T, O, u64>(random, &mut writer, &mut target),
             };
-            target.check(&writer);
+            target.check(random, &mut writer);
         }
+        writer.finish();
         assert_eq!(bits_of::<T, O>(&words), target.bits);
-    }
-
-    pub fn rows_are_held<T: Word, O: Layout>(random: &mut Random, range: Range<usize>) {
-        let (mut words, bits) = words_around::<T, O>(random, &range);
-        let slice = BitSliceMut::<T, O>::new(&mut words, range.clone()).unwrap();
-        let (mut writer, len) = (BitWriter::new(slice), 0);
-        let mut target = Target { bits, range, len };
-        let (mut width, mut is_written) = (widths(random), true);
-        while is_written {
-            let mut held = writer.held();
-            for _ in 0..=random.below(40) {
-                let count = width(random);
-                is_written &= puts_any(random, &mut held, &mut target, count);
-                assert_eq!(held.remaining(), target.left().len());
-            }
-            drop(held);
-            target.check(&writer);
-        }
-        assert_eq!(bits_of::<T, O>(&words), target.bits);
-    }
-
-    /// Writes of numbers that are held back.
-    fn puts_held<T: Word, O: Layout>(
-        random: &mut Random,
-        writer: &mut BitWriter<'_, T, O>,
-        target: &mut Target,
-    ) {
-        let mut held = writer.held();
-        for _ in 0..random.below(20) {
-            match random.below(8) {
-                0 => puts::<u8>(random, &mut held, target),
-                1 => puts::<i16>(random, &mut held, target),
-                2 => puts::<u32>(random, &mut held, target),
-                3 => puts::<i64>(random, &mut held, target),
-                4 => puts::<u64>(random, &mut held, target),
-                5 => {
-                    let count = 9 + random.below(99);
-                    assert_eq!(held.write(count, 1_u8), Err(Refusal::TooWide));
-                }
-                _ => {
-                    let bit = random.bit();
-                    assert_eq!(held.write_bit(bit), target.put(&[bit]));
-                }
-            }
-            assert_eq!(held.remaining(), target.left().len());
-        }
     }
 
     pub fn writes_take_turns<T: Word, O: Layout>(random: &mut Random) {
@@ -702,14 +649,17 @@ mod cases {
             .map(|_| u8::of(random.number()))
             .collect();
         for _ in 0..random.below(12) {
-            match random.below(20) {
-                16.. => puts_held(random, &mut writer, &mut target),
-                0 | 1 => puts::<u8>(random, &mut writer, &mut target),
-                2 => puts::<i16>(random, &mut writer, &mut target),
-                3 | 4 => puts::<u32>(random, &mut writer, &mut target),
-                5 => puts::<i64>(random, &mut writer, &mut target),
-                6 | 7 => puts::<u64>(random, &mut writer, &mut target),
-                8..12 => {
+            match random.below(16) {
+                0 | 1 => puts::<T, O, u8>(random, &mut writer, &mut target),
+                2 => puts::<T, O, i16>(random, &mut writer, &mut target),
+                3 | 4 => puts::<T, O, u32>(random, &mut writer, &mut target),
+                5 => puts::<T, O, i64>(random, &mut writer, &mut target),
+                6 | 7 => puts::<T, O, u64>(random, &mut writer, &mut target),
+                8 => {
+                    let count = 9 + random.below(99);
+                    assert_eq!(writer.write(count, 1_u8), Err(Refusal::TooWide));
+                }
+                9..12 => {
                     let bit = random.bit();
                     assert_eq!(writer.write_bit(bit), target.put(&[bit]));
                 }
@@ -730,8 +680,9 @@ mod cases {
                     assert_eq!(writer.skip(count), expected);
                 }
             }
-            target.check(&writer);
+            target.check(random, &mut writer);
         }
+        writer.finish();
         assert_eq!(bits_of::<T, O>(&words), target.bits);
     }
 
@@ -740,38 +691,57 @@ mod cases {
     }
 }
 
-#[test]
-fn a_held_writer_that_is_forgotten_leaves_the_place() {
-    let mut bytes = [0xff_u8; 24];
-    let mut writer = BitWriter::new(bytes.view_bits_mut::<Msb0>().into_part(3..150).unwrap());
-    writer.write(5, 0_u8).unwrap();
-    let mut held = writer.held();
-    (0..9).for_each(|_| held.write(12, 0_u16).unwrap());
-    std::mem::forget(held);
-    assert_eq!(writer.position(), 5);
-    (0..9).for_each(|_| writer.held().write(12, 1_u16).unwrap());
-    assert_eq!(writer.position(), 113);
-    let expected: Vec<u64> = (0..9).map(|_| 1).collect();
-    let mut reader = BitReader::new(writer.written());
-    assert_eq!(reader.read::<u8>(5), Ok(0));
-    let read: Vec<u64> = (0..9).map(|_| reader.read(12).unwrap()).collect();
-    assert_eq!(read, expected);
-    let bits = bytes.view_bits::<Msb0>();
-    assert!(bits.get(..3).unwrap().all() && bits.get(150..).unwrap().all());
+/// The words of 20 numbers of 12 bits that are 1, behind three bits that are one, as all are behind them.
+fn words_of_ones() -> [u8; 34] {
+    let mut bytes = [0xff_u8; 34];
+    let mut bits = bytes.view_bits_mut::<Msb0>().into_part(3..243).unwrap();
+    bits.iter_mut()
+        .enumerate()
+        .for_each(|(k, mut bit)| *bit = k % 12 == 11);
+    bytes
 }
 
 #[test]
-fn what_is_held_is_written_where_a_call_panics() {
-    let mut bytes = [0_u8; 24];
-    let mut writer = BitWriter::new(bytes.view_bits_mut::<Lsb0>());
-    let said = std::panic::catch_unwind(std::panic::AssertUnwindSafe(|| {
-        let mut held = writer.held();
-        (0..99_u8).for_each(|i| held.write(3, i).unwrap());
-    }));
-    assert!(said.is_err());
-    assert_eq!(writer.position(), 24);
-    let read: Vec<u8> = writer.written().chunks(3).map(|it| it.load()).collect();
-    assert_eq!(read, [0, 1, 2, 3, 4, 5, 6, 7]);
+fn of_a_forgotten_writer_the_last_bits_are_as_they_were() {
+    let mut bytes = [0xff_u8; 34];
+    let mut writer = BitWriter::new(bytes.view_bits_mut::<Msb0>().into_part(3..270).unwrap());
+    (0..20).for_each(|_| writer.write(12, 1_u16).unwrap());
+    assert_eq!(writer.position(), 240);
+    std::mem::forget(writer);
+    let (bits, whole) = (bytes.view_bits::<Msb0>(), words_of_ones());
+    let as_they_were = bits.trailing_ones() - 29;
+    assert!(as_they_were < 64);
+    let (written, behind) = bits.split_at(243 - as_they_were);
+    assert_eq!(
+        written,
+        whole.view_bits::<Msb0>().get(..written.len()).unwrap()
+    );
+    assert!(behind.all());
+}
+
+#[test]
+fn what_is_held_is_written_where_a_writer_ends() {
+    for how in 0..4 {
+        let mut bytes = [0xff_u8; 34];
+        let mut writer = BitWriter::new(bytes.view_bits_mut::<Msb0>().into_part(3..270).unwrap());
+        (0..20).for_each(|_| writer.write(12, 1_u16).unwrap());
+        match how {
+            0 => drop(writer),
+            1 => assert_eq!(writer.finish().len(), 267),
+            2 => {
+                assert_eq!(writer.written().len(), 240);
+                std::mem::forget(writer);
+            }
+            _ => {
+                let said = std::panic::catch_unwind(std::panic::AssertUnwindSafe(|| {
+                    let mut writer = writer;
+                    writer.write(3, 8_u8).unwrap();
+                }));
+                assert!(said.is_err());
+            }
+        }
+        assert_eq!(bytes, words_of_ones());
+    }
 }
 
 #[test]
@@ -825,6 +795,7 @@ fn numbers_of_usize_are_written() {
     );
     assert_eq!(writer.write_be(WIDTH, isize::MIN), Ok(()));
     assert_eq!(writer.write_exp_golomb(6_usize), Ok(()));
+    drop(writer);
     assert_eq!(words, [usize::MAX - 1, 1 << (WIDTH - 1), 7 << (WIDTH - 5)]);
 }
 
@@ -840,6 +811,7 @@ fn numbers_of_no_bits_are_0() {
     assert_eq!(writer.write_be(0, 0_u8), Ok(()));
     assert_eq!(writer.write_be(0, 1_u8), Err(Refusal::TooLarge));
     assert_eq!(writer.write_be(1, 2_u8), Err(Refusal::TooFew));
+    drop(writer);
     assert_eq!(words, [0xa5]);
 }
 
@@ -866,17 +838,20 @@ fn codes_at_the_ends_of_types_are_written() {
     assert_eq!(writer.write_exp_golomb(u64::MAX), Err(Refusal::TooFew));
     assert_eq!(writer.write_exp_golomb(i64::MIN), Err(Refusal::TooFew));
     assert_eq!(writer.position(), 0);
+    drop(writer);
     assert_eq!(words, [0xff; 17]);
 
     let mut writer = BitWriter::new(words.view_bits_mut::<Msb0>());
     assert_eq!(writer.write_exp_golomb(u64::MAX), Ok(()));
     assert_eq!(writer.position(), 129);
+    drop(writer);
     assert_eq!(words[..8], [0; 8]);
     assert_eq!(words[8..], [0x80, 0, 0, 0, 0, 0, 0, 0, 0x7f]);
 
     let mut writer = BitWriter::new(words.view_bits_mut::<Msb0>());
     assert_eq!(writer.write_exp_golomb(i64::MIN), Ok(()));
     assert_eq!(writer.position(), 129);
+    drop(writer);
     assert_eq!(words[..8], [0; 8]);
     assert_eq!(words[8..], [0x80, 0, 0, 0, 0, 0, 0, 0, 0xff]);
 

@@ -300,34 +300,56 @@ impl<'a> ByteReader<'a> {
     }
 }
 
-/// Numbers that are written one behind the other, the first bit the lowest.
+/// Numbers that are written to words one behind the other, the first bit the lowest, 64 bits at once.
 pub struct Writer<'a> {
-    pub words: &'a mut [u64],
-    pub place: usize,
+    words: &'a mut [u64],
+    /// The word that the window becomes.
+    at: usize,
+    window: u64,
+    held: usize,
 }
 
-impl Writer<'_> {
-    /// Writes a number in the next bits, fewer than 64.
+impl<'a> Writer<'a> {
+    pub fn new(words: &'a mut [u64]) -> Self {
+        Self {
+            words,
+            at: 0,
+            window: 0,
+            held: 0,
+        }
+    }
+
+    /// Writes a number in the next bits, more than none and fewer than 64.
     #[inline]
     pub fn write(&mut self, count: usize, number: u64) -> Option<()> {
-        let (k, bit) = (self.place / 64, self.place % 64);
-        if number >> count != 0 || self.place + count > 64 * self.words.len() {
+        if number >> count != 0 {
             return None;
         }
-        let mask = mask::<true>(0, count);
-        self.words[k] = self.words[k] & !(mask << bit) | number << bit;
-        if bit + count > 64 {
-            let up = 64 - bit;
-            self.words[k + 1] = self.words[k + 1] & !(mask >> up) | number >> up;
+        let free = 64 - self.held;
+        let window = self.window | number << self.held;
+        if count < free {
+            self.window = window;
+            self.held += count;
+            return Some(());
         }
-        self.place += count;
+        *self.words.get_mut(self.at)? = window;
+        self.at += 1;
+        self.held = count - free;
+        self.window = if self.held == 0 { 0 } else { number >> free };
         Some(())
+    }
+
+    /// Writes the bits that are left; those behind stay.
+    pub fn finish(self) {
+        if self.held > 0 {
+            let word = &mut self.words[self.at];
+            *word = *word & (!0 << self.held) | self.window;
+        }
     }
 }
 
-/// Numbers that are written to bytes one behind the other, the first bit the highest: 64 bits at once, or
-/// each number `AT_ONCE`, and zeros behind it.
-pub struct ByteWriter<'a, const AT_ONCE: bool> {
+/// Numbers that are written to bytes one behind the other, the first bit the highest, 64 bits at once.
+pub struct ByteWriter<'a> {
     bytes: &'a mut [u8],
     /// The byte that the window begins with.
     at: usize,
@@ -335,7 +357,7 @@ pub struct ByteWriter<'a, const AT_ONCE: bool> {
     held: usize,
 }
 
-impl<'a, const AT_ONCE: bool> ByteWriter<'a, AT_ONCE> {
+impl<'a> ByteWriter<'a> {
     pub fn new(bytes: &'a mut [u8]) -> Self {
         Self {
             bytes,
@@ -355,9 +377,6 @@ impl<'a, const AT_ONCE: bool> ByteWriter<'a, AT_ONCE> {
         if count < free {
             self.window |= number << (free - count);
             self.held += count;
-            if AT_ONCE {
-                *self.bytes.get_mut(self.at..)?.first_chunk_mut()? = self.window.to_be_bytes();
-            }
             return Some(());
         }
         let over = count - free;
@@ -366,9 +385,6 @@ impl<'a, const AT_ONCE: bool> ByteWriter<'a, AT_ONCE> {
         self.at += 8;
         self.window = if over == 0 { 0 } else { number << (64 - over) };
         self.held = over;
-        if AT_ONCE && over > 0 {
-            *self.bytes.get_mut(self.at..)?.first_chunk_mut()? = self.window.to_be_bytes();
-        }
         Some(())
     }
 

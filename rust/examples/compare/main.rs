@@ -410,62 +410,36 @@ fn compare_writes<const BITS: usize>() {
             (0..numbers).for_each(|i| writer.write(black_box(BITS), number(i)).unwrap());
         },
         || {
-            let words = black_box(&mut other[..]);
-            let mut writer = by_hand::Writer { words, place: 0 };
+            let mut writer = by_hand::Writer::new(black_box(&mut other[..]));
             (0..numbers).for_each(|i| writer.write(black_box(BITS), number(i)).unwrap());
+            writer.finish();
         },
     );
     assert_eq!(target, other);
     compare_writes_to_bytes::<BITS>(numbers, number);
 }
 
-/// Writes of `BITS` bits each to bytes: beside a loop that keeps 64 bits back, beside one that does not,
-/// as a `BitWriter`, and by a `HeldWriter`, which keeps as many back.
+/// Writes of `BITS` bits each to bytes.
 fn compare_writes_to_bytes<const BITS: usize>(
     numbers: usize,
     number: impl Fn(usize) -> u64 + Copy,
 ) {
     let (mut target, mut other) = (vec![0_u8; WORDS * 8], vec![0_u8; WORDS * 8]);
-    let by_hand = |bytes: &mut [u8]| {
-        let mut writer = by_hand::ByteWriter::<false>::new(bytes);
-        (0..numbers).for_each(|i| writer.write(black_box(BITS), number(i)).unwrap());
-        writer.finish();
-    };
-    let ours = |bytes: &mut [u8]| {
-        let mut writer = BitWriter::new(BitSlice::<_, Msb0>::from_slice_mut(bytes));
-        (0..numbers).for_each(|i| writer.write(black_box(BITS), number(i)).unwrap());
-    };
     compare(
         &format!("write-{BITS}-bytes"),
-        numbers,
-        || ours(black_box(&mut target)),
-        || by_hand(black_box(&mut other)),
-    );
-    assert_eq!(target, other);
-    target.fill(0);
-    other.fill(0);
-    compare(
-        &format!("write-{BITS}-bytes-at-once"),
-        numbers,
-        || ours(black_box(&mut target)),
-        || {
-            let mut writer = by_hand::ByteWriter::<true>::new(black_box(&mut other[..]));
-            (0..numbers).for_each(|i| writer.write(black_box(BITS), number(i)).unwrap());
-        },
-    );
-    assert_eq!(target, other);
-    target.fill(0);
-    compare(
-        &format!("write-{BITS}-bytes-held"),
         numbers,
         || {
             let bytes = black_box(&mut target[..]);
             let mut writer = BitWriter::new(BitSlice::<_, Msb0>::from_slice_mut(bytes));
-            let mut writer = writer.held();
             (0..numbers).for_each(|i| writer.write(black_box(BITS), number(i)).unwrap());
         },
-        || by_hand(black_box(&mut other)),
+        || {
+            let mut writer = by_hand::ByteWriter::new(black_box(&mut other[..]));
+            (0..numbers).for_each(|i| writer.write(black_box(BITS), number(i)).unwrap());
+            writer.finish();
+        },
     );
+    assert_eq!(target, other);
 }
 
 /// Bytes in one call, to a place that is a multiple of 8 and to one that is not; and words that a
