@@ -116,9 +116,11 @@ static void add_bytes(const uint8_t *bytes, size_t size) {
         add(bytes[i]);
 }
 
-/* (what lies behind the command of a request and the kind of a reply may be anything) */
+/* (what lies behind the command of a request and the kind of a reply may be anything, and so may the
+ * order of the numbers of spans that start at one place) */
 static void add_taken(void) {
     taken[REQUESTS].size = 0;
+    taken[NUMBERS].size = 0;
     for (int i = 0; i < ROOMS; i++) {
         size_t step = i == REPLIES ? sizeof(struct bitvec_reply) : 1;
         size_t own = i == REPLIES ? offsetof(struct bitvec_reply, kind) + 1 : 1;
